@@ -1,0 +1,115 @@
+-- Document 01, "Add a change".
+-- Assumes nothing.
+use Prim.Native.Nat.{ℕ, zero, suc, _*_}
+use mathlib.Core.Bool.{Bool, true, false, cond, not}
+use mathlib.Core.List.{List, [], _∷_, _++_, reverse}
+use lib.Dec.{eqb, leb, ltb}
+use lib.ListN.{length, getD}
+use Rattle.value.specs.declared.States.{States}
+use Rattle.value.specs.Digits.{digits}
+use Rattle.value.specs.Slice.{part, overlay, same}
+use Rattle.value.specs.Level.{foldAll, codesOf, hasNoCode, leastOf, join}
+use Rattle.fst.specs.declared.Encoding.{Encoding}
+use Rattle.fst.specs.declared.Encoding.the-variants.{Event, Real, BitVector}
+use Rattle.fst.specs.declared.Description.{Description}
+use Rattle.fst.specs.Refusal.{Test, _⇐_, given, tried, Outcome, outcome}
+use Rattle.fst.specs.Entry.{entryOf, widenAll}
+use Rattle.fst.specs.Record.{Lent, Kept, sizeOf, keptIn, fits, isBad}
+
+-- a change: a string's bytes, or a real's 64 bits
+pub data Change : Type 0 where
+  text : List ℕ → Change
+  real : ℕ → Change
+
+-- "3: string to a real record or real to another"
+unfoldable pub isOtherKind : Encoding → Change → Bool
+isOtherKind Event (text s) = false
+isOtherKind Event (real x) = true
+isOtherKind Real (text s) = true
+isOtherKind Real (real x) = false
+isOtherKind (BitVector w M) (text s) = false
+isOtherKind (BitVector w M) (real x) = true
+
+-- "4: length"; an event's "string has 0 or 1 bytes, unexamined"
+unfoldable pub isOtherLength : Encoding → Change → Bool
+isOtherLength Event (text s) = ltb 1 (length s)
+isOtherLength Event (real x) = false
+isOtherLength Real c = false
+isOtherLength (BitVector w M) (text s) = not (eqb (length s) w)
+isOtherLength (BitVector w M) (real x) = false
+
+-- "5: foreign character"
+unfoldable pub isForeign : Encoding → Change → Bool
+isForeign Event c = false
+isForeign Real c = false
+isForeign (BitVector w M) (text s) = hasNoCode (codesOf (foldAll s))
+isForeign (BitVector w M) (real x) = false
+
+-- "6: index below the last index kept, not the last offered": the last of n indices
+unfoldable pub isBelowLast : ℕ → ℕ → List ℕ → Bool
+isBelowLast i zero indices = false
+isBelowLast i (suc n) indices = ltb i (getD indices n 0)
+
+-- "A bit-vector or real change whose bytes equal the last entry's is dropped, index too": the last of n entries
+unfoldable pub repeats : ℕ → ℕ → List ℕ → List ℕ → Bool
+repeats size zero bytes new = false
+repeats size (suc n) bytes new = same (part (n * size) size bytes) new
+
+-- a record of n entries with one more, unless that repeats the last
+unfoldable pub appended : Encoding → ℕ → List ℕ → List ℕ → ℕ → List ℕ → Kept
+appended e n bytes indices i new =
+    cond (repeats (sizeOf e) n bytes new)
+    (record { description = record { encoding = e; count = n }; bytes = bytes; indices = indices })
+    (record { description = record { encoding = e; count = suc n }; bytes = bytes ++ new; indices = indices ++ (i ∷ []) })
+
+-- the record of n entries with a change: an event's "every change kept", with no bytes to be equal; a real's 8 bytes "little-endian"; a
+-- string's entry under its least set, every entry under the set that is then the largest. A change of the other kind adds nothing.
+unfoldable pub changed : Encoding → ℕ → List ℕ → List ℕ → ℕ → Change → Kept
+changed Event n bytes indices i (text s) =
+    record { description = record { encoding = Event; count = suc n }; bytes = bytes; indices = indices ++ (i ∷ []) }
+changed Event n bytes indices i (real x) =
+    record { description = record { encoding = Event; count = n }; bytes = bytes; indices = indices }
+changed Real n bytes indices i (text s) =
+    record { description = record { encoding = Real; count = n }; bytes = bytes; indices = indices }
+changed Real n bytes indices i (real x) = appended Real n bytes indices i (reverse (digits 256 8 x))
+changed (BitVector w M) n bytes indices i (text s) =
+    let codes = codesOf (foldAll s) in
+    let own = leastOf codes in
+    let to = join M own in
+    appended (BitVector w to) n (widenAll w M to n bytes) indices i (entryOf w to own codes)
+changed (BitVector w M) n bytes indices i (real x) =
+    record { description = record { encoding = BitVector w M; count = n }; bytes = bytes; indices = indices }
+
+abbrev pub withChange : Kept → ℕ → Change → Kept
+withChange k i c = changed (k .description .encoding) (k .description .count) (k .bytes) (k .indices) i c
+
+-- the numbers of Add a change; "7: the record with this change, repeats dropped, exceeds a slice or the maximum"
+unfoldable pub refusals : Description → Lent → ℕ → Change → List Test
+refusals d l i c =
+    2 ⇐ isBad d l
+    ∷ 3 ⇐ isOtherKind (d .encoding) c
+    ∷ 4 ⇐ isOtherLength (d .encoding) c
+    ∷ 5 ⇐ isForeign (d .encoding) c
+    ∷ 6 ⇐ isBelowLast i (d .count) ((keptIn d l) .indices)
+    ∷ 7 ⇐ not (fits ((withChange (keptIn d l) i c) .description) l)
+    ∷ []
+
+-- what a call has in hand: the description and the two slices, whole
+pub record Recorder : Type 0 where
+  pub description : Description
+  pub bytes : List ℕ
+  pub indices : List ℕ
+
+-- a record's used part laid over the slices: "Bytes and indices past the used part never alter"
+unfoldable pub stored : Lent → Kept → Recorder
+stored l k =
+    record {
+      description = k .description;
+      bytes = overlay (l .bytes) (l .byteStart) (k .bytes);
+      indices = overlay (l .indices) (l .indexStart) (k .indices);
+    }
+
+unfoldable pub addChange : Description → Lent → ℕ → Change → Outcome Recorder
+addChange d l i c =
+    outcome (record { description = d; bytes = l .bytes; indices = l .indices })
+    (tried (refusals d l i c) (given (stored l (withChange (keptIn d l) i c))))

@@ -1,0 +1,5 @@
+pub mod Refusal
+pub mod Entry
+pub mod Record
+pub mod Change
+pub mod Runs

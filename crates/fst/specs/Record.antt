@@ -1,0 +1,92 @@
+-- Document 01, "A record", and "Fresh".
+-- Assumes nothing.
+use Prim.Native.Nat.{ℕ, zero, suc, _+_, _*_}
+use mathlib.Core.Bool.{Bool, true, false, _&&_, not}
+use mathlib.Core.List.{List, [], _∷_}
+use lib.Dec.{leb, ltb}
+use lib.ListN.{length}
+use Rattle.value.specs.declared.States.{States}
+use Rattle.value.specs.declared.States.the-variants.{Two}
+use Rattle.value.specs.Slice.{part}
+use Rattle.fst.specs.declared.Encoding.{Encoding}
+use Rattle.fst.specs.declared.Encoding.the-variants.{Event, Real, BitVector}
+use Rattle.fst.specs.declared.Description.{Description}
+use Rattle.fst.specs.Refusal.{Reply, given, _⇐_, tried}
+use Rattle.fst.specs.Entry.{entrySize}
+
+-- "At most 1,048,576 entries"; the widths are "1 to 4,096"
+abbrev pub maximum : ℕ
+maximum = 1048576
+
+abbrev pub maxWidth : ℕ
+maxWidth = 4096
+
+-- two lent slices, and where a record starts in each
+pub record Lent : Type 0 where
+  pub bytes : List ℕ
+  pub byteStart : ℕ
+  pub indices : List ℕ
+  pub indexStart : ℕ
+
+-- a record by itself: its description and its used part
+pub record Kept : Type 0 where
+  pub description : Description
+  pub bytes : List ℕ
+  pub indices : List ℕ
+
+-- an entry's bytes: "Event: width 0, no bytes"; "Real: 8 bytes"
+abbrev pub sizeOf : Encoding → ℕ
+sizeOf Event = 0
+sizeOf Real = 8
+sizeOf (BitVector w M) = entrySize w M
+
+abbrev pub usedSize : Description → ℕ
+usedSize d = d .count * sizeOf (d .encoding)
+
+abbrev pub largestIn : Encoding → States
+largestIn Event = Two
+largestIn Real = Two
+largestIn (BitVector w M) = M
+
+-- the record that a description finds in two slices
+unfoldable pub keptIn : Description → Lent → Kept
+keptIn d l =
+    record {
+      description = d;
+      bytes = part (l .byteStart) (usedSize d) (l .bytes);
+      indices = part (l .indexStart) (d .count) (l .indices);
+    }
+
+-- "bit-vector width outside 1 to 4,096"
+unfoldable pub widthStands : Encoding → Bool
+widthStands Event = true
+widthStands Real = true
+widthStands (BitVector w M) = leb 1 w && leb w maxWidth
+
+-- "count above the maximum, or a used part that, from its start, reaches past a lent slice", of the bytes alone and of both slices
+unfoldable pub fitsBytes : Description → ℕ → List ℕ → Bool
+fitsBytes d start bytes = leb (d .count) maximum && leb (start + usedSize d) (length bytes)
+
+unfoldable pub fits : Description → Lent → Bool
+fits d l = fitsBytes d (l .byteStart) (l .bytes) && leb (l .indexStart + d .count) (length (l .indices))
+
+-- number 2
+unfoldable pub isBadBytes : Description → ℕ → List ℕ → Bool
+isBadBytes d start bytes = not (widthStands (d .encoding) && fitsBytes d start bytes)
+
+unfoldable pub isBad : Description → Lent → Bool
+isBad d l = not (widthStands (d .encoding) && fits d l)
+
+-- "Fresh. 1: width above 4,096. Width 0 makes an event; a real is given no width"
+abbrev pub empty : Encoding → Description
+empty e = record { encoding = e; count = 0 }
+
+abbrev pub encodingFor : ℕ → Encoding
+encodingFor zero = Event
+encodingFor (suc w) = BitVector (suc w) Two
+
+unfoldable pub fresh : ℕ → Reply Description
+fresh w = tried (1 ⇐ ltb maxWidth w ∷ []) (given (empty (encodingFor w)))
+
+abbrev pub freshReal : Description
+freshReal = empty Real

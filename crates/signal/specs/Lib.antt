@@ -1,0 +1,4 @@
+pub mod Decode
+pub mod Read
+pub mod Compare
+pub mod Offset

@@ -1,0 +1,42 @@
+// Reading records, after wellen's src/signal/mod.rs.
+use fst::Refusal;
+use value::States;
+
+pub enum Kind {
+    Event,
+    Real,
+    BitVector,
+}
+
+// The answer of Read, beside the part of the lent bytes that holds the levels.
+pub enum EntryAnswer {
+    Entry { kind: Kind, states: States },
+    Refused(Refusal),
+}
+
+// The answer of Compare.
+pub enum EqualAnswer {
+    Equal,
+    Unequal,
+    Refused(Refusal),
+}
+
+pub enum NextIndex {
+    Absent,
+    At(u32),
+}
+
+// The entries that carry the greatest time index not above the sought one.
+pub struct DataOffset {
+    pub start: usize,
+    pub elements: u16,
+    pub time_match: bool,
+    pub next_index: NextIndex,
+}
+
+// The answer of Look up.
+pub enum OffsetAnswer {
+    Nothing,
+    At(DataOffset),
+    Refused(Refusal),
+}

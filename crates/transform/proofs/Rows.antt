@@ -1,0 +1,122 @@
+-- The twelve rows of document 01: one list, one proof, over the definitions themselves.
+-- Assumes nothing.
+use mathlib.Core.Path.{_≡_, refl}
+use Prim.Native.Nat.{ℕ, _+_, _-_}
+use mathlib.Core.List.{List, [], _∷_, _++_, map}
+use lib.ListN.{length, replicate}
+use Rattle.value.specs.declared.States.the-variants.{Two, Four}
+use Rattle.value.specs.Digits.{number, digits}
+use Rattle.value.specs.Slice.{part, overlay, same, any, sum}
+use Rattle.value.specs.Level.{placeIn, codeOf, letterOf, fold, setOf, leastOf}
+use Rattle.fst.specs.declared.Encoding.the-variants.{Event, BitVector}
+use Rattle.fst.specs.declared.Description.{Description}
+use Rattle.fst.specs.Refusal.{Reply, refused, given, tried, Outcome}
+use Rattle.fst.specs.Entry.{entrySize, entryOf, widenEntry, widenAll}
+use Rattle.fst.specs.Record.{Kept, keptIn, widthStands, fitsBytes, fits, isBad, fresh}
+use Rattle.fst.specs.Change.{isOtherKind, isOtherLength, isForeign, isBelowLast, repeats, appended, changed, refusals, Recorder, stored, addChange}
+use Rattle.fst.specs.Runs.{endsLike, joined, entriesOf, laidOut}
+use Rattle.fst.proofs.Rows as written
+use Rattle.fst.proofs.Rows.{around, lentBy, kept, row, accepted}
+use Rattle.signal.specs.Decode.{entryAt, entriesFrom, markIn, setIn, levelPart, levelsIn, hasBadMark}
+use Rattle.signal.specs.Read.{hasNoText}
+use Rattle.signal.specs.Offset.{falls}
+use Rattle.signal.proofs.Rows as sought
+use Rattle.transform.specs.declared.DerivedBitVecSignal.{DerivedBitVecSignal}
+use Rattle.transform.specs.declared.Input.{Input}
+use Rattle.transform.specs.declared.Inputs.{Inputs}
+use Rattle.transform.specs.Piece.{packedOf, extractOf, isBadPiece, isBadDerivation, adjoin, merging, left, pieceAdded, nameAdded, derivationWith, isBadRange, isOverfull, addPiece}
+use Rattle.transform.specs.Steps.{smallest, moved, momentsFrom, momentsOf}
+use Rattle.transform.specs.Derive.{picked, largestShown, derivedList, largestAmong, isUnfit, deriveRefusals, Derived, derive}
+
+-- ---- row 12
+
+-- a slice of bits msb to lsb of a record that calls made, and the record that is then at the front of the output slices
+record Sliced : Type 0 where
+  of : written.Row
+  msb : ℕ
+  lsb : ℕ
+  makes : Kept
+
+noPiece : DerivedBitVecSignal
+noPiece = record { width = 0; «input_count» = 0; inputs = replicate 8 0; «piece_count» = 0; bits = replicate 64 0 }
+
+input : Recorder → Input
+input r = record { description = r .description; «byte_start» = (lentBy r) .byteStart; «index_start» = (lentBy r) .indexStart }
+
+alone : Input → Inputs
+alone i = record { count = 1; slots = replicate 8 i }
+
+source : written.Row → Recorder
+source r = written.played (around (r .byteRoom) (r .indexRoom) (r .from)) (r .calls)
+
+-- the record at the front of five bytes and five indices
+front : Kept → Derived
+front k =
+    record {
+      answer = given (k .description);
+      bytes = k .bytes ++ replicate (5 - length (k .bytes)) 0xDD;
+      indices = k .indices ++ replicate (5 - length (k .indices)) 90;
+    }
+
+Slices : Sliced → Type 0
+Slices s =
+    let r = source (s .of) in
+    let d = addPiece noPiece left 7 (s .msb) (s .lsb) in
+    written.Holds (s .of)
+    × (d .refused ≡ 0)
+    × (derive (d .left) (alone (input r)) (r .bytes) (r .indices) (replicate 5 0xDD) (replicate 5 90) ≡ front (s .makes))
+
+-- w2 `x1` at 0, `01` at 4, slice of bit 0: 41, 01
+abbrev twelfth : Sliced
+twelfth =
+    record {
+      of =
+          row 2
+          (accepted "x1" 0 (kept (BitVector 2 Four) (0 ∷ []) (0x49 ∷ []))
+          ∷ accepted "01" 4 (kept (BitVector 2 Four) (0 ∷ 4 ∷ []) (0x49 ∷ 0x01 ∷ []))
+          ∷ []);
+      msb = 0;
+      lsb = 0;
+      makes = kept (BitVector 1 Four) (0 ∷ 4 ∷ []) (0x41 ∷ 0x01 ∷ []);
+    }
+
+twelfth-holds : Slices twelfth
+unfolding noPiece input alone source front Slices written.around written.lentBy written.Follows written.Holds written.played number digits part overlay same any sum placeIn codeOf letterOf fold setOf leastOf tried entrySize entryOf widenEntry widenAll keptIn widthStands fitsBytes fits isBad fresh isOtherKind isOtherLength isForeign isBelowLast repeats appended changed refusals stored addChange endsLike joined entriesOf laidOut entryAt entriesFrom markIn setIn levelPart levelsIn hasBadMark hasNoText falls packedOf extractOf isBadPiece isBadDerivation adjoin merging pieceAdded nameAdded derivationWith isBadRange isOverfull addPiece smallest moved momentsFrom momentsOf picked largestShown derivedList largestAmong isUnfit deriveRefusals derive
+twelfth-holds = ((refl, (refl, tt)), refl, refl)
+
+-- ---- the list
+
+data Row : Type 0 where
+  wrote : written.Row → Row
+  found : sought.Sought → Row
+  sliced : Sliced → Row
+
+Holds : Row → Type 0
+Holds (wrote r) = written.Holds r
+Holds (found s) = sought.Finds s
+Holds (sliced s) = Slices s
+
+AllHold : List Row → Type 0
+AllHold [] = Unit
+AllHold (r ∷ rs) = Holds r × AllHold rs
+
+twelve : List Row
+twelve = map wrote written.rows ++ (map found sought.rows ++ (sliced twelfth ∷ []))
+
+all-written : (l : List written.Row) (rest : List Row) → written.AllHold l → AllHold rest → AllHold (map wrote l ++ rest)
+unfolding Holds AllHold written.AllHold
+all-written [] rest h k = k
+all-written (r ∷ l) rest h k = (h .0, all-written l rest (h .1) k)
+
+all-sought : (l : List sought.Sought) (rest : List Row) → sought.AllFind l → AllHold rest → AllHold (map found l ++ rest)
+unfolding Holds AllHold sought.AllFind
+all-sought [] rest h k = k
+all-sought (s ∷ l) rest h k = (h .0, all-sought l rest (h .1) k)
+
+twelve-rows : (length twelve ≡ 12) × AllHold twelve
+unfolding twelve Holds AllHold
+twelve-rows = (
+  refl,
+  all-written written.rows (map found sought.rows ++ (sliced twelfth ∷ [])) (written.hold .0)
+      (all-sought sought.rows (sliced twelfth ∷ []) sought.rows-hold (twelfth-holds, tt)),
+)

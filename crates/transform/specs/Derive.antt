@@ -1,0 +1,171 @@
+-- Document 01, "A derived record", "Derive" and "Derived list".
+-- Assumes nothing.
+use Prim.Native.Nat.{ℕ, zero, suc, _-_}
+use mathlib.Core.Bool.{Bool, true, false, cond, not, _&&_, _||_}
+use mathlib.Core.List.{List, [], _∷_, _++_, map, foldl}
+use mathlib.Core.Option.{Option, none, some}
+use lib.Dec.{eqb, ltb}
+use lib.ListN.{length, take, getD}
+use Rattle.value.specs.declared.States.{States}
+use Rattle.value.specs.declared.States.the-variants.{Two}
+use Rattle.value.specs.Slice.{part, overlay, same, any}
+use Rattle.value.specs.Level.{markOf, join, textOf, hasNoCode}
+use Rattle.fst.specs.declared.Encoding.{Encoding}
+use Rattle.fst.specs.declared.Encoding.the-variants.{Event, Real, BitVector}
+use Rattle.fst.specs.declared.Description.{Description}
+use Rattle.fst.specs.Refusal.{Reply, refused, given, Test, _⇐_, tried}
+use Rattle.fst.specs.Record.{Lent, Kept, largestIn, keptIn, fits, isBad}
+use Rattle.fst.specs.Runs.{Step, joined, laidOut}
+use Rattle.signal.specs.Decode.{Indexed, entriesIn, levelsIn, hasBadMark}
+use Rattle.signal.specs.Read.{hasNoText, widthOf}
+use Rattle.signal.specs.Offset.{falls}
+use Rattle.transform.specs.declared.Extract.{Extract}
+use Rattle.transform.specs.declared.DerivedBitVecSignal.{DerivedBitVecSignal}
+use Rattle.transform.specs.declared.Input.{Input}
+use Rattle.transform.specs.declared.Inputs.{Inputs}
+use Rattle.transform.specs.Piece.{endOf, piecesOf, isBadDerivation}
+use Rattle.transform.specs.Steps.{Shown, shownBy, Moment, momentsOf}
+
+-- ---- what a step yields
+
+-- the levels of bits msb to lsb of an input's levels, of which the last is bit 0
+abbrev pub pickedOf : Extract → List ℕ → List ℕ
+pickedOf e codes = part (length codes - endOf e) (e .width) codes
+
+-- an input that has not begun has none
+abbrev pub codesShown : Option Shown → List ℕ
+codesShown none = []
+codesShown (some s) = s .codes
+
+abbrev pub setShown : Option Shown → States
+setShown none = Two
+setShown (some s) = s .set
+
+-- "the picked levels, highest piece first"
+unfoldable pub picked : List Extract → List (Option Shown) → List ℕ
+picked [] showing = []
+picked (e ∷ es) showing = pickedOf e (codesShown (getD showing (e .signal) none)) ++ picked es showing
+
+-- "under the largest of the inputs' current own sets"
+unfoldable pub largestShown : List (Option Shown) → States
+largestShown [] = Two
+largestShown (s ∷ l) = join (setShown s) (largestShown l)
+
+abbrev pub yielded : List Extract → Moment → Step
+yielded es m = record { index = m .index; string = textOf (picked es (m .showing)); set = largestShown (m .showing) }
+
+-- ---- the derived list
+
+-- "dropped when string and set equal the entry before"
+abbrev pub sameStep : Step → Step → Bool
+sameStep a b = same (a .string) (b .string) && eqb (markOf (a .set)) (markOf (b .set))
+
+abbrev pub shownIn : Kept → List Shown
+shownIn k = map shownBy (entriesIn k)
+
+-- "The index, string in small letters and set of each step .., in order, less the dropped steps"
+unfoldable pub derivedList : List Extract → List Kept → List Step
+derivedList es ks = foldl (joined sameStep) [] (map (yielded es) (momentsOf (map shownIn ks)))
+
+-- "The largest set is the largest of the inputs' largest sets"
+unfoldable pub largestAmong : List Kept → States
+largestAmong [] = Two
+largestAmong (k ∷ ks) = join (largestIn (k .description .encoding)) (largestAmong ks)
+
+-- "After every accepted Derive the record is this list laid out"
+abbrev pub derivedKept : DerivedBitVecSignal → List Kept → Kept
+derivedKept d ks = laidOut (d .width) (largestAmong ks) (derivedList (piecesOf d) ks)
+
+-- ---- Derive
+
+-- "Input records share one lent byte slice and one index list, each with its starts"
+abbrev pub lentTo : List ℕ → List ℕ → Input → Lent
+lentTo bytes indices i = record { bytes = bytes; byteStart = i .«byte_start»; indices = indices; indexStart = i .«index_start» }
+
+abbrev pub inputsOf : Inputs → List Input
+inputsOf inputs = take (inputs .count) (inputs .slots)
+
+abbrev pub isBadInput : List ℕ → List ℕ → Input → Bool
+isBadInput bytes indices i = isBad (i .description) (lentTo bytes indices i)
+
+abbrev pub inputKept : List ℕ → List ℕ → Input → Kept
+inputKept bytes indices i = keptIn (i .description) (lentTo bytes indices i)
+
+abbrev pub encodingOf : Kept → Encoding
+encodingOf k = k .description .encoding
+
+-- "an input not a bit vector"
+abbrev pub isNoBitVector : Kept → Bool
+isNoBitVector k = hasNoText (encodingOf k)
+
+-- "a piece beyond its width"
+abbrev pub isBeyond : List Kept → Extract → Bool
+isBeyond ks e = ltb (widthOf (getD (map encodingOf ks) (e .signal) Event)) (endOf e)
+
+-- "14 (as above, or no piece, not one record for each input, an input not a bit vector, a piece beyond its width)"
+unfoldable pub isUnfit : DerivedBitVecSignal → ℕ → List Kept → Bool
+isUnfit d count ks =
+    isBadDerivation d
+    || eqb (d .«piece_count») 0
+    || not (eqb count (d .«input_count»))
+    || any isNoBitVector ks
+    || any (isBeyond ks) (piecesOf d)
+
+-- "15: an input empty or not starting at index 0"
+abbrev pub isLate : List ℕ → Bool
+isLate [] = true
+isLate (zero ∷ l) = false
+isLate (suc i ∷ l) = true
+
+abbrev pub startsLate : Kept → Bool
+startsLate k = isLate (k .indices)
+
+abbrev pub indicesFall : Kept → Bool
+indicesFall k = falls (k .indices)
+
+abbrev pub entryIsBad : Indexed → Bool
+entryIsBad e = hasBadMark (e .encoding) (e .bytes)
+
+abbrev pub markIsBad : Kept → Bool
+markIsBad k = any entryIsBad (entriesIn k)
+
+-- "10 at a picked level, others untried as in the Rust": in every entry of the piece's input
+abbrev pub pickIsBad : Extract → Indexed → Bool
+pickIsBad e x = hasNoCode (pickedOf e (levelsIn (x .encoding) (x .bytes)))
+
+abbrev pub codeIsBad : List Kept → Extract → Bool
+codeIsBad ks e = any (pickIsBad e) (getD (map entriesIn ks) (e .signal) [])
+
+-- "output slices are separate", and written from their front
+abbrev pub lentOut : List ℕ → List ℕ → Lent
+lentOut bytes indices = record { bytes = bytes; byteStart = 0; indices = indices; indexStart = 0 }
+
+-- "Each number is tried over all inputs before the next"
+unfoldable pub deriveRefusals : DerivedBitVecSignal → Inputs → List ℕ → List ℕ → Lent → List Test
+deriveRefusals d inputs bytes indices out =
+    let ks = map (inputKept bytes indices) (inputsOf inputs) in
+    2 ⇐ any (isBadInput bytes indices) (inputsOf inputs)
+    ∷ 14 ⇐ isUnfit d (inputs .count) ks
+    ∷ 15 ⇐ any startsLate ks
+    ∷ 11 ⇐ any indicesFall ks
+    ∷ 9 ⇐ any markIsBad ks
+    ∷ 10 ⇐ any (codeIsBad ks) (piecesOf d)
+    ∷ 7 ⇐ not (fits ((derivedKept d ks) .description) out)
+    ∷ []
+
+-- what Derive leaves: the number or the description, and the output slices
+pub record Derived : Type 0 where
+  pub answer : Reply Description
+  pub bytes : List ℕ
+  pub indices : List ℕ
+
+abbrev pub derivedBy : Lent → Reply Kept → Derived
+derivedBy out (refused n) = record { answer = refused n; bytes = out .bytes; indices = out .indices }
+derivedBy out (given k) =
+    record { answer = given (k .description); bytes = overlay (out .bytes) 0 (k .bytes); indices = overlay (out .indices) 0 (k .indices) }
+
+unfoldable pub derive : DerivedBitVecSignal → Inputs → List ℕ → List ℕ → List ℕ → List ℕ → Derived
+derive d inputs bytes indices outBytes outIndices =
+    let out = lentOut outBytes outIndices in
+    let ks = map (inputKept bytes indices) (inputsOf inputs) in
+    derivedBy out (tried (deriveRefusals d inputs bytes indices out) (given (derivedKept d ks)))

@@ -1,0 +1,3 @@
+pub mod Piece
+pub mod Steps
+pub mod Derive

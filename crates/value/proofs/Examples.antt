@@ -1,0 +1,29 @@
+-- The codes, the letters, the sets and their bytes, by computation over the definitions.
+-- Assumes nothing.
+use mathlib.Core.Path.{_≡_, refl}
+use mathlib.Core.List.{List, [], _∷_}
+use Prim.Native.Nat.{ℕ}
+use Rattle.value.specs.declared.States.the-variants.{Two, Four, Nine}
+use Rattle.value.specs.Text.{chars}
+use Rattle.value.specs.Level.{placeIn, codeOf, letterOf, fold, foldAll, codesOf, textOf, setOf, leastOf, lenOf}
+
+-- every letter of the two standards, small and capital, and bytes beside them that are foreign
+codes :
+    (codesOf (foldAll (chars "01xzhuwl-")) ≡ 0 ∷ 1 ∷ 2 ∷ 3 ∷ 4 ∷ 5 ∷ 6 ∷ 7 ∷ 8 ∷ [])
+    × (codesOf (foldAll (chars "XZHUWL")) ≡ 2 ∷ 3 ∷ 4 ∷ 5 ∷ 6 ∷ 7 ∷ [])
+    × (codesOf (foldAll (chars "/2ay_@[`{")) ≡ 9 ∷ 9 ∷ 9 ∷ 9 ∷ 9 ∷ 9 ∷ 9 ∷ 9 ∷ 9 ∷ [])
+    × (textOf (0 ∷ 1 ∷ 2 ∷ 3 ∷ 4 ∷ 5 ∷ 6 ∷ 7 ∷ 8 ∷ []) ≡ chars "01xzhuwl-")
+unfolding placeIn codeOf letterOf fold
+codes = (refl, refl, refl, refl)
+
+sets :
+    (leastOf (codesOf (chars "0110")) ≡ Two)
+    × (leastOf (codesOf (chars "01x0")) ≡ Four)
+    × (leastOf (codesOf (chars "z")) ≡ Four)
+    × (leastOf (codesOf (chars "01h0x")) ≡ Nine)
+    × (leastOf [] ≡ Two)
+unfolding placeIn codeOf setOf leastOf
+sets = (refl, refl, refl, refl, refl)
+
+lengths : (lenOf 9 Two ≡ 2) × (lenOf 9 Four ≡ 3) × (lenOf 9 Nine ≡ 5) × (lenOf 8 Two ≡ 1) × (lenOf 8 Four ≡ 2) × (lenOf 8 Nine ≡ 4)
+lengths = (refl, refl, refl, refl, refl, refl)
