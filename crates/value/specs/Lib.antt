@@ -2,3 +2,4 @@ pub mod Text
 pub mod Digits
 pub mod Slice
 pub mod Level
+pub mod Answer

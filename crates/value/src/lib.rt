@@ -6,3 +6,15 @@ pub enum States {
     Four,
     Nine,
 }
+
+// What a byte of a string stands for.
+pub enum CharCode {
+    Code(u8),
+    Foreign,
+}
+
+// The least set of a string.
+pub enum StatesAnswer {
+    Least(States),
+    Foreign,
+}

@@ -1,0 +1,23 @@
+-- The answers of the functions on characters, by document 01's codes and sets.
+-- Assumes nothing.
+use Prim.Native.Nat.{ℕ, _^_, _/_, _%_}
+use mathlib.Core.Bool.{cond}
+use mathlib.Core.List.{List}
+use Rattle.value.specs.declared.CharCode.{CharCode}
+use Rattle.value.specs.declared.CharCode.the-variants as code
+use Rattle.value.specs.declared.StatesAnswer.{StatesAnswer}
+use Rattle.value.specs.declared.StatesAnswer.the-variants as answer
+use Rattle.value.specs.Digits.{number}
+use Rattle.value.specs.Level.{fold, foldAll, codeOf, codesOf, isNoCode, hasNoCode, leastOf}
+
+-- the code of a byte, small or capital
+unfoldable pub charCode : ℕ → CharCode
+charCode c = let n = codeOf (fold c) in cond (isNoCode n) code.Foreign (code.Code n)
+
+-- the least set of a string
+unfoldable pub leastStates : List ℕ → StatesAnswer
+leastStates s = let codes = codesOf (foldAll s) in cond (hasNoCode codes) answer.Foreign (answer.Least (leastOf codes))
+
+-- the level of b bits that i levels follow in big-endian bytes
+abbrev pub levelAt : ℕ → ℕ → List ℕ → ℕ
+levelAt b i bytes = number 256 bytes / (2 ^ b) ^ i % 2 ^ b
