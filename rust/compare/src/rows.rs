@@ -1,0 +1,174 @@
+//! Document 01's twelve rows and its edges, as calls.
+
+use crate::call::{Answer, Call, DeriveCall, Lent, PieceCall, entry_size};
+use crate::generate::Receiver;
+use oracle::{Change, Derivation, Description, Encoding, Input, MAX_WIDTH, MAXIMUM, Side, States};
+use reference::Used;
+
+/// Makes the calls of all rows, in order, then those of the edges.
+pub fn rows_and_edges(to: &mut dyn Receiver) {
+    for (width, changes) in runs() {
+        run(width, &changes, to);
+    }
+    for (indices, sought) in [(&[0, 5, 5, 9][..], 6), (&[0, 5, 5, 9], 9), (&[3], 2)] {
+        to.call(&Call::LookUp {
+            indices: indices.to_vec(),
+            sought,
+        });
+    }
+    derive_bit_0(to);
+    edges(to);
+}
+
+/// Rows 1 to 8: a width, and strings with their indices.
+fn runs() -> Vec<(u32, Vec<(u32, &'static str)>)> {
+    vec![
+        (1, vec![(0, "1")]),
+        (1, vec![(0, "x"), (1, "X")]),
+        (3, vec![(0, "x01"), (1, "hz1")]),
+        (4, vec![(0, "1010"), (1, "10xz")]),
+        (5, vec![(0, "0000x")]),
+        (2, vec![(0, "u-")]),
+        (1, vec![(5, "0"), (10, "0"), (7, "1"), (6, "0")]),
+    ]
+}
+
+/// Feeds strings to a fresh record over slices with room for two entries of a width up to 6; what they leave.
+pub fn run(width: u32, changes: &[(u32, &str)], to: &mut dyn Receiver) -> Used {
+    let outcome = to.call(&Call::Fresh { width });
+    let Ok(Answer::Description(description)) = outcome.answer else {
+        panic!("Fresh refused the width {width}");
+    };
+    let mut lent = Lent {
+        description,
+        bytes: vec![0xa5; 10],
+        byte_start: 1,
+        indices: vec![77; 4],
+        index_start: 1,
+    };
+    for (index, string) in changes {
+        let change = text(string);
+        let outcome = to.call(&Call::Add {
+            record: lent.clone(),
+            index: *index,
+            change,
+        });
+        if let Ok(Answer::Description(next)) = outcome.answer {
+            lent.description = next;
+        }
+        (lent.bytes, lent.indices) = (outcome.bytes, outcome.indices);
+    }
+    let count = lent.description.count as usize;
+    let size = entry_size(lent.description.encoding);
+    Used {
+        description: lent.description,
+        bytes: lent.bytes[1..][..count * size].to_vec(),
+        indices: lent.indices[1..][..count].to_vec(),
+    }
+}
+
+/// Row 12: "w2 `x1` at 0, `01` at 4, slice of bit 0". What it leaves.
+pub fn derive_bit_0(to: &mut dyn Receiver) -> Used {
+    let input = run(2, &[(0, "x1"), (4, "01")], to);
+    let piece = Call::AddPiece(PieceCall {
+        derivation: oracle::empty_derivation(),
+        side: Side::Left,
+        name: 1,
+        msb: 0,
+        lsb: 0,
+    });
+    let Ok(Answer::Derivation(derivation)) = to.call(&piece).answer else {
+        panic!("the piece was refused");
+    };
+    let outcome = to.call(&Call::Derive(one_input(*derivation, &input)));
+    let Ok(Answer::Description(description)) = outcome.answer else {
+        panic!("the derivation was refused");
+    };
+    let count = description.count as usize;
+    Used {
+        description,
+        bytes: outcome.bytes[..count * entry_size(description.encoding)].to_vec(),
+        indices: outcome.indices[..count].to_vec(),
+    }
+}
+
+fn one_input(derivation: Derivation, input: &Used) -> DeriveCall {
+    DeriveCall {
+        derivation,
+        inputs: vec![Input {
+            description: input.description,
+            byte_start: 0,
+            index_start: 0,
+        }],
+        bytes: input.bytes.clone(),
+        indices: input.indices.clone(),
+        out_bytes: vec![0xa5; 4],
+        out_indices: vec![77; 4],
+    }
+}
+
+/// "Edges: width 4,096 stands, 4,097 is 1. Row 5's second change fits 4 bytes; with 3 it is 7 and 0A remains.
+/// Real 0.0 then -0.0: both kept." And a count above the maximum.
+fn edges(to: &mut dyn Receiver) {
+    for width in [0, MAX_WIDTH, MAX_WIDTH + 1] {
+        to.call(&Call::Fresh { width });
+    }
+    for room in [3, 4] {
+        let bytes = &[0x0a, 0xa5, 0xa5, 0xa5][..room];
+        add(lent(two_state(4), 1, bytes, &[0, 77]), text("10xz"), to);
+    }
+    for bits in [0, (-0.0f64).to_bits()] {
+        add(
+            lent(Encoding::Real, 1, &[0; 16], &[0, 77]),
+            Change::Real(bits),
+            to,
+        );
+    }
+    add(lent(Encoding::Event, MAXIMUM + 1, &[], &[]), text(""), to);
+}
+
+/// The maximum of 1,048,576 entries, one below and one above it: too long for stored answers.
+pub fn long_edges(to: &mut dyn Receiver) {
+    for count in [MAXIMUM - 1, MAXIMUM, MAXIMUM + 1] {
+        let indices = vec![1; count as usize + 1];
+        to.call(&Call::LookUp {
+            indices: indices[1..].to_vec(),
+            sought: 1,
+        });
+        add(lent(Encoding::Event, count, &[], &indices), text(""), to);
+    }
+    let places = MAXIMUM as usize + 1;
+    for string in ["1", "0", "x"] {
+        let full = lent(two_state(1), MAXIMUM, &vec![1; places], &vec![1; places]);
+        add(full, text(string), to);
+    }
+}
+
+fn two_state(width: u32) -> Encoding {
+    Encoding::BitVector {
+        width,
+        max_states: States::Two,
+    }
+}
+
+fn add(record: Lent, change: Change, to: &mut dyn Receiver) {
+    to.call(&Call::Add {
+        record,
+        index: 1,
+        change,
+    });
+}
+
+fn text(string: &str) -> Change {
+    Change::Text(string.as_bytes().to_vec())
+}
+
+fn lent(encoding: Encoding, count: u32, bytes: &[u8], indices: &[u32]) -> Lent {
+    Lent {
+        description: Description { encoding, count },
+        bytes: bytes.to_vec(),
+        byte_start: 0,
+        indices: indices.to_vec(),
+        index_start: 0,
+    }
+}

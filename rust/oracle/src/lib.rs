@@ -1,0 +1,41 @@
+//! The oracle: every operation of document 01 on plain lists, written from the
+//! document and from the letters of IEEE 1364 and IEEE 1164 alone.
+//!
+//! It is meant to be checked line by line against the document, so it takes the
+//! plainest form of each sentence: an entry is a list of bits, a string is a list of
+//! codes, and each operation tries its refusals in the order written.
+
+mod derivation;
+mod derive;
+mod entry;
+mod history;
+mod level;
+mod look_up;
+mod read;
+mod record;
+
+pub use derivation::{Derivation, Side, add_piece, empty_derivation};
+pub use derive::{Input, Step, derive, derived_laid_out, derived_list};
+pub use history::{Fed, history, history_laid_out};
+pub use level::States;
+pub use look_up::{Offset, look_up};
+pub use read::{Entry, Kind, Record, compare, read, text};
+pub use record::{Change, Description, Encoding, add_change, fresh, fresh_real};
+
+/// The most entries that a record may have (document 01, A record).
+pub const MAXIMUM: u32 = 1_048_576;
+/// The greatest width of a bit vector (document 01, Fresh).
+pub const MAX_WIDTH: u32 = 4_096;
+
+/// A refusal's number in document 01.
+#[derive(Clone, Copy, PartialEq, Eq, Debug, PartialOrd, Ord)]
+pub struct Refusal(pub u8);
+
+/// Refuses with `number` if `condition` holds.
+fn refuse_if(condition: bool, number: u8) -> Result<(), Refusal> {
+    if condition {
+        Err(Refusal(number))
+    } else {
+        Ok(())
+    }
+}
