@@ -1,2 +1,6 @@
 pub mod Examples
 pub mod Digits
+pub mod Tests
+pub mod Slices
+pub mod Levels
+pub mod Packed

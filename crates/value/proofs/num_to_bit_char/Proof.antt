@@ -1,0 +1,71 @@
+-- `value::num_to_bit_char` meets its contract.
+-- Assumes nothing.
+use mathlib.Core.Path.{_≡_, sym, ap}
+use Prim.Native.Nat.{ℕ, suc, _≤_, zero-le}
+use native.Mathlib.Omega.{arith}
+use lib.ListN.{List·getD-eq-default}
+use Rattle.value.specs.Level.{letters, letterOf}
+use Rattle.value.proofs.num_to_bit_char.Statement.{statement}
+use Rattle.value.proofs.num_to_bit_char.Tie as tie
+
+returns : tie.Need-returns
+unfolding letterOf
+returns c = sym (ap letterOf (c .match .keys1))
+
+returns-2 : tie.Need-returns-2
+unfolding letterOf
+returns-2 c = sym (ap letterOf (c .match .keys2))
+
+returns-3 : tie.Need-returns-3
+unfolding letterOf
+returns-3 c = sym (ap letterOf (c .match .keys3))
+
+returns-4 : tie.Need-returns-4
+unfolding letterOf
+returns-4 c = sym (ap letterOf (c .match .keys4))
+
+returns-5 : tie.Need-returns-5
+unfolding letterOf
+returns-5 c = sym (ap letterOf (c .match .keys5))
+
+returns-6 : tie.Need-returns-6
+unfolding letterOf
+returns-6 c = sym (ap letterOf (c .match .keys6))
+
+returns-7 : tie.Need-returns-7
+unfolding letterOf
+returns-7 c = sym (ap letterOf (c .match .keys7))
+
+returns-8 : tie.Need-returns-8
+unfolding letterOf
+returns-8 c = sym (ap letterOf (c .match .keys8))
+
+returns-9 : tie.Need-returns-9
+unfolding letterOf
+returns-9 c = sym (ap letterOf (c .match .keys9))
+
+up : (k n : ℕ) → k ≤ n → (n ≡ k → ⊥) → suc k ≤ n
+up k n h e = omega arith
+
+returns-10 : tie.Need-returns-10
+unfolding letterOf
+returns-10 c =
+    let r = c .match .rest in
+    let h = up 2 _ (up 1 _ (up 0 _ zero-le (r .0 .0 .0 .0 .0 .0 .0 .0 .1)) (r .0 .0 .0 .0 .0 .0 .0 .1)) (r .0 .0 .0 .0 .0 .0 .1) in
+    let k = up 5 _ (up 4 _ (up 3 _ h (r .0 .0 .0 .0 .0 .1)) (r .0 .0 .0 .0 .1)) (r .0 .0 .0 .1) in
+    sym (List·getD-eq-default letters 0 (up 8 _ (up 7 _ (up 6 _ k (r .0 .0 .1)) (r .0 .1)) (r .1)))
+
+pub num-to-bit-char-spec : {M : Type 1} → statement M
+num-to-bit-char-spec =
+    tie.close
+    (tie.spec
+    returns
+    returns-2
+    returns-3
+    returns-4
+    returns-5
+    returns-6
+    returns-7
+    returns-8
+    returns-9
+    returns-10)
