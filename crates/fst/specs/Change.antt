@@ -12,7 +12,8 @@ use Rattle.value.specs.Level.{foldAll, codesOf, hasNoCode, leastOf, join}
 use Rattle.fst.specs.declared.Encoding.{Encoding}
 use Rattle.fst.specs.declared.Encoding.the-variants.{Event, Real, BitVector}
 use Rattle.fst.specs.declared.Description.{Description}
-use Rattle.fst.specs.Refusal.{Test, _⇐_, given, tried, Outcome, outcome}
+use Rattle.fst.specs.declared.Added.{Added}
+use Rattle.fst.specs.Refusal.{numberOf, Test, _⇐_, given, tried, Outcome, outcome}
 use Rattle.fst.specs.Entry.{entryOf, widenAll}
 use Rattle.fst.specs.Record.{Lent, Kept, sizeOf, keptIn, fits, isBad}
 
@@ -113,3 +114,8 @@ unfoldable pub addChange : Description → Lent → ℕ → Change → Outcome R
 addChange d l i c =
     outcome (record { description = d; bytes = l .bytes; indices = l .indices })
     (tried (refusals d l i c) (given (stored l (withChange (keptIn d l) i c))))
+
+-- what a call leaves, by its answer and the slices as they are then
+abbrev pub leftBy : Added → List ℕ → List ℕ → Outcome Recorder
+leftBy r bytes indices =
+    record { refused = numberOf (r .verdict); left = record { description = r .next; bytes = bytes; indices = indices } }

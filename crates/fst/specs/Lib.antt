@@ -1,5 +1,7 @@
 pub mod Refusal
 pub mod Entry
+pub mod Writable
+pub mod Expand
 pub mod Record
 pub mod Change
 pub mod Runs

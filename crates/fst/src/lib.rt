@@ -3,6 +3,10 @@ ghost use mathlib.Core.Path.{_≡_};
 ghost use Rattle.fst.specs.Refusal.{number, numberOf};
 use value::States;
 
+pub mod entry;
+pub mod expand;
+pub mod record;
+
 // Why a call was refused, by the numbers of document 01.
 pub enum Refusal {
     // 1

@@ -26,6 +26,11 @@ pub below-all : (B : ℕ) (ds : List ℕ) → ((i : ℕ) → getD ds i 0 < B) �
 below-all B [] h = tt
 below-all B (d ∷ ds) h = (h 0, below-all B ds (λ i. h (suc i)))
 
+pub below-take : (B : ℕ) (ds : List ℕ) → Below B ds → (i : ℕ) → Below B (take i ds)
+below-take B ds h zero = tt
+below-take B [] h (suc i) = tt
+below-take B (x ∷ ds) h (suc i) = (h .0, below-take B ds (h .1) i)
+
 pub below-drop : (B : ℕ) (ds : List ℕ) → Below B ds → (i : ℕ) → Below B (drop i ds)
 below-drop B ds h zero = h
 below-drop B [] h (suc i) = h

@@ -2,5 +2,6 @@ pub mod Examples
 pub mod Digits
 pub mod Tests
 pub mod Slices
+pub mod Backward
 pub mod Levels
 pub mod Packed

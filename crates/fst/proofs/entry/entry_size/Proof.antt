@@ -1,0 +1,29 @@
+-- `fst::entry::entry_size` meets its contract.
+-- Assumes nothing.
+use mathlib.Core.Path.{_≡_, _∙_}
+use native.Mathlib.Omega.{arith}
+use Rattle.fst.specs.Entry.{entrySize}
+use Rattle.fst.proofs.EntryParts.{len-small}
+use borrow.Author.Needs.{needs}
+use Rattle.fst.proofs.entry.entry_size.Statement.{statement}
+use Rattle.fst.proofs.entry.entry_size.Tie as tie
+use Rattle.fst.proofs.entry.entry_size.Reads as reads
+use Rattle.fst.proofs.entry.entry_size.Lts as lts
+use Rattle.fst.proofs.entry.get_bytes_per_entry.Reads as get-bytes-per-entry-reads
+use Rattle.fst.proofs.entry.get_len_and_meta.Reads as get-len-and-meta-reads
+
+get-len-and-meta-requires : tie.Need-get-len-and-meta-requires
+get-len-and-meta-requires c κs = search needs
+
+get-bytes-per-entry-requires : tie.Need-get-bytes-per-entry-requires
+get-bytes-per-entry-requires c κs = omega (arith, c .get-len-and-meta .ensures .0, len-small (c .before .args .bits) (c .before .args .states))
+
+returns : tie.Need-returns
+unfolding entrySize
+returns c =
+    let l = c .before .get-len-and-meta .ensures in
+    c .get-bytes-per-entry .ensures ∙ rw (l .0, l .1)
+
+pub entry-size-spec : {M : Type 1} → statement M
+entry-size-spec =
+    tie.close (tie.spec get-len-and-meta-requires get-bytes-per-entry-requires returns)

@@ -1,0 +1,125 @@
+// Fresh records, and what a description asks of the slices that it is lent with.
+ghost use mathlib.Core.Path.{_≡_};
+ghost use mathlib.Core.Bool.{_&&_, not};
+ghost use Prim.Native.Nat.{_+_, _*_, _≤_};
+ghost use lib.Dec.{leb};
+ghost use lib.ListN.{length};
+ghost use Rattle.fst.specs.Refusal.{madeOf};
+ghost use Rattle.fst.specs.Record.{maximum, sizeOf, widthStands, fits, isBad, fresh, freshReal};
+use crate::Description;
+use crate::Encoding;
+use crate::Made;
+use crate::Refusal;
+use crate::entry::entry_size;
+use value::States;
+
+pub const MAXIMUM: u32 = 1048576;
+
+pub const MAX_WIDTH: u32 = 4096;
+
+pub fn fresh(width: u32) -> Made
+    ensures { λ r. ⌜ madeOf r ≡ fresh width ⌝ }
+{
+    if MAX_WIDTH < width {
+        return Made::Refused(Refusal::WidthTooLarge);
+    }
+    if width == 0 {
+        return Made::Record(Description {
+            encoding: Encoding::Event,
+            count: 0,
+        });
+    }
+    Made::Record(Description {
+        encoding: Encoding::BitVector {
+            width,
+            max_states: States::Two,
+        },
+        count: 0,
+    })
+}
+
+pub fn fresh_real() -> Description
+    ensures { λ r. ⌜ r ≡ freshReal ⌝ }
+{
+    Description {
+        encoding: Encoding::Real,
+        count: 0,
+    }
+}
+
+// Whether `count` entries of `size` bytes stand within the maximum and, from their starts, within slices of these lengths.
+pub fn has_room(
+    count: u32,
+    size: usize,
+    bytes: usize,
+    byte_start: usize,
+    indices: usize,
+    index_start: usize,
+) -> bool
+    requires { ⌜ size ≤ 4096 ⌝ }
+    ensures { λ r. ⌜ r ≡ (leb count maximum && leb («byte_start» + count * size) bytes) && leb («index_start» + count) indices ⌝ }
+{
+    if MAXIMUM < count {
+        return false;
+    }
+    let n = count as usize;
+    if bytes < byte_start {
+        return false;
+    }
+    if bytes - byte_start < n * size {
+        return false;
+    }
+    if indices < index_start {
+        return false;
+    }
+    n <= indices - index_start
+}
+
+// Number 2: whether a description asks for more than it is lent, or for what no record has.
+pub fn is_bad(
+    description: Description,
+    bytes: &[u8],
+    byte_start: usize,
+    indices: &[u32],
+    index_start: usize,
+) -> bool
+    ensures { λ r. ⌜ r ≡ isBad description (record { bytes = now (bytes .entry); byteStart = «byte_start»; indices = now (indices .entry); indexStart = «index_start» }) ⌝ }
+{
+    let count = description.count;
+    let encoding = description.encoding;
+    match encoding {
+        Encoding::Event => !has_room(
+            count,
+            0,
+            bytes.len(),
+            byte_start,
+            indices.len(),
+            index_start,
+        ),
+        Encoding::Real => !has_room(
+            count,
+            8,
+            bytes.len(),
+            byte_start,
+            indices.len(),
+            index_start,
+        ),
+        Encoding::BitVector { width, max_states } => {
+            if width < 1 {
+                return true;
+            }
+            if MAX_WIDTH < width {
+                return true;
+            }
+            let size = entry_size(max_states, width);
+            !has_room(
+                count,
+                size,
+                bytes.len(),
+                byte_start,
+                indices.len(),
+                index_start,
+            )
+        }
+    }
+}
