@@ -2,3 +2,4 @@ pub mod Decode
 pub mod Read
 pub mod Compare
 pub mod Offset
+pub mod Search

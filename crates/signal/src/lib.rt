@@ -2,6 +2,8 @@
 use fst::Refusal;
 use value::States;
 
+pub mod offset;
+
 pub enum Kind {
     Event,
     Real,

@@ -1,0 +1,261 @@
+-- Laws of a list that doesn't fall, of the searches in it and of a run of one index.
+-- Assumes nothing.
+use mathlib.Core.Path.{_≡_, refl, sym, ap, _∙_}
+use mathlib.Core.Bool.{Bool, true, false, cond, _||_}
+use mathlib.Core.List.{List, [], _∷_}
+use mathlib.Core.Logic.{_⊎_, inl, inr}
+use Prim.Native.Nat.{ℕ, zero, suc, _+_, _-_, _/_, _≤_, _<_, max}
+use native.Mathlib.Nat.{not-suc-le-zero, le-of-suc-le-suc, le-refl, le-antisymm, le-trans}
+use native.Mathlib.Numerals.{add-one}
+use native.Mathlib.Omega.{arith}
+use borrow.Author.Tests.{ltb-false, leb-true, leb-false, le-leb, eq-eqb, ne-eqb}
+use lib.Dec.{eqb, leb, ltb}
+use lib.ListN.{length, getD, drop, drop-of-length-le}
+use lib.Seq.{drop-cons, drop-drop}
+use Rattle.value.specs.Level.{placeIn}
+use Rattle.signal.specs.declared.NextIndex.{NextIndex}
+use Rattle.signal.specs.declared.NextIndex.the-variants.{Absent, At}
+use Rattle.signal.specs.Offset.{falls, greatest, runOf, headOf}
+use Rattle.signal.specs.Search.{Split, Reached}
+
+le-or-lt : (a b : ℕ) → (a ≤ b) ⊎ (b < a)
+le-or-lt a b = go (leb a b) refl
+  where
+    go : (t : Bool) → leb a b ≡ t → (a ≤ b) ⊎ (b < a)
+    go true e = inl (leb-true a b e)
+    go false e = inr (leb-false a b e)
+
+-- ---- a list that doesn't fall
+
+neither : (a b : Bool) → (a || b) ≡ false → (a ≡ false) × (b ≡ false)
+neither true b e = let z : _≡_ {A = ℕ} 0 1 = cc in absurd (omega arith)
+neither false b e = (refl, e)
+
+-- its indices are in order
+pub rising : (l : List ℕ) → falls l ≡ false → (i j : ℕ) → i ≤ j → j < length l → getD l i 0 ≤ getD l j 0
+unfolding falls
+rising [] f i j h k = absurd (not-suc-le-zero k)
+rising (x ∷ l) f zero zero h k = le-refl x
+rising (x ∷ l) f (suc i) zero h k = absurd (not-suc-le-zero h)
+rising (x ∷ []) f i (suc j) h k = absurd (not-suc-le-zero (le-of-suc-le-suc k))
+rising (x ∷ y ∷ l) f zero (suc j) h k =
+    let both = neither (ltb y x) (falls (y ∷ l)) f in
+    le-trans (ltb-false y x (both .0)) (rising (y ∷ l) (both .1) 0 j (omega arith) (le-of-suc-le-suc k))
+rising (x ∷ y ∷ l) f (suc i) (suc j) h k =
+    rising (y ∷ l) (neither (ltb y x) (falls (y ∷ l)) f .1) i j (le-of-suc-le-suc h) (le-of-suc-le-suc k)
+
+-- a scan of the pairs, from a place on
+falls-suc : (l : List ℕ) (i : ℕ) → suc i < length l → falls (drop i l) ≡ (ltb (getD l (suc i) 0) (getD l i 0) || falls (drop (suc i) l))
+unfolding falls
+falls-suc [] i h = absurd (not-suc-le-zero h)
+falls-suc (x ∷ []) i h = absurd (omega arith)
+falls-suc (x ∷ y ∷ l) zero h = refl
+falls-suc (x ∷ y ∷ l) (suc i) h = falls-suc (y ∷ l) i (le-of-suc-le-suc h)
+
+pub falls-step : (l : List ℕ) (i : ℕ) → i + 1 < length l → falls (drop i l) ≡ (ltb (getD l (i + 1) 0) (getD l i 0) || falls (drop (i + 1) l))
+falls-step l i h = rw add-one (falls-suc l i (omega arith))
+
+pub falls-end : (l : List ℕ) (i : ℕ) → length l ≤ i + 1 → falls (drop i l) ≡ false
+unfolding falls
+falls-end [] zero h = refl
+falls-end [] (suc i) h = refl
+falls-end (x ∷ []) zero h = refl
+falls-end (x ∷ y ∷ l) zero h = absurd (omega arith)
+falls-end (x ∷ l) (suc i) h = falls-end l i (omega arith)
+
+-- the indices before `lower` are below the needle and those from `upper` on are not
+pub record Bracket (needle : ℕ) (l : List ℕ) (lower upper : ℕ) : Type 0 where
+  pub ordered : lower ≤ upper
+  pub within : upper ≤ length l
+  pub below : (k : ℕ) → k < lower → getD l k 0 < needle
+  pub above : (k : ℕ) → upper ≤ k → k < length l → needle ≤ getD l k 0
+
+pub bracket-start : (needle : ℕ) (l : List ℕ) → Bracket needle l 0 (length l)
+bracket-start needle l =
+    record { ordered = omega arith; within = omega arith; below = λ k h. absurd (omega arith); above = λ k h i. absurd (omega arith) }
+
+module _ {needle : ℕ} {l : List ℕ} {lower upper : ℕ} (b : Bracket needle l lower upper) where
+  pub bracket-up : falls l ≡ false → (m : ℕ) → lower ≤ m → m < upper → getD l m 0 < needle → Bracket needle l (m + 1) upper
+  bracket-up f m h i less =
+      record {
+        ordered = omega arith;
+        within = b .within;
+        below = λ k j. omega (arith, rising l f k m (omega arith) (omega (arith, b .within)));
+        above = b .above;
+      }
+
+  pub bracket-down : falls l ≡ false → (m : ℕ) → lower ≤ m → m < upper → needle ≤ getD l m 0 → Bracket needle l lower m
+  bracket-down f m h i least =
+      record {
+        ordered = h;
+        within = omega (arith, b .within);
+        below = b .below;
+        above = λ k j n. omega (arith, rising l f m k j n);
+      }
+
+  pub bracket-met : upper ≤ lower → Split needle l lower
+  bracket-met h =
+      record { within = omega (arith, b .ordered, b .within); below = b .below; above = λ k i. b .above k (omega arith) }
+
+-- ---- the greatest index not above a sought one
+
+pub greatest-bounds : (s : ℕ) (l : List ℕ) (k : ℕ) → k < length l → getD l k 0 ≤ s → getD l k 0 ≤ greatest s l
+unfolding greatest
+greatest-bounds s [] k h r = absurd (not-suc-le-zero h)
+greatest-bounds s (x ∷ l) zero h r = rw (le-leb x s r) (omega arith)
+greatest-bounds s (x ∷ l) (suc k) h r = go (leb x s) (greatest-bounds s l k (le-of-suc-le-suc h) r)
+  where
+    go : (b : Bool) → getD l k 0 ≤ greatest s l → getD l k 0 ≤ cond b (max x (greatest s l)) (greatest s l)
+    go true i = omega arith
+    go false i = i
+
+pub greatest-least : (s : ℕ) (l : List ℕ) (g : ℕ) → ((k : ℕ) → k < length l → getD l k 0 ≤ s → getD l k 0 ≤ g) → greatest s l ≤ g
+unfolding greatest
+greatest-least s [] g f = omega arith
+greatest-least s (x ∷ l) g f = go (leb x s) (λ e. f 0 (omega arith) (leb-true x s e)) (greatest-least s l g (λ k h. f (suc k) (omega arith)))
+  where
+    go : (b : Bool) → (b ≡ true → x ≤ g) → greatest s l ≤ g → cond b (max x (greatest s l)) (greatest s l) ≤ g
+    go true e i = omega (arith, e refl)
+    go false e i = i
+
+-- an index of the list, not above the sought one, that none such exceeds
+pub greatest-is : (s : ℕ) (l : List ℕ) (k : ℕ) → k < length l → getD l k 0 ≤ s → ((j : ℕ) → j < length l → getD l j 0 ≤ s → getD l j 0 ≤ getD l k 0) → getD l k 0 ≡ greatest s l
+greatest-is s l k h r f = le-antisymm (greatest-bounds s l k h r) (greatest-least s l (getD l k 0) f)
+
+-- where it stands
+pub record Stands (s : ℕ) (l : List ℕ) : Type 0 where
+  pub place : ℕ
+  pub within : place < length l
+  pub is : getD l place 0 ≡ greatest s l
+  pub reached : greatest s l ≤ s
+
+behind : (s x : ℕ) (l : List ℕ) → greatest s (x ∷ l) ≡ greatest s l → Stands s l → Stands s (x ∷ l)
+behind s x l e i = record { place = suc (i .place); within = omega (arith, i .within); is = i .is ∙ sym e; reached = omega (arith, i .reached) }
+
+positive-stands : (s : ℕ) (l : List ℕ) → 0 < greatest s l → Stands s l
+unfolding greatest
+positive-stands s [] h = absurd (not-suc-le-zero h)
+positive-stands s (x ∷ l) h = go (leb x s) refl (le-or-lt (greatest s l) x) (λ k. positive-stands s l k)
+  where
+    go : (b : Bool) → leb x s ≡ b → (greatest s l ≤ x) ⊎ (x < greatest s l) → (0 < greatest s l → Stands s l) → Stands s (x ∷ l)
+    go false e o i =
+        let same : greatest s (x ∷ l) ≡ greatest s l = rw e in
+        behind s x l same (i (omega arith))
+    go true e (inl o) i =
+        let same : greatest s (x ∷ l) ≡ x = rw e (omega arith) in
+        record { place = 0; within = omega arith; is = sym same; reached = omega (arith, leb-true x s e) }
+    go true e (inr o) i =
+        let same : greatest s (x ∷ l) ≡ greatest s l = rw e (omega arith) in
+        behind s x l same (i (omega arith))
+
+pub greatest-stands : (s : ℕ) (l : List ℕ) (k : ℕ) → k < length l → getD l k 0 ≤ s → Stands s l
+greatest-stands s l k h r = go (le-or-lt (greatest s l) 0)
+  where
+    go : (greatest s l ≤ 0) ⊎ (0 < greatest s l) → Stands s l
+    go (inl o) = record { place = k; within = h; is = omega (arith, greatest-bounds s l k h r); reached = omega arith }
+    go (inr o) = positive-stands s l o
+
+-- the search for the needle ends at it, or behind the greatest index that is not above it
+pub split-match : (needle : ℕ) (l : List ℕ) (p : ℕ) → p < length l → getD l p 0 ≡ needle → needle ≡ greatest needle l
+split-match needle l p h e = sym e ∙ greatest-is needle l p h (omega arith) (λ j i r. omega arith)
+
+module _ {needle : ℕ} {l : List ℕ} (reached : Reached needle l) {p : ℕ} (s : Split needle l p) (other : p < length l → getD l p 0 ≡ needle → ⊥) where
+  pub split-after : 0 < p
+  split-after = go (le-or-lt p 0)
+    where
+      go : (p ≤ 0) ⊎ (0 < p) → 0 < p
+      go (inr h) = h
+      go (inl h) =
+          let zero-is : p ≡ 0 = omega arith in
+          let at : getD l p 0 ≡ getD l 0 0 = rw zero-is in
+          absurd
+          (other (omega (arith, reached .some)) (omega (arith, s .above p (omega arith) (omega (arith, reached .some)), reached .first)))
+
+  pub split-before : getD l (p - 1) 0 ≡ greatest needle l
+  split-before =
+      greatest-is needle l (p - 1) (omega (arith, split-after, s .within)) (omega (arith, split-after, s .below (p - 1) (omega (arith, split-after)))) least
+    where
+      least : (j : ℕ) → j < length l → getD l j 0 ≤ needle → getD l j 0 ≤ getD l (p - 1) 0
+      least j h r = go (le-or-lt p j)
+        where
+          go : (p ≤ j) ⊎ (j < p) → getD l j 0 ≤ getD l (p - 1) 0
+          go (inr i) = rising l (reached .rises) j (p - 1) (omega arith) (omega (arith, split-after, s .within))
+          go (inl i) =
+              absurd
+              (other (omega arith) (omega (arith, s .above p (omega arith) (omega arith), rising l (reached .rises) p j i h)))
+
+-- ---- the first place of an index
+
+pub place-is : (l : List ℕ) (c p : ℕ) → p < length l → getD l p 0 ≡ c → ((k : ℕ) → k < p → getD l k 0 ≡ c → ⊥) → placeIn l c ≡ p
+unfolding placeIn
+place-is [] c p h e f = absurd (not-suc-le-zero h)
+place-is (x ∷ l) c zero h e f = rw (eq-eqb x c e)
+place-is (x ∷ l) c (suc p) h e f =
+    rw (ne-eqb x c (f 0 (omega arith))) (ap suc (place-is l c p (le-of-suc-le-suc h) e (λ k i. f (suc k) (omega arith))))
+
+-- where a search for an index of the list ends
+pub split-first : {g : ℕ} {l : List ℕ} {p : ℕ} → falls l ≡ false → Split g l p → (k : ℕ) → k < length l → getD l k 0 ≡ g → (p < length l) × (getD l p 0 ≡ g)
+split-first {g} {l} {p} f s k h e = go (le-or-lt p k)
+  where
+    go : (p ≤ k) ⊎ (k < p) → (p < length l) × (getD l p 0 ≡ g)
+    go (inl i) = (omega arith, omega (arith, s .above p (omega arith) (omega arith), rising l f p k i h))
+    go (inr i) = absurd (omega (arith, s .below k i))
+
+pub split-place : {g : ℕ} {l : List ℕ} {p : ℕ} → falls l ≡ false → Split g l p → (k : ℕ) → k < length l → getD l k 0 ≡ g → placeIn l g ≡ p
+split-place {g} {l} {p} f s k h e =
+    let first = split-first f s k h e in
+    place-is l g p (first .0) (first .1) (λ j i n. omega (arith, s .below j i))
+
+-- ---- the index at a place
+
+pub head-at : (l : List ℕ) (k : ℕ) → k < length l → headOf (drop k l) ≡ At (getD l k 0)
+head-at l k h = rw (drop-cons l k 0)
+
+pub head-past : (l : List ℕ) (k : ℕ) → length l ≤ k → headOf (drop k l) ≡ Absent
+head-past l k h = ap headOf (drop-of-length-le l h)
+
+pub head-is : (l : List ℕ) (k j : ℕ) → headOf (drop k l) ≡ At j → (k < length l) × (getD l k 0 ≡ j)
+head-is [] zero j e = let z : _≡_ {A = ℕ} 0 1 = cc in absurd (omega arith)
+head-is [] (suc k) j e = let z : _≡_ {A = ℕ} 0 1 = cc in absurd (omega arith)
+head-is (x ∷ l) zero j e = (omega arith, (cc))
+head-is (x ∷ l) (suc k) j e = let i = head-is l k j e in (omega arith, i .1)
+
+pub head-none : (l : List ℕ) (k : ℕ) → headOf (drop k l) ≡ Absent → length l ≤ k
+head-none [] k e = omega arith
+head-none (x ∷ l) zero e = let z : _≡_ {A = ℕ} 0 1 = cc in absurd (omega arith)
+head-none (x ∷ l) (suc k) e = omega (arith, head-none l k e)
+
+-- ---- a run of one index
+
+pub run-ends : (i : ℕ) (l : List ℕ) → headOf l ≡ Absent → runOf i l ≡ 0
+unfolding runOf
+run-ends i [] e = refl
+run-ends i (j ∷ l) e = let z : _≡_ {A = ℕ} 0 1 = cc in absurd (omega arith)
+
+pub run-differs : (i j : ℕ) (l : List ℕ) → headOf l ≡ At j → (j ≡ i → ⊥) → runOf i l ≡ 0
+unfolding runOf
+run-differs i j [] e n = refl
+run-differs i j (x ∷ l) e n = let same : x ≡ j = cc in rw (ne-eqb i x (λ q. n (sym (q ∙ same))))
+
+pub run-goes : (i : ℕ) (l : List ℕ) → headOf l ≡ At i → runOf i l ≡ suc (runOf i (drop 1 l))
+unfolding runOf
+run-goes i [] e = let z : _≡_ {A = ℕ} 0 1 = cc in absurd (omega arith)
+run-goes i (x ∷ l) e = let same : i ≡ x = cc in rw (eq-eqb i x same)
+
+pub run-within : (i : ℕ) (l : List ℕ) → runOf i l ≤ length l
+unfolding runOf
+run-within i [] = omega arith
+run-within i (x ∷ l) = go (eqb i x) (run-within i l)
+  where
+    go : (b : Bool) → runOf i l ≤ length l → cond b (suc (runOf i l)) 0 ≤ suc (length l)
+    go true h = omega arith
+    go false h = omega arith
+
+pub run-more : (i start n : ℕ) (l : List ℕ) → runOf i (drop start l) ≡ n + runOf i (drop (start + n) l) → headOf (drop (start + n) l) ≡ At i
+    → runOf i (drop start l) ≡ (n + 1) + runOf i (drop (start + (n + 1)) l)
+run-more i start n l e h =
+    let one : drop 1 (drop (start + n) l) ≡ drop (start + n + 1) l = drop-drop 1 (start + n) l in
+    let more : start + n + 1 ≡ start + (n + 1) = omega arith in
+    let goes : runOf i (drop (start + n) l) ≡ suc (runOf i (drop 1 (drop (start + n) l))) = run-goes i (drop (start + n) l) h in
+    let rest : runOf i (drop 1 (drop (start + n) l)) ≡ runOf i (drop (start + (n + 1)) l) = rw (one, more) in
+    omega arith

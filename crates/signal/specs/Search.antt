@@ -1,0 +1,20 @@
+-- What the searches of Look up find and need, for its inner functions.
+-- Assumes nothing.
+use mathlib.Core.Path.{_≡_}
+use Prim.Native.Nat.{ℕ, _≤_, _<_}
+use mathlib.Core.Bool.{false}
+use mathlib.Core.List.{List}
+use lib.ListN.{length, getD}
+use Rattle.signal.specs.Offset.{falls}
+
+-- the place that parts the indices below a needle from the others
+pub record Split (needle : ℕ) (l : List ℕ) (place : ℕ) : Type 0 where
+  pub within : place ≤ length l
+  pub below : (k : ℕ) → k < place → getD l k 0 < needle
+  pub above : (k : ℕ) → place ≤ k → k < length l → needle ≤ getD l k 0
+
+-- a list that doesn't fall, and whose first index isn't above a needle
+pub record Reached (needle : ℕ) (l : List ℕ) : Type 0 where
+  pub rises : falls l ≡ false
+  pub some : 0 < length l
+  pub first : getD l 0 0 ≤ needle
