@@ -1,24 +1,24 @@
 -- What Look up answers, in document 01's words, over the definition `lookUp`.
 -- Assumes nothing.
 use mathlib.Core.Path.{_≡_, refl, sym, ap, _∙_}
-use mathlib.Core.Bool.{Bool, true, false}
+use mathlib.Core.Bool.{true, false}
 use mathlib.Core.List.{List, [], _∷_}
 use mathlib.Core.Logic.{_⊎_, inl, inr, _↔_}
-use Prim.Native.Nat.{ℕ, zero, suc, _+_, _%_, _≤_, _<_}
+use Prim.Native.Nat.{ℕ, _+_, _-_, _%_, _≤_, _<_}
 use native.Mathlib.Nat.{not-suc-le-zero}
 use native.Mathlib.Omega.{arith}
-use borrow.Author.Tests.{ltb-true, ltb-false, lt-ltb, le-ltb}
-use lib.Dec.{eqb, ltb}
+use borrow.Author.Tests.{lt-ltb, le-ltb, eqb-true, eq-eqb}
+use lib.Dec.{eqb}
 use lib.ListN.{length, getD, drop}
 use Rattle.value.specs.Level.{placeIn}
-use Rattle.fst.specs.Refusal.{Reply, refused, given, tried}
+use Rattle.fst.specs.Refusal.{refused, given, tried}
 use Rattle.fst.specs.Record.{maximum}
 use Rattle.signal.specs.declared.NextIndex.{NextIndex}
 use Rattle.signal.specs.declared.NextIndex.the-variants.{Absent, At}
 use Rattle.signal.specs.declared.DataOffset.{DataOffset}
-use Rattle.signal.specs.Offset.{falls, greatest, runOf, elementsOf, headOf, Place, none, at, placeOf, place, lookUp}
+use Rattle.signal.specs.Offset.{falls, greatest, runOf, elementsOf, headOf, none, at, placeOf, place, lookUp}
 use Rattle.signal.specs.Search.{Split, Reached}
-use Rattle.signal.proofs.Search.{Stands, greatest-stands, split-place}
+use Rattle.signal.proofs.Search.{le-or-lt, rising, greatest-bounds, greatest-stands, place-first, split-place, head-at, head-past, Run, run-is}
 
 -- ---- the definition by cases
 
@@ -58,3 +58,122 @@ place-found {needle} {l} r {index} {start} {n} {next} e s run behind =
     let stands = greatest-stands needle l 0 (r .some) (r .first) in
     let first : placeIn l index ≡ start = split-place (r .rises) s (stands .place) (stands .within) (stands .is ∙ sym e) in
     rw (← e, first, ← run, ← behind)
+
+-- ---- the answer
+
+-- the least index of a list that is above an index
+pub record Least (l : List ℕ) (i j : ℕ) : Type 0 where
+  pub above : i < j
+  pub place : ℕ
+  pub within : place < length l
+  pub stands : getD l place 0 ≡ j
+  pub least : (k : ℕ) → k < length l → i < getD l k 0 → j ≤ getD l k 0
+
+-- "the next greater index, or absent"
+abbrev pub NextAbove : List ℕ → ℕ → NextIndex → Type 0
+NextAbove l i Absent = (k : ℕ) → k < length l → getD l k 0 ≤ i
+NextAbove l i (At j) = Least l i j
+
+-- what an answer says of its index and of the n entries that carry it
+pub record Answers (l : List ℕ) (sought : ℕ) (o : DataOffset) : Type 0 where
+  pub index : ℕ
+  pub n : ℕ
+  pub stands : getD l (o .start) 0 ≡ index
+  pub reached : index ≤ sought
+  pub greatest : (k : ℕ) → k < length l → getD l k 0 ≤ sought → getD l k 0 ≤ index
+  pub run : Run l index (o .start) n
+  pub elements : o .elements ≡ n % 65536
+  pub equal : (o .«time_match» ≡ true) ↔ (index ≡ sought)
+  pub next : NextAbove l index (o .«next_index»)
+
+-- behind a run
+next-above : (l : List ℕ) → falls l ≡ false → (i start n : ℕ) → Run l i start n → NextAbove l i (headOf (drop (start + n) l))
+next-above l f i start n r = go (le-or-lt (length l) (start + n))
+  where
+    upto : (k : ℕ) → k < start + n → getD l k 0 ≤ i
+    upto k h =
+        let last = start + n - 1 in
+        omega (
+          arith,
+          r .carried last (omega (arith, r .some)) (omega (arith, r .some)),
+          rising l f k last (omega arith) (omega (arith, r .some, r .within)),
+        )
+
+    above : start + n < length l → i < getD l (start + n) 0
+    above o = go (le-or-lt (getD l (start + n) 0) i)
+      where
+        go : (getD l (start + n) 0 ≤ i) ⊎ (i < getD l (start + n) 0) → i < getD l (start + n) 0
+        go (inr h) = h
+        go (inl h) =
+            let first = r .carried start (omega arith) (omega (arith, r .some)) in
+            let later = rising l f start (start + n) (omega arith) o in
+            absurd (omega (arith, r .alone (start + n) o (omega arith) .1))
+
+    least : (k : ℕ) → k < length l → i < getD l k 0 → (start + n ≤ k) ⊎ (k < start + n) → getD l (start + n) 0 ≤ getD l k 0
+    least k h a (inl o) = rising l f (start + n) k o h
+    least k h a (inr o) = absurd (omega (arith, upto k o))
+
+    go : (length l ≤ start + n) ⊎ (start + n < length l) → NextAbove l i (headOf (drop (start + n) l))
+    go (inl o) = rw (head-past l (start + n) o) (λ k h. upto k (omega arith))
+    go (inr o) =
+        rw (head-at l (start + n) o)
+        (record {
+          above = above o;
+          place = start + n;
+          within = o;
+          stands = refl;
+          least = λ k h a. least k h a (le-or-lt (start + n) k);
+        })
+
+place-answers : (s : ℕ) (l : List ℕ) → Reached s l → Answers l s (placeOf s l)
+unfolding placeOf
+place-answers s l r =
+    let stands = greatest-stands s l 0 (r .some) (r .first) in
+    let i = greatest s l in
+    let start = placeIn l i in
+    let n = runOf i (drop start l) in
+    let run : Run l i start n = run-is l (r .rises) i (stands .place) (stands .within) (stands .is) in
+    record {
+      index = i;
+      n = n;
+      stands = place-first l i (stands .place) (stands .within) (stands .is) .1;
+      reached = stands .reached;
+      greatest = greatest-bounds s l;
+      run = run;
+      elements = refl;
+      equal = (eqb-true i s, eq-eqb i s);
+      next = next-above l (r .rises) i start n run;
+    }
+
+-- ---- the theorems
+
+-- the answers of Look up to a list that isn't above the maximum and doesn't fall
+module _ (l : List ℕ) (s : ℕ) (small : length l ≤ maximum) (rises : falls l ≡ false) where
+  none-given : (length l ≡ 0) ⊎ ((0 < length l) × (s < getD l 0 0)) → lookUp l s ≡ given none
+  none-given (inl h) = look-up-rising l s small rises ∙ ap given (place-empty s l h)
+  none-given (inr h) = look-up-rising l s small rises ∙ ap given (place-above s l (h .0) (h .1))
+
+  pub else-given : 0 < length l → getD l 0 0 ≤ s → lookUp l s ≡ given (at (placeOf s l))
+  else-given some first = look-up-rising l s small rises ∙ ap given (place-reached s l some first)
+
+  -- "The answer is none exactly when the list is empty or its first index exceeds the sought one"
+  pub none-exactly : (lookUp l s ≡ given none) ↔ ((length l ≡ 0) ⊎ ((0 < length l) × (s < getD l 0 0)))
+  none-exactly = (λ e. only e (le-or-lt (length l) 0) (le-or-lt (getD l 0 0) s), none-given)
+    where
+      only : lookUp l s ≡ given none → (length l ≤ 0) ⊎ (0 < length l) → (getD l 0 0 ≤ s) ⊎ (s < getD l 0 0) → (length l ≡ 0) ⊎ ((0 < length l) × (s < getD l 0 0))
+      only e (inl h) o = inl (omega arith)
+      only e (inr h) (inr a) = inr (h, a)
+      only e (inr h) (inl a) = let found = else-given h a in let z : _≡_ {A = ℕ} 0 1 = cc in absurd (omega arith)
+
+  -- "Else, for the greatest index not above it: start, its first entry; the number of entries from there on that carry the same time index,
+  -- modulo 65,536; whether it equals the sought one; the next greater index, or absent"
+  pub at-answers : (o : DataOffset) → lookUp l s ≡ given (at o) → Answers l s o
+  at-answers o e = go (le-or-lt (length l) 0) (le-or-lt (getD l 0 0) s)
+    where
+      go : (length l ≤ 0) ⊎ (0 < length l) → (getD l 0 0 ≤ s) ⊎ (s < getD l 0 0) → Answers l s o
+      go (inl h) a = let none = none-given (inl (omega arith)) in let z : _≡_ {A = ℕ} 0 1 = cc in absurd (omega arith)
+      go (inr h) (inr a) = let none = none-given (inr (h, a)) in let z : _≡_ {A = ℕ} 0 1 = cc in absurd (omega arith)
+      go (inr h) (inl a) =
+          let found = else-given h a in
+          let same : o ≡ placeOf s l = cc in
+          rw same (place-answers s l (record { rises = rises; some = h; first = a }))

@@ -4,21 +4,20 @@ use mathlib.Core.Path.{_≡_, refl, sym, ap, _∙_}
 use mathlib.Core.Bool.{Bool, true, false, cond, _||_}
 use mathlib.Core.List.{List, [], _∷_}
 use mathlib.Core.Logic.{_⊎_, inl, inr}
-use Prim.Native.Nat.{ℕ, zero, suc, _+_, _-_, _/_, _≤_, _<_, max}
+use Prim.Native.Nat.{ℕ, zero, suc, _+_, _-_, _≤_, _<_, max}
 use native.Mathlib.Nat.{not-suc-le-zero, le-of-suc-le-suc, le-refl, le-antisymm, le-trans}
 use native.Mathlib.Numerals.{add-one}
 use native.Mathlib.Omega.{arith}
-use borrow.Author.Tests.{ltb-false, leb-true, leb-false, le-leb, eq-eqb, ne-eqb}
+use borrow.Author.Tests.{ltb-false, leb-true, leb-false, le-leb, eqb-true, eqb-false, eq-eqb, ne-eqb}
 use lib.Dec.{eqb, leb, ltb}
-use lib.ListN.{length, getD, drop, drop-of-length-le}
-use lib.Seq.{drop-cons, drop-drop}
+use lib.ListN.{length, getD, drop, length-drop, drop-of-length-le}
+use lib.Seq.{getD-drop, drop-cons, drop-drop}
 use Rattle.value.specs.Level.{placeIn}
-use Rattle.signal.specs.declared.NextIndex.{NextIndex}
 use Rattle.signal.specs.declared.NextIndex.the-variants.{Absent, At}
 use Rattle.signal.specs.Offset.{falls, greatest, runOf, headOf}
 use Rattle.signal.specs.Search.{Split, Reached}
 
-le-or-lt : (a b : ℕ) → (a ≤ b) ⊎ (b < a)
+pub le-or-lt : (a b : ℕ) → (a ≤ b) ⊎ (b < a)
 le-or-lt a b = go (leb a b) refl
   where
     go : (t : Bool) → leb a b ≡ t → (a ≤ b) ⊎ (b < a)
@@ -193,6 +192,17 @@ place-is (x ∷ l) c zero h e f = rw (eq-eqb x c e)
 place-is (x ∷ l) c (suc p) h e f =
     rw (ne-eqb x c (f 0 (omega arith))) (ap suc (place-is l c p (le-of-suc-le-suc h) e (λ k i. f (suc k) (omega arith))))
 
+-- the first of all places that have it
+pub place-first : (l : List ℕ) (c k : ℕ) → k < length l → getD l k 0 ≡ c → (placeIn l c ≤ k) × (getD l (placeIn l c) 0 ≡ c)
+unfolding placeIn
+place-first [] c k h e = absurd (not-suc-le-zero h)
+place-first (x ∷ l) c zero h e = rw (eq-eqb x c e) (omega arith, e)
+place-first (x ∷ l) c (suc k) h e = go (eqb x c) refl (place-first l c k (le-of-suc-le-suc h) e)
+  where
+    go : (b : Bool) → eqb x c ≡ b → (placeIn l c ≤ k) × (getD l (placeIn l c) 0 ≡ c) → (cond b 0 (suc (placeIn l c)) ≤ suc k) × (getD (x ∷ l) (cond b 0 (suc (placeIn l c))) 0 ≡ c)
+    go true q i = (omega arith, eqb-true x c q)
+    go false q i = (omega arith, i .1)
+
 -- where a search for an index of the list ends
 pub split-first : {g : ℕ} {l : List ℕ} {p : ℕ} → falls l ≡ false → Split g l p → (k : ℕ) → k < length l → getD l k 0 ≡ g → (p < length l) × (getD l p 0 ≡ g)
 split-first {g} {l} {p} f s k h e = go (le-or-lt p k)
@@ -259,3 +269,66 @@ run-more i start n l e h =
     let goes : runOf i (drop (start + n) l) ≡ suc (runOf i (drop 1 (drop (start + n) l))) = run-goes i (drop (start + n) l) h in
     let rest : runOf i (drop 1 (drop (start + n) l)) ≡ runOf i (drop (start + (n + 1)) l) = rw (one, more) in
     omega arith
+
+pub run-carries : (i : ℕ) (l : List ℕ) (k : ℕ) → k < runOf i l → getD l k 0 ≡ i
+unfolding runOf
+run-carries i [] k h = absurd (not-suc-le-zero h)
+run-carries i (x ∷ l) k h = go (eqb i x) refl k h (λ k. run-carries i l k)
+  where
+    go : (b : Bool) → eqb i x ≡ b → (k : ℕ) → k < cond b (suc (runOf i l)) 0 → ((k : ℕ) → k < runOf i l → getD l k 0 ≡ i) → getD (x ∷ l) k 0 ≡ i
+    go true q zero h f = sym (eqb-true i x q)
+    go true q (suc k) h f = f k (le-of-suc-le-suc h)
+    go false q k h f = absurd (not-suc-le-zero h)
+
+pub run-stops : (i : ℕ) (l : List ℕ) → headOf (drop (runOf i l) l) ≡ At i → ⊥
+unfolding runOf
+run-stops i [] e = let z : _≡_ {A = ℕ} 0 1 = cc in omega arith
+run-stops i (x ∷ l) e = go (eqb i x) refl e (run-stops i l)
+  where
+    go : (b : Bool) → eqb i x ≡ b → headOf (drop (cond b (suc (runOf i l)) 0) (x ∷ l)) ≡ At i → (headOf (drop (runOf i l) l) ≡ At i → ⊥) → ⊥
+    go true q e f = f e
+    go false q e f = let same : i ≡ x = cc in eqb-false i x q same
+
+-- n entries from a start on carry an index, and no others do
+pub record Run (l : List ℕ) (i start n : ℕ) : Type 0 where
+  pub some : 0 < n
+  pub within : start + n ≤ length l
+  pub carried : (k : ℕ) → start ≤ k → k < start + n → getD l k 0 ≡ i
+  pub alone : (k : ℕ) → k < length l → getD l k 0 ≡ i → (start ≤ k) × (k < start + n)
+
+abbrev endOf : List ℕ → ℕ → ℕ
+endOf l i = placeIn l i + runOf i (drop (placeIn l i) l)
+
+module _ (l : List ℕ) (f : falls l ≡ false) (i k : ℕ) (h : k < length l) (e : getD l k 0 ≡ i) where
+  first : (placeIn l i ≤ k) × (getD l (placeIn l i) 0 ≡ i)
+  first = place-first l i k h e
+
+  has : (j : ℕ) → placeIn l i ≤ j → j < endOf l i → getD l j 0 ≡ i
+  has j a b =
+      let m = j - placeIn l i in
+      let same : placeIn l i + m ≡ j = omega arith in
+      ap (λ (n : ℕ). getD l n 0) (sym same)
+      ∙ sym (getD-drop (placeIn l i) l m 0)
+      ∙ run-carries i (drop (placeIn l i) l) m (omega arith)
+
+  only : (j : ℕ) → j < length l → getD l j 0 ≡ i → (placeIn l i ≤ j) × (j < endOf l i)
+  only j a b = (place-first l i j a b .0, go (le-or-lt (endOf l i) j))
+    where
+      go : (endOf l i ≤ j) ⊎ (j < endOf l i) → j < endOf l i
+      go (inr o) = o
+      go (inl o) =
+          let end = endOf l i in
+          let low = rising l f (placeIn l i) end (omega arith) (omega arith) in
+          let same : getD l end 0 ≡ i = omega (arith, low, rising l f end j o a, first .1) in
+          let stops = run-stops i (drop (placeIn l i) l) in
+          absurd (stops (ap headOf (drop-drop (runOf i (drop (placeIn l i) l)) (placeIn l i) l) ∙ head-at l end (omega arith) ∙ ap At same))
+
+  -- the run of an index of a list that doesn't fall
+  pub run-is : Run l i (placeIn l i) (runOf i (drop (placeIn l i) l))
+  run-is =
+      record {
+        some = omega (arith, only (placeIn l i) (omega (arith, first .0)) (first .1) .1);
+        within = omega (arith, first .0, run-within i (drop (placeIn l i) l), length-drop (placeIn l i) l);
+        carried = has;
+        alone = only;
+      }

@@ -1,6 +1,6 @@
 -- `signal::offset::run_length` meets its contract. The loop's invariant: the run from `start` on is `elements` longer than the run from where the loop stands.
 -- Assumes nothing.
-use mathlib.Core.Path.{_≡_, refl, sym, ap, _∙_}
+use mathlib.Core.Path.{_≡_, sym, ap, _∙_}
 use native.Mathlib.Nat.{add-zero, zero-add}
 use borrow.Author.Needs.{needs}
 use Prim.Native.Nat.{_≤_, _<_, _+_, _-_}
