@@ -1,6 +1,6 @@
 -- What Look up answers, in document 01's words, over the definition `lookUp`.
 -- Assumes nothing.
-use mathlib.Core.Path.{_≡_, refl, sym, ap, _∙_}
+use mathlib.Core.Path.{_≡_, refl, ap, _∙_}
 use mathlib.Core.Bool.{true, false}
 use mathlib.Core.List.{List, [], _∷_}
 use mathlib.Core.Logic.{_⊎_, inl, inr, _↔_}
@@ -17,8 +17,8 @@ use Rattle.signal.specs.declared.NextIndex.{NextIndex}
 use Rattle.signal.specs.declared.NextIndex.the-variants.{Absent, At}
 use Rattle.signal.specs.declared.DataOffset.{DataOffset}
 use Rattle.signal.specs.Offset.{falls, greatest, runOf, elementsOf, headOf, none, at, placeOf, place, lookUp}
-use Rattle.signal.specs.Search.{Split, Reached}
-use Rattle.signal.proofs.Search.{le-or-lt, rising, greatest-bounds, greatest-stands, place-first, split-place, head-at, head-past, Run, run-is}
+use Rattle.signal.specs.Search.{Reached}
+use Rattle.signal.proofs.Search.{le-or-lt, rising, greatest-bounds, greatest-stands, place-first, head-at, head-past, Run, run-is}
 
 -- ---- the definition by cases
 
@@ -50,14 +50,11 @@ place-reached s [] h a = absurd (not-suc-le-zero h)
 place-reached s (i ∷ l) h a = rw (le-ltb s i a)
 
 -- what the searches find is the place
-pub place-found : {needle : ℕ} {l : List ℕ} → Reached needle l → {index start n : ℕ} {next : NextIndex}
-    → index ≡ greatest needle l → Split index l start → n ≡ runOf index (drop start l) → next ≡ headOf (drop (start + n) l)
+pub place-found : (needle : ℕ) (l : List ℕ) {index start n : ℕ} {next : NextIndex}
+    → index ≡ greatest needle l → start ≡ placeIn l index → n ≡ runOf index (drop start l) → next ≡ headOf (drop (start + n) l)
     → _≡_ {A = DataOffset} (record { start = start; elements = elementsOf n; «time_match» = eqb index needle; «next_index» = next }) (placeOf needle l)
 unfolding placeOf
-place-found {needle} {l} r {index} {start} {n} {next} e s run behind =
-    let stands = greatest-stands needle l 0 (r .some) (r .first) in
-    let first : placeIn l index ≡ start = split-place (r .rises) s (stands .place) (stands .within) (stands .is ∙ sym e) in
-    rw (← e, first, ← run, ← behind)
+place-found needle l e first run behind = rw (← e, ← first, ← run, ← behind)
 
 -- ---- the answer
 

@@ -15,7 +15,7 @@ use lib.Seq.{getD-drop, drop-cons, drop-drop}
 use Rattle.value.specs.Level.{placeIn}
 use Rattle.signal.specs.declared.NextIndex.the-variants.{Absent, At}
 use Rattle.signal.specs.Offset.{falls, greatest, runOf, headOf}
-use Rattle.signal.specs.Search.{Split, Reached}
+use Rattle.signal.specs.Search.{Split, Reached, Nearest}
 
 pub le-or-lt : (a b : ℕ) → (a ≤ b) ⊎ (b < a)
 le-or-lt a b = go (leb a b) refl
@@ -155,8 +155,8 @@ greatest-stands s l k h r = go (le-or-lt (greatest s l) 0)
     go (inr o) = positive-stands s l o
 
 -- the search for the needle ends at it, or behind the greatest index that is not above it
-pub split-match : (needle : ℕ) (l : List ℕ) (p : ℕ) → p < length l → getD l p 0 ≡ needle → needle ≡ greatest needle l
-split-match needle l p h e = sym e ∙ greatest-is needle l p h (omega arith) (λ j i r. omega arith)
+pub split-match : (needle : ℕ) (l : List ℕ) (p : ℕ) → p < length l → getD l p 0 ≡ needle → Nearest needle l p
+split-match needle l p h e = record { within = h; greatest = greatest-is needle l p h (omega arith) (λ j i r. omega arith) }
 
 module _ {needle : ℕ} {l : List ℕ} (reached : Reached needle l) {p : ℕ} (s : Split needle l p) (other : p < length l → getD l p 0 ≡ needle → ⊥) where
   pub split-after : 0 < p
@@ -170,9 +170,11 @@ module _ {needle : ℕ} {l : List ℕ} (reached : Reached needle l) {p : ℕ} (s
           absurd
           (other (omega (arith, reached .some)) (omega (arith, s .above p (omega arith) (omega (arith, reached .some)), reached .first)))
 
-  pub split-before : getD l (p - 1) 0 ≡ greatest needle l
+  pub split-before : Nearest needle l (p - 1)
   split-before =
-      greatest-is needle l (p - 1) (omega (arith, split-after, s .within)) (omega (arith, split-after, s .below (p - 1) (omega (arith, split-after)))) least
+      let inside : p - 1 < length l = omega (arith, split-after, s .within) in
+      let less = s .below (p - 1) (omega (arith, split-after)) in
+      record { within = inside; greatest = greatest-is needle l (p - 1) inside (omega (arith, less)) least }
     where
       least : (j : ℕ) → j < length l → getD l j 0 ≤ needle → getD l j 0 ≤ getD l (p - 1) 0
       least j h r = go (le-or-lt p j)
@@ -192,6 +194,13 @@ place-is (x ∷ l) c zero h e f = rw (eq-eqb x c e)
 place-is (x ∷ l) c (suc p) h e f =
     rw (ne-eqb x c (f 0 (omega arith))) (ap suc (place-is l c p (le-of-suc-le-suc h) e (λ k i. f (suc k) (omega arith))))
 
+-- in a list that doesn't fall it is where another index stands in front
+pub start-is : (l : List ℕ) (p : ℕ) → falls l ≡ false → p < length l → (0 < p → getD l (p - 1) 0 ≡ getD l p 0 → ⊥) → p ≡ placeIn l (getD l p 0)
+start-is l p f h other =
+    sym
+    (place-is l (getD l p 0) p h refl
+    (λ k i e. other (omega arith) (omega (arith, rising l f k (p - 1) (omega arith) (omega arith), rising l f (p - 1) p (omega arith) h))))
+
 -- the first of all places that have it
 pub place-first : (l : List ℕ) (c k : ℕ) → k < length l → getD l k 0 ≡ c → (placeIn l c ≤ k) × (getD l (placeIn l c) 0 ≡ c)
 unfolding placeIn
@@ -204,17 +213,17 @@ place-first (x ∷ l) c (suc k) h e = go (eqb x c) refl (place-first l c k (le-o
     go false q i = (omega arith, i .1)
 
 -- where a search for an index of the list ends
-pub split-first : {g : ℕ} {l : List ℕ} {p : ℕ} → falls l ≡ false → Split g l p → (k : ℕ) → k < length l → getD l k 0 ≡ g → (p < length l) × (getD l p 0 ≡ g)
+split-first : {g : ℕ} {l : List ℕ} {p : ℕ} → falls l ≡ false → Split g l p → (k : ℕ) → k < length l → getD l k 0 ≡ g → (p < length l) × (getD l p 0 ≡ g)
 split-first {g} {l} {p} f s k h e = go (le-or-lt p k)
   where
     go : (p ≤ k) ⊎ (k < p) → (p < length l) × (getD l p 0 ≡ g)
     go (inl i) = (omega arith, omega (arith, s .above p (omega arith) (omega arith), rising l f p k i h))
     go (inr i) = absurd (omega (arith, s .below k i))
 
-pub split-place : {g : ℕ} {l : List ℕ} {p : ℕ} → falls l ≡ false → Split g l p → (k : ℕ) → k < length l → getD l k 0 ≡ g → placeIn l g ≡ p
+pub split-place : {g : ℕ} {l : List ℕ} {p : ℕ} → falls l ≡ false → Split g l p → (k : ℕ) → k < length l → getD l k 0 ≡ g → p ≡ placeIn l g
 split-place {g} {l} {p} f s k h e =
     let first = split-first f s k h e in
-    place-is l g p (first .0) (first .1) (λ j i n. omega (arith, s .below j i))
+    sym (place-is l g p (first .0) (first .1) (λ j i n. omega (arith, s .below j i)))
 
 -- ---- the index at a place
 

@@ -1,10 +1,11 @@
-// Look up: which entries a cursor at a time index stands on.
+// The entries that hold at a time index.
 ghost use mathlib.Core.Path.{_≡_};
 ghost use mathlib.Core.Bool.{false};
-ghost use Prim.Native.Nat.{_≤_};
-ghost use lib.ListN.{length, drop};
-ghost use Rattle.signal.specs.Offset.{falls as Offset·falls, greatest as Offset·greatest, runOf, headOf, placeOf, lookUp, offsetOf};
-ghost use Rattle.signal.specs.Search.{Split, Reached};
+ghost use Prim.Native.Nat.{_≤_, _<_};
+ghost use lib.ListN.{length, getD, drop};
+ghost use Rattle.value.specs.Level.{placeIn};
+ghost use Rattle.signal.specs.Offset.{falls, runOf, headOf, placeOf, lookUp, offsetOf};
+ghost use Rattle.signal.specs.Search.{Split, Reached, Nearest};
 use crate::DataOffset;
 use crate::NextIndex;
 use crate::OffsetAnswer;
@@ -14,7 +15,7 @@ const MAX_ENTRIES: usize = 1048576;
 
 // Whether an index is below the one before it. Every pair is compared, since a scan that can end early is not vectorised.
 pub fn falls(indices: &[u32]) -> bool
-    ensures { λ r. ⌜ r ≡ Offset·falls (now (indices .entry)) ⌝ }
+    ensures { λ r. ⌜ r ≡ falls (now (indices .entry)) ⌝ }
 {
     let mut fell = false;
     let mut i = 0;
@@ -38,7 +39,7 @@ fn get(indices: &[u32], place: usize) -> NextIndex
 
 // The first place whose index is not below the needle.
 fn binary_search(indices: &[u32], needle: u32) -> usize
-    requires { ⌜ Offset·falls (now indices) ≡ false ⌝ }
+    requires { ⌜ falls (now indices) ≡ false ⌝ }
     ensures { λ r. ⌜ Split needle (now (indices .entry)) r ⌝ }
 {
     let mut lower_idx = 0;
@@ -54,16 +55,29 @@ fn binary_search(indices: &[u32], needle: u32) -> usize
     lower_idx
 }
 
-// The greatest index not above the needle.
-fn greatest(indices: &[u32], needle: u32) -> u32
+// A place of the greatest index not above the needle.
+fn find_not_above(indices: &[u32], needle: u32) -> usize
     requires { ⌜ Reached needle (now indices) ⌝ }
-    ensures { λ r. ⌜ r ≡ Offset·greatest needle (now (indices .entry)) ⌝ }
+    ensures { λ r. ⌜ Nearest needle (now (indices .entry)) r ⌝ }
 {
     let place = binary_search(indices, needle);
     if place < indices.len() && indices[place] == needle {
-        return needle;
+        return place;
     }
-    indices[place - 1]
+    place - 1
+}
+
+// The first place of the index at a place. Most runs are short; a long one is searched, since a walk back takes as long as the run.
+fn find_start(indices: &[u32], place: usize) -> usize
+    requires { ⌜ falls (now indices) ≡ false ⌝ }
+    requires { ⌜ place < length (now indices) ⌝ }
+    ensures { λ r. ⌜ r ≡ placeIn (now (indices .entry)) (getD (now (indices .entry)) place 0) ⌝ }
+{
+    let index = indices[place];
+    if place == 0 || indices[place - 1] != index {
+        return place;
+    }
+    binary_search(indices, index)
 }
 
 // The number of entries from `start` on that carry the index.
@@ -83,13 +97,14 @@ fn run_length(indices: &[u32], start: usize, index: u32) -> usize
     }
 }
 
+// The entries that carry the greatest index not above the needle, of which there is one.
 fn find_offset_from_time_table_idx(indices: &[u32], needle: u32) -> DataOffset
     requires { ⌜ Reached needle (now indices) ⌝ }
     ensures { λ r. ⌜ r ≡ placeOf needle (now (indices .entry)) ⌝ }
 {
-    let index = greatest(indices, needle);
-    // a second search, since a walk back over the run is as long as the run
-    let start = binary_search(indices, index);
+    let place = find_not_above(indices, needle);
+    let index = indices[place];
+    let start = find_start(indices, place);
     let elements = run_length(indices, start, index);
     let next_index = get(indices, start + elements);
     DataOffset {
@@ -100,7 +115,7 @@ fn find_offset_from_time_table_idx(indices: &[u32], needle: u32) -> DataOffset
     }
 }
 
-// The entries of the greatest index not above the sought one.
+// Look up: `Nothing` for an empty list and for one whose first index is above the sought one.
 pub fn get_offset(indices: &[u32], time_table_idx: u32) -> OffsetAnswer
     ensures { λ r. ⌜ offsetOf r ≡ lookUp (now (indices .entry)) «time_table_idx» ⌝ }
 {

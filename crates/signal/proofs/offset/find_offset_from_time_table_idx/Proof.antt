@@ -1,61 +1,77 @@
 -- `signal::offset::find_offset_from_time_table_idx` meets its contract.
 -- Assumes nothing.
+use mathlib.Core.Path.{refl}
+use Prim.Native.Nat.{_≤_}
 use native.Mathlib.Omega.{arith}
 use borrow.Author.Needs.{needs}
-use lib.ListN.{drop, length-drop}
-use Rattle.signal.proofs.Search.{run-within}
+use lib.ListN.{length, getD, drop, length-drop}
+use Rattle.signal.proofs.Search.{place-first, run-within}
 use Rattle.signal.proofs.Offsets.{place-found}
 use Rattle.signal.proofs.offset.find_offset_from_time_table_idx.Statement.{statement}
 use Rattle.signal.proofs.offset.find_offset_from_time_table_idx.Tie as tie
 
-greatest-requires : tie.Need-greatest-requires
-greatest-requires c κs = search needs
+find-not-above-requires : tie.Need-find-not-above-requires
+find-not-above-requires c κs = search needs
 
-binary-search-requires : tie.Need-binary-search-requires
-binary-search-requires c κs = search needs
+mul-index : tie.Need-mul-index
+mul-index c = search needs
+
+shared-slice-read-index : tie.Need-shared-slice-read-index
+shared-slice-read-index c = search needs
+
+find-start-requires : tie.Need-find-start-requires
+find-start-requires c κs = search needs
+
+-- the run starts in the list
+within : (c : tie.After-find-start) → c .find-start .result ≤ length (c .before .before .before .before .args .indices .now)
+within c =
+    let at-search = c .before .before in
+    let l = at-search .before .before .args .indices .now in
+    let place = at-search .find-not-above .result in
+    let inside = at-search .find-not-above .ensures .within in
+    omega (arith, c .find-start .ensures, inside, place-first l (getD l place 0) place inside refl .0)
 
 run-length-requires : tie.Need-run-length-requires
-run-length-requires c κs = search needs
+run-length-requires c κs = within c
 
 add-get : tie.Need-add-get
 add-get c =
-    let at-search = c .before in
-    let l = at-search .before .before .before .args .indices .now in
-    let rest = drop (at-search .binary-search .result) l in
-    omega (
-      arith,
-      c .run-length .ensures,
-      at-search .binary-search .ensures .within,
-      run-within (at-search .before .greatest .result) rest,
-      length-drop (at-search .binary-search .result) l,
-    )
+    let at-start = c .before in
+    let at-search = at-start .before .before in
+    let l = at-search .before .before .args .indices .now in
+    let start = at-start .find-start .result in
+    let run = run-within (getD l (at-search .find-not-above .result) 0) (drop start l) in
+    omega (arith, c .run-length .ensures, within at-start, run, length-drop start l)
 
 get-requires : tie.Need-get-requires
 get-requires c κs = search needs
 
-cast-t8 : tie.Need-cast-t8
-cast-t8 c = search needs
+cast-t11 : tie.Need-cast-t11
+cast-t11 c = search needs
 
 returns : tie.Need-returns
 returns c =
-    let at-run = c .before in
-    let at-search = at-run .before in
-    let at-greatest = at-search .before in
+    let at-start = c .before .before in
+    let at-search = at-start .before .before in
+    let a = at-search .before .before .args in
     place-found
-    (at-greatest .before .before .pre)
-    (at-greatest .greatest .ensures)
-    (at-search .binary-search .ensures)
-    (at-run .run-length .ensures)
+    (a .needle)
+    (a .indices .now)
+    (at-search .find-not-above .ensures .greatest)
+    (at-start .find-start .ensures)
+    (c .before .run-length .ensures)
     (c .get .ensures)
 
 pub find-offset-from-time-table-idx-spec : {M : Type 1} → statement M
 find-offset-from-time-table-idx-spec =
     tie.close
     (tie.spec
-    greatest-requires
-    binary-search-requires
+    find-not-above-requires
+    mul-index
+    shared-slice-read-index
+    find-start-requires
     run-length-requires
     add-get
     get-requires
-    cast-t8
+    cast-t11
     returns)

@@ -1,4 +1,4 @@
--- `signal::offset::greatest` meets its contract.
+-- `signal::offset::find_not_above` meets its contract.
 -- Assumes nothing.
 use mathlib.Core.Path.{_≡_}
 use mathlib.Core.Logic.{⊎-elim}
@@ -8,8 +8,8 @@ use borrow.Author.Needs.{needs}
 use borrow.Author.Tests.{eqb-true, eqb-false}
 use lib.ListN.{length, getD}
 use Rattle.signal.proofs.Search.{split-match, split-after, split-before}
-use Rattle.signal.proofs.offset.greatest.Statement.{statement}
-use Rattle.signal.proofs.offset.greatest.Tie as tie
+use Rattle.signal.proofs.offset.find_not_above.Statement.{statement}
+use Rattle.signal.proofs.offset.find_not_above.Tie as tie
 
 binary-search-requires : tie.Need-binary-search-requires
 binary-search-requires c κs = search needs
@@ -26,7 +26,7 @@ returns c =
     let a = at-search .before .before .args in
     split-match (a .needle) (a .indices .now) (at-search .binary-search .result) (c .before .before .if1 .taken) (eqb-true _ _ (c .if2 .taken))
 
--- no match stands where the search ended
+-- the needle isn't where the search ended
 other : (c : tie.Joined1) →
     let a = c .before .before .before .args in
     let place = c .before .binary-search .result in
@@ -36,26 +36,10 @@ other c h e = ⊎-elim (λ w. eqb-false _ _ (w .2 .left) e) (λ w. omega (arith,
 sub-result : tie.Need-sub-result
 sub-result c = split-after (c .before .before .before .pre) (c .before .binary-search .ensures) (other c)
 
-mul-result : tie.Need-mul-result
-mul-result c = search needs
-
-shared-slice-read-result : tie.Need-shared-slice-read-result
-shared-slice-read-result c = search needs
-
 returns-2 : tie.Need-returns-2
-returns-2 c =
-    let at-search = c .before .before in
-    split-before (at-search .before .before .pre) (at-search .binary-search .ensures) (other (c .before))
+returns-2 c = split-before (c .before .before .before .pre) (c .before .binary-search .ensures) (other c)
 
-pub greatest-spec : {M : Type 1} → statement M
-greatest-spec =
+pub find-not-above-spec : {M : Type 1} → statement M
+find-not-above-spec =
     tie.close
-    (tie.spec
-    binary-search-requires
-    mul-if2
-    shared-slice-read-if2
-    returns
-    sub-result
-    mul-result
-    shared-slice-read-result
-    returns-2)
+    (tie.spec binary-search-requires mul-if2 shared-slice-read-if2 returns sub-result returns-2)

@@ -1,0 +1,59 @@
+-- `signal::offset::find_start` meets its contract.
+-- Assumes nothing.
+use mathlib.Core.Path.{_≡_, refl}
+use mathlib.Core.Logic.{⊎-elim}
+use Prim.Native.Nat.{_<_, _-_}
+use native.Mathlib.Omega.{arith}
+use borrow.Author.Needs.{needs}
+use borrow.Author.Tests.{eqb-false, not-true}
+use lib.ListN.{getD}
+use Rattle.signal.proofs.Search.{start-is, split-place}
+use Rattle.signal.proofs.offset.find_start.Statement.{statement}
+use Rattle.signal.proofs.offset.find_start.Tie as tie
+
+mul-index : tie.Need-mul-index
+mul-index c = search needs
+
+shared-slice-read-index : tie.Need-shared-slice-read-index
+shared-slice-read-index c = search needs
+
+sub-if2 : tie.Need-sub-if2
+sub-if2 c = search needs
+
+mul-if2 : tie.Need-mul-if2
+mul-if2 c = search needs
+
+shared-slice-read-if2 : tie.Need-shared-slice-read-if2
+shared-slice-read-if2 c = search needs
+
+-- another index stands in front of the place
+other : (c : tie.Joined1) →
+    let a = c .before .before .before .args in
+    0 < a .place → getD (a .indices .now) (a .place - 1) 0 ≡ getD (a .indices .now) (a .place) 0 → ⊥
+other c h e = ⊎-elim (λ w. omega (arith, w .taken)) (λ w. eqb-false _ _ (not-true _ (w .2 .taken)) e) (c .if1 .came)
+
+returns : tie.Need-returns
+returns c =
+    let at-start = c .before .before .before in
+    start-is (at-start .args .indices .now) (at-start .args .place) (at-start .pre .0) (at-start .pre .1) (other c)
+
+binary-search-requires : tie.Need-binary-search-requires
+binary-search-requires c κs = search needs
+
+returns-2 : tie.Need-returns-2
+returns-2 c =
+    let at-start = c .before .before .before .before .before .before in
+    split-place (at-start .pre .0) (c .binary-search .ensures) (at-start .args .place) (at-start .pre .1) refl
+
+pub find-start-spec : {M : Type 1} → statement M
+find-start-spec =
+    tie.close
+    (tie.spec
+    mul-index
+    shared-slice-read-index
+    sub-if2
+    mul-if2
+    shared-slice-read-if2
+    returns
+    binary-search-requires
+    returns-2)
