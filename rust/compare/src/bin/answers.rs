@@ -1,14 +1,19 @@
-//! `answers write --seed S --count N FILE` stores answers, `answers replay FILE` puts the oracle to them.
+//! `answers write --seed S --count N FILE` stores answers, `answers replay FILE` puts the oracle to them, and `answers equations FILE OUT`
+//! writes them as equations that the Rattle checker computes over the definitions.
 
 use std::process::ExitCode;
 
-const USAGE: &str = "usage: answers write --seed S --count N FILE | answers replay FILE";
+const USAGE: &str = "usage: answers write --seed S --count N FILE | answers replay FILE | answers equations FILE OUT";
+
+/// Longer lines hold wide records, which the checker computes slowly.
+const LONGEST: usize = 4_200;
 
 fn main() -> ExitCode {
     let arguments: Vec<String> = std::env::args().skip(1).collect();
     let result = match arguments.split_first() {
         Some((verb, rest)) if verb == "write" => write(rest),
         Some((verb, [file])) if verb == "replay" => replay(file),
+        Some((verb, [file, out])) if verb == "equations" => equations(file, out),
         _ => Err(USAGE.to_string()),
     };
     match result {
@@ -70,4 +75,12 @@ fn replay(file: &str) -> Result<String, String> {
     let text = std::fs::read_to_string(file).map_err(|error| format!("{file}: {error}"))?;
     let answers = compare::stored::replay(&text).map_err(|error| format!("{file}, {error}"))?;
     Ok(format!("{answers} answers replayed, all as stored"))
+}
+
+fn equations(file: &str, out: &str) -> Result<String, String> {
+    let text = std::fs::read_to_string(file).map_err(|error| format!("{file}: {error}"))?;
+    compare::stored::replay(&text).map_err(|error| format!("{file}, {error}"))?;
+    let (module, equations) = compare::stored::equations::module(&text, LONGEST)?;
+    std::fs::write(out, module).map_err(|error| format!("{out}: {error}"))?;
+    Ok(format!("{equations} answers written as equations"))
 }

@@ -2,6 +2,7 @@
 
 #[cfg(wellen)]
 pub mod choose;
+pub mod equations;
 mod format;
 mod parse;
 
