@@ -1,13 +1,11 @@
 -- The laws of an entry: its size and bytes, what it says of its own set and levels, and that widening writes it under the larger set.
 -- Assumes nothing.
 use mathlib.Core.Path.{_≡_, refl, sym, ap, ap₂, _∙_}
-use Prim.Native.Nat.{ℕ, zero, suc, _+_, _-_, _*_, _^_, _/_, _%_, _≤_, _<_}
+use Prim.Native.Nat.{ℕ, suc, _+_, _-_, _*_, _^_, _/_, _%_, _≤_, _<_}
 use native.Mathlib.Nat.{zero-mul, zero-add, add-zero, add-comm, mul-assoc, mul-comm, mul-le-mul-left, lt-of-lt-of-le, div-eq-of-lt, div-lt-iff-lt-mul, pow-suc, add-mul-div-right, mod-eq-of-lt, pow-le-pow-right}
 use native.Mathlib.Omega.{arith}
-use mathlib.Core.Bool.{Bool, true, false, cond}
-use mathlib.Core.List.{List, [], _∷_, _++_}
-use borrow.Author.Tests.{eqb-true, eqb-false}
-use lib.Dec.{eqb}
+use mathlib.Core.Bool.{Bool, true, false}
+use mathlib.Core.List.{List, _∷_, _++_}
 use lib.Arith.{digits-lt, digits-div, digits-mod}
 use lib.Pow.{pow-add, pow-mono}
 use lib.ListN.{length, drop, getD, replicate}

@@ -1,7 +1,7 @@
 -- Laws of entries that are laid out anew in place: one entry's move, the entries from the last to the first, and that this is widening.
 -- Assumes nothing.
 use mathlib.Core.Path.{_≡_, refl, sym, ap, ap₂, _∙_}
-use Prim.Native.Nat.{ℕ, zero, suc, _+_, _-_, _*_, _%_, _≤_, _<_}
+use Prim.Native.Nat.{ℕ, zero, suc, _+_, _-_, _*_, _≤_, _<_}
 use native.Mathlib.Nat.{suc-mul, add-zero, add-assoc, zero-mul, mul-le-mul-left, mul-le-mul-right, sub-self, sub-zero, mod-eq-of-lt}
 use native.Mathlib.Numerals.{add-one}
 use native.Mathlib.Omega.{arith}
@@ -16,10 +16,10 @@ use Rattle.value.specs.Slice.{part, overlay}
 use Rattle.value.specs.Level.{markOf, lenOf}
 use Rattle.value.proofs.Digits.{Below, below-at, below-take, below-drop}
 use Rattle.value.proofs.Slices.{part-length, part-at, overlay-nil}
-use Rattle.value.proofs.Backward.{take-part, drop-part, part-before, overlay-front, store-front}
+use Rattle.value.proofs.Backward.{part-cons, take-part, drop-part, part-before, overlay-front, store-front, store-first}
 use Rattle.fst.specs.declared.expand.Widening.{Widening}
 use Rattle.fst.specs.Entry.{hasMeta, entrySize, markByte, unmarked, levelBytes, widenEntry, widenAll}
-use Rattle.fst.specs.Expand.{markBits, levelBits, wideningOf, levelsMoved, moved, Grows, Movable}
+use Rattle.fst.specs.Expand.{markBits, levelBits, wideningOf, levelsMoved, moved, Grows}
 use Rattle.fst.proofs.Sizes.{size-by, size-up, len-le, len-pos, mark-room, widen-moved}
 
 -- ---- one entry
@@ -43,7 +43,7 @@ module _ (m : Widening) (grows : Grows m) where
 
   -- the level bytes, the first of them, the zeros, the mark, in this order
   pub entry-moved : (d d₁ d₂ : List ℕ) (p q : ℕ) → p ≤ q → q + m .«to_size» ≤ length d
-      → d₁ ≡ overlay d (q + (m .«to_size» - m .len) + 1) (part (p + (m .«from_size» - m .len) + 1) (m .len - 1) d)
+      → d₁ ≡ overlay d (q + (m .«to_size» - m .len)) (part (p + (m .«from_size» - m .len)) (m .len) d)
       → d₂ ≡ overlay (set d₁ (q + (m .«to_size» - m .len)) (bitAnd (getD d (p + (m .«from_size» - m .len)) 0) (m .«level_bits»))) (q + 1) (replicate (m .«to_size» - 1 - m .len) 0)
       → set d₂ q (bitAnd (getD d p 0) (m .«mark_bits»)) ≡ overlay d q (moved m (part p (m .«from_size») d))
   unfolding moved
@@ -57,7 +57,10 @@ module _ (m : Widening) (grows : Grows m) where
       let l : List ℕ = part (i + 1) (m .len - 1) d in
       let s : length l ≡ m .len - 1 = part-length d (i + 1) (m .len - 1) (omega arith) in
       let t : length (replicate z 0 ++ (x ∷ l)) ≡ z + suc (length l) = rw (length-append, length-replicate) in
-      let a : set d₁ j x ≡ overlay d j (x ∷ l) = ap (λ (u : List ℕ). set u j x) e₁ ∙ store-front d l j (j + 1) x refl (omega arith) in
+      let n : m .len ≡ suc (m .len - 1) = omega arith in
+      let a : set d₁ j x ≡ overlay d j (x ∷ l)
+      = ap (λ (u : List ℕ). set u j x) (e₁ ∙ ap (overlay d j) (ap (λ (k : ℕ). part i k d) n ∙ part-cons d i (m .len - 1) 0 (omega arith)))
+      ∙ store-first d l j (getD d i 0) x (omega arith) in
       let b : d₂ ≡ overlay d (q + 1) (replicate z 0 ++ (x ∷ l))
       = e₂ ∙ ap (λ (u : List ℕ). overlay u (q + 1) (replicate z 0)) a
       ∙ overlay-front d (q + 1) (replicate z 0) (x ∷ l) j (rw length-replicate (omega arith)) (omega arith) in

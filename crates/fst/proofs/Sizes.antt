@@ -1,13 +1,13 @@
 -- The size of an entry, and of what widening makes of any bytes.
 -- Assumes nothing.
 use mathlib.Core.Path.{_≡_, refl, sym, ap, ap₂, _∙_}
-use Prim.Native.Nat.{ℕ, zero, suc, _+_, _-_, _*_, _/_, _%_, _≤_, _<_}
+use Prim.Native.Nat.{ℕ, zero, suc, _+_, _-_, _*_, _%_, _≤_, _<_}
 use native.Mathlib.Nat.{zero-mul, suc-mul}
 use native.Mathlib.Omega.{arith}
 use mathlib.Core.Bool.{Bool, true, false, cond, true≢false}
 use mathlib.Core.List.{List, [], _∷_, _++_}
 use borrow.Author.Tests.{eqb-false, eq-eqb, ne-eqb}
-use lib.ListN.{length, take, drop, getD, replicate, length-append, length-drop, length-replicate, take-append-drop}
+use lib.ListN.{length, take, drop, replicate, length-append, length-drop, length-replicate, take-append-drop}
 use lib.Seq.{length-take-le}
 use Rattle.value.specs.declared.States.{States}
 use Rattle.value.specs.declared.States.the-variants.{Two, Four, Nine}

@@ -50,7 +50,7 @@ pub fn entry_size(states: States, bits: u32) -> usize
 }
 
 // Stores zeros from a place on. Returns the place behind them.
-fn push_zeros(out: &mut [u8], from: usize, count: usize) -> usize
+pub fn push_zeros(out: &mut [u8], from: usize, count: usize) -> usize
     requires { ⌜ from + count ≤ length (now out) ⌝ }
     ensures { λ r. ⌜ (r ≡ from + count) × (now (out .exit) ≡ overlay (now (out .entry)) from (replicate count 0)) ⌝ }
 {

@@ -1,16 +1,19 @@
 // Earlier entries laid out anew when the largest set rises: `expand_entries` of wellen's src/fst.rs, in place.
 ghost use mathlib.Core.Path.{_≡_};
-ghost use Prim.Native.Nat.{_+_, _*_, _≤_};
-ghost use lib.ListN.{length, replicate};
+ghost use Prim.Native.Nat.{_*_};
+ghost use lib.ListN.{length};
 ghost use Rattle.value.specs.Slice.{part, overlay};
-ghost use Rattle.value.specs.Level.{markOf};
 ghost use Rattle.fst.specs.Entry.{entrySize, widenAll};
 ghost use Rattle.fst.specs.Expand.{markBits, levelBits, wideningOf, moved, Movable, Widenable};
+use crate::bytes::move_up;
 use crate::entry::entry_size;
 use crate::entry::get_len_and_meta;
+use crate::entry::push_zeros;
 use value::States;
 
 const META_MASK: u8 = 192;
+
+const LEVEL_MASK: u8 = 63;
 
 // What the sets and the width say of each entry's move: its sizes, its level bytes, and the bits of a mark in its first byte and of
 // levels in its first level byte.
@@ -37,8 +40,14 @@ fn mark_bits(states: States) -> u8
 fn level_bits(states: States, has_meta: bool) -> u8
     ensures { λ r. ⌜ r ≡ levelBits «has_meta» states ⌝ }
 {
-    let mark = mark_bits(states);
-    if has_meta { 255 } else { 255 - mark }
+    if has_meta {
+        return 255;
+    }
+    match states {
+        States::Two => 255,
+        States::Four => LEVEL_MASK,
+        States::Nine => LEVEL_MASK,
+    }
 }
 
 fn get_widening(from: States, to: States, bits: u32) -> Widening
@@ -58,29 +67,6 @@ fn get_widening(from: States, to: States, bits: u32) -> Widening
     }
 }
 
-// Moves n bytes from p to q, which is not before p: the last byte first.
-fn move_up(data: &mut [u8], p: usize, q: usize, n: usize)
-    requires { ⌜ (p ≤ q) × (q + n ≤ length (now «data»)) ⌝ }
-    ensures { λ _. ⌜ now («data» .exit) ≡ overlay (now («data» .entry)) q (part p n (now («data» .entry))) ⌝ }
-{
-    let mut left = n;
-    while 0 < left {
-        left -= 1;
-        data[q + left] = data[p + left];
-    }
-}
-
-fn put_zeros(data: &mut [u8], start: usize, count: usize)
-    requires { ⌜ start + count ≤ length (now «data») ⌝ }
-    ensures { λ _. ⌜ now («data» .exit) ≡ overlay (now («data» .entry)) start (replicate count 0) ⌝ }
-{
-    let mut i = 0;
-    while i < count {
-        data[start + i] = 0;
-        i += 1;
-    }
-}
-
 // Lays the entry at p out at q, from its last byte to its first. Where they overlap, what is written has been read.
 fn expand_entry(widening: Widening, data: &mut [u8], p: usize, q: usize)
     requires { ⌜ Movable widening p q (length (now «data»)) ⌝ }
@@ -90,12 +76,13 @@ fn expand_entry(widening: Widening, data: &mut [u8], p: usize, q: usize)
     let at = q + (widening.to_size - widening.len);
     let mark = data[p] & widening.mark_bits;
     let level = data[first] & widening.level_bits;
-    move_up(data, first + 1, at + 1, widening.len - 1);
+    move_up(data, first, at, widening.len);
     data[at] = level;
-    put_zeros(data, q + 1, widening.to_size - 1 - widening.len);
+    push_zeros(data, q + 1, widening.to_size - 1 - widening.len);
     data[q] = mark;
 }
 
+// From the last entry to the first: no entry is written over before it is moved.
 pub fn expand_entries(
     from: States,
     to: States,
@@ -113,14 +100,10 @@ pub fn expand_entries(
     if from_size == to_size {
         return;
     }
-    let mut left = entries;
-    while 0 < left {
-        left -= 1;
-        expand_entry(
-            widening,
-            data,
-            start + left * from_size,
-            start + left * to_size,
-        );
+    let mut done = 0;
+    while done < entries {
+        done += 1;
+        let k = entries - done;
+        expand_entry(widening, data, start + k * from_size, start + k * to_size);
     }
 }

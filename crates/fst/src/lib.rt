@@ -3,6 +3,7 @@ ghost use mathlib.Core.Path.{_≡_};
 ghost use Rattle.fst.specs.Refusal.{number, numberOf};
 use value::States;
 
+pub mod bytes;
 pub mod entry;
 pub mod expand;
 pub mod record;

@@ -1,16 +1,16 @@
 -- Laws of lent slices that are written from the back: what stands before a part, and a part or a store in front of one.
 -- Assumes nothing.
-use mathlib.Core.Path.{_≡_, refl, sym, ap, ap₂, _∙_}
-use mathlib.Core.List.{List, [], _∷_, _++_, append-assoc}
-use Prim.Native.Nat.{ℕ, zero, suc, _+_, _-_, _≤_, _<_}
-use native.Mathlib.Nat.{add-assoc}
+use mathlib.Core.Path.{_≡_, sym, ap, ap₂, _∙_}
+use mathlib.Core.List.{List, [], _∷_, _++_, append-assoc, append-nil}
+use Prim.Native.Nat.{ℕ, suc, _+_, _-_, _≤_, _<_}
+use native.Mathlib.Nat.{add-assoc, zero-add, add-zero, sub-zero}
 use native.Mathlib.Numerals.{add-one}
 use native.Mathlib.Omega.{arith}
-use lib.ListN.{length, take, drop, getD, set, length-append, length-take, length-drop, take-append-drop, List·getD-append}
-use lib.Seq.{take-append-le, drop-append-le, take-take, take-at, drop-at, drop-cons, getD-take, length-take-le}
+use lib.ListN.{length, take, drop, getD, set, length-append, length-drop, take-append-drop}
+use lib.Seq.{set-at, take-append-le, drop-append-le, take-take, take-at, drop-at, drop-cons, drop-length, length-take-le}
 use Rattle.value.specs.Slice.{part, overlay}
 use Rattle.value.proofs.Digits.{Below, below-take, below-drop}
-use Rattle.value.proofs.Slices.{part-length, part-add, overlay-length, overlay-one}
+use Rattle.value.proofs.Slices.{part-length, part-add, part-nil, overlay-length, overlay-one, overlay-store}
 
 pub below-part : (B : ℕ) (ds : List ℕ) → Below B ds → (start n : ℕ) → Below B (part start n ds)
 unfolding part
@@ -47,11 +47,6 @@ module _ {A : Type 0} where
       ∙ sym (front (take start l) (drop start l) p n e)
       ∙ ap (part p n) (take-append-drop start l)
 
-  pub at-before : (l new : List A) (start i : ℕ) (d : A) → i < start → start ≤ length l → getD (overlay l start new) i d ≡ getD l i d
-  unfolding overlay
-  at-before l new start i d h k =
-      List·getD-append (take start l) (new ++ drop (start + length new) l) d i (rw (length-take-le start l k) h) ∙ getD-take start l i d h
-
   -- ---- a part in front of a part
 
   pub overlay-front : (l : List A) (start : ℕ) (xs ys : List A) (n : ℕ) → start + length xs ≡ n → n ≤ length l
@@ -75,14 +70,54 @@ module _ {A : Type 0} where
       sym (overlay-one (overlay l n ys) start v (rw (overlay-length l ys n h) (omega arith)))
       ∙ overlay-front l start (v ∷ []) ys n e (omega arith)
 
-  -- a turn of a loop that moves n elements from p to q, the last one first
-  pub moved-more : (l : List A) (p q n k : ℕ) (d : A) → p ≤ q → q + n ≤ length l → k < n
+  -- a store at a part's first place
+  pub store-first : (l xs : List A) (start : ℕ) (x v : A) → start ≤ length l → set (overlay l start (x ∷ xs)) start v ≡ overlay l start (v ∷ xs)
+  unfolding overlay
+  store-first l xs start x v h = set-at (take start l) x (xs ++ drop (start + suc (length xs)) l) v start (length-take-le start l h)
+
+  -- ---- elements moved within a list
+
+  -- n elements from p are moved to q, which is not before p, the last ones first: all but the first k + b, and then b more
+  pub moved-more : (l : List A) (p q n k b : ℕ) → p ≤ q → q + n ≤ length l → k + b ≤ n
+      → overlay (overlay l (q + (k + b)) (part (p + (k + b)) (n - (k + b)) l)) (q + k) (part (p + k) b (overlay l (q + (k + b)) (part (p + (k + b)) (n - (k + b)) l)))
+      ≡ overlay l (q + k) (part (p + k) (n - k) l)
+  moved-more l p q n k b o h i =
+      let ys : List A = part (p + (k + b)) (n - (k + b)) l in
+      let e : n - k ≡ b + (n - (k + b)) = omega arith in
+      let s : length (part (p + k) b l) ≡ b = part-length l (p + k) b (omega arith) in
+      ap (overlay (overlay l (q + (k + b)) ys) (q + k)) (part-before l ys (q + (k + b)) (p + k) b (omega arith) (omega arith))
+      ∙ overlay-front l (q + k) (part (p + k) b l) ys (q + (k + b)) (rw s (omega arith)) (omega arith)
+      ∙ ap (overlay l (q + k)) (rw (e, part-add l (p + k) b (n - (k + b)), add-assoc p k b))
+
+  -- and then all that are left
+  pub moved-rest : (l : List A) (p q n r : ℕ) → p ≤ q → q + n ≤ length l → r ≤ n
+      → overlay (overlay l (q + r) (part (p + r) (n - r) l)) q (part p r (overlay l (q + r) (part (p + r) (n - r) l))) ≡ overlay l q (part p n l)
+  moved-rest l p q n r o h i = simp (zero-add, add-zero, sub-zero) at (moved-more l p q n 0 r o h (omega arith))
+
+  -- the same with a store for one element
+  pub moved-one : (l : List A) (p q n k : ℕ) (d : A) → p ≤ q → q + n ≤ length l → k + 1 ≤ n
       → set (overlay l (q + (k + 1)) (part (p + (k + 1)) (n - (k + 1)) l)) (q + k) (getD (overlay l (q + (k + 1)) (part (p + (k + 1)) (n - (k + 1)) l)) (p + k) d)
       ≡ overlay l (q + k) (part (p + k) (n - k) l)
-  moved-more l p q n k d o h i =
+  moved-one l p q n k d o h i =
       let ys : List A = part (p + (k + 1)) (n - (k + 1)) l in
+      let u : List A = overlay l (q + (k + 1)) ys in
       let s : length ys ≡ n - (k + 1) = part-length l (p + (k + 1)) (n - (k + 1)) (omega arith) in
-      let e : n - k ≡ suc (n - (k + 1)) = omega arith in
-      ap (set (overlay l (q + (k + 1)) ys) (q + k)) (at-before l ys (q + (k + 1)) (p + k) d (omega arith) (omega arith))
-      ∙ store-front l ys (q + k) (q + (k + 1)) (getD l (p + k) d) (omega arith) (omega arith)
-      ∙ ap (overlay l (q + k)) (rw (e, part-cons l (p + k) (n - (k + 1)) d (omega arith), add-assoc p k 1))
+      let t : length u ≡ length l = overlay-length l ys (q + (k + 1)) (omega arith) in
+      sym (overlay-one u (q + k) (getD u (p + k) d) (omega arith))
+      ∙ ap (overlay u (q + k)) (sym (part-cons u (p + k) 0 d (omega arith) ∙ ap (λ (r : List A). getD u (p + k) d ∷ r) (part-nil u (p + k + 1))))
+      ∙ moved-more l p q n k 1 o h i
+
+  -- ---- elements copied from another list, the first one first
+
+  pub copied-more : (l s : List A) (start p i : ℕ) (d : A) → start + i < length l → p + i < length s
+      → set (overlay l start (part p i s)) (start + i) (getD s (p + i) d) ≡ overlay l start (part p (i + 1) s)
+  copied-more l s start p i d h k =
+      let n : length (part p i s) ≡ i = part-length s p i (omega arith) in
+      overlay-store l start (part p i s) (start + i) (getD s (p + i) d) (rw n) h
+      ∙ ap (overlay l start)
+      (sym (part-add s p i 1 ∙ ap (λ (r : List A). part p i s ++ r) (part-cons s (p + i) 0 d k ∙ ap (λ (r : List A). getD s (p + i) d ∷ r) (part-nil s (p + i + 1)))))
+
+  -- over the whole list
+  pub overlay-whole : (l new : List A) → length new ≡ length l → overlay l 0 new ≡ new
+  unfolding overlay
+  overlay-whole l new e = rw (zero-add, e, drop-length, append-nil)

@@ -2,7 +2,7 @@
 use mathlib.Core.Path.{_≡_, refl, sym, ap, subst, _∙_}
 use mathlib.Core.List.{List}
 use Prim.Native.Nat.{ℕ, _+_, _-_, _*_, _≤_}
-use native.Mathlib.Nat.{mul-le-mul-left}
+use native.Mathlib.Nat.{mul-le-mul-left, sub-zero}
 use native.Mathlib.Omega.{arith}
 use borrow.Author.Needs.{needs}
 use denote.Ref.{now}
@@ -12,23 +12,19 @@ use Rattle.value.proofs.Digits.{Below, below-all}
 use Rattle.value.proofs.Slices.{part-length, overlay-part}
 use Rattle.value.proofs.Backward.{below-part}
 use Rattle.fst.specs.declared.expand.Widening.{Widening}
-use Rattle.fst.specs.Entry.{entrySize, widenAll}
+use Rattle.fst.specs.Entry.{entrySize}
 use Rattle.fst.specs.Expand.{wideningOf, moved, Grows}
 use Rattle.fst.proofs.Sizes.{size-up, widen-all-same}
 use Rattle.fst.proofs.Expanding.{expanded, movedAll, none-expanded, old-place, new-place, more-expanded, all-expanded, widening-grows, all-widen}
 use Rattle.fst.proofs.expand.expand_entries.Statement.{statement}
 use Rattle.fst.proofs.expand.expand_entries.Tie as tie
-use Rattle.fst.proofs.expand.expand_entries.Reads as reads
-use Rattle.fst.proofs.expand.expand_entries.Lts as lts
-use Rattle.fst.proofs.expand.expand_entry.Reads as expand-entry-reads
-use Rattle.fst.proofs.expand.get_widening.Reads as get-widening-reads
 
 abbrev Inv-loop : tie.InvT-loop
-Inv-loop data₀ start entries bits widening from-size to-size left₀ «data» left =
-    (left ≤ entries) × («data» ≡ expanded widening data₀ start entries left) × (length «data» ≡ length data₀)
+Inv-loop data₀ start entries bits widening from-size to-size done₀ «data» done =
+    (done ≤ entries) × («data» ≡ expanded widening data₀ start entries (entries - done)) × (length «data» ≡ length data₀)
 
 abbrev μ-loop : tie.MeasureT-loop
-μ-loop data₀ start entries bits widening from-size to-size left₀ «data» left = left
+μ-loop data₀ start entries bits widening from-size to-size done₀ «data» done = entries - done
 
 get-widening-requires : tie.Need-get-widening-requires Inv-loop μ-loop
 get-widening-requires c κs = search needs
@@ -71,20 +67,23 @@ module _ (e : tie.Else1 Inv-loop μ-loop) where
   room = subst (λ (m : Widening). start .args .start + start .args .entries * m .«to_size» ≤ length old) (sym known) (start .pre .room)
 
 loop-holds : tie.Need-loop-holds Inv-loop μ-loop
-loop-holds c = (omega arith, sym (none-expanded (sizes c) (grows c) (old c) _ _ (room c)), refl)
+loop-holds c = (omega arith, rw sub-zero (sym (none-expanded (sizes c) (grows c) (old c) _ _ (room c))), refl)
 
-sub-left : tie.Need-sub-left Inv-loop μ-loop
-sub-left c = omega arith
+add-done : tie.Need-add-done Inv-loop μ-loop
+add-done c = omega arith
+
+sub-k : tie.Need-sub-k Inv-loop μ-loop
+sub-k c = omega arith
 
 -- entry k's places lie in the slice
 places : (c : tie.After-expand-entry-arg Inv-loop μ-loop) →
-    let l = c .before .before .loop .left in
     let e = c .before .before .before in
-    (start e .args .start + (l - 1) * sizes e .«from_size» ≤ start e .args .start + (l - 1) * sizes e .«to_size»)
-    × (start e .args .start + (l - 1) * sizes e .«to_size» + sizes e .«to_size» ≤ length (old e))
+    let x = start e .args in
+    let k = x .entries - (c .before .before .loop .done + 1) in
+    (x .start + k * sizes e .«from_size» ≤ x .start + k * sizes e .«to_size») × (x .start + k * sizes e .«to_size» + sizes e .«to_size» ≤ length (old e))
 places c =
-    let k = c .before .before .loop .left - 1 in
     let e = c .before .before .before in
+    let k = start e .args .entries - (c .before .before .loop .done + 1) in
     (old-place (sizes e) (grows e) (old e) _ _ (room e) k (omega arith), new-place (sizes e) (grows e) (old e) _ _ (room e) k (omega arith))
 
 mul-expand-entry : tie.Need-mul-expand-entry Inv-loop μ-loop
@@ -113,8 +112,8 @@ loop-again c =
     let e = a .before in
     let x = start e .args in
     let m = sizes e in
-    let k = a .loop .left - 1 in
-    let f : a .loop .left ≡ k + 1 = omega arith in
+    let k = x .entries - (a .loop .done + 1) in
+    let f : x .entries - a .loop .done ≡ k + 1 = omega arith in
     let w = c .before .before .expand-entry in (
       omega arith,
       w .ensures
@@ -134,7 +133,7 @@ returns-2 c =
     let x = start e .args in
     let d = old e in
     let m = sizes e in
-    let z : c .before .loop .left ≡ 0 = omega arith in
+    let z : x .entries - c .before .loop .done ≡ 0 = omega arith in
     let F = entrySize (x .bits) (x .from) in
     let r : x .start + x .entries * F ≤ length d = omega (arith, start e .pre .room, mul-le-mul-left (x .entries) (size-up (x .bits) (x .from) (x .to) (start e .pre .up))) in
     let b : Below 256 d = below-all 256 d (λ i. e .before .before .slice-known .given i .fits) in
@@ -156,7 +155,8 @@ expand-entries-spec =
     get-widening-requires
     returns
     loop-holds
-    sub-left
+    add-done
+    sub-k
     mul-expand-entry
     add-expand-entry
     mul-expand-entry-2

@@ -7,10 +7,6 @@ use Rattle.fst.proofs.Expanding.{entry-moved}
 use borrow.Author.Needs.{needs}
 use Rattle.fst.proofs.expand.expand_entry.Statement.{statement}
 use Rattle.fst.proofs.expand.expand_entry.Tie as tie
-use Rattle.fst.proofs.expand.expand_entry.Reads as reads
-use Rattle.fst.proofs.expand.expand_entry.Lts as lts
-use Rattle.fst.proofs.expand.move_up.Reads as move-up-reads
-use Rattle.fst.proofs.expand.put_zeros.Reads as put-zeros-reads
 
 sub-first : tie.Need-sub-first
 sub-first c = search needs
@@ -30,56 +26,47 @@ slice-read-mark c = search needs
 slice-read-level : tie.Need-slice-read-level
 slice-read-level c = search needs
 
-add-move-up : tie.Need-add-move-up
-add-move-up c = search needs
-
-add-move-up-2 : tie.Need-add-move-up-2
-add-move-up-2 c = search needs
-
-sub-move-up : tie.Need-sub-move-up
-sub-move-up c = search needs
-
 move-up-requires : tie.Need-move-up-requires
 move-up-requires c κs = search needs
 
 slice-write-data : tie.Need-slice-write-data
 slice-write-data c = search needs
 
-add-put-zeros : tie.Need-add-put-zeros
-add-put-zeros c = search needs
+add-push-zeros : tie.Need-add-push-zeros
+add-push-zeros c = search needs
 
-sub-put-zeros : tie.Need-sub-put-zeros
-sub-put-zeros c = search needs
+sub-push-zeros : tie.Need-sub-push-zeros
+sub-push-zeros c = search needs
 
-sub-put-zeros-2 : tie.Need-sub-put-zeros-2
-sub-put-zeros-2 c = search needs
+sub-push-zeros-2 : tie.Need-sub-push-zeros-2
+sub-push-zeros-2 c = search needs
 
-put-zeros-requires : tie.Need-put-zeros-requires
-put-zeros-requires c κs =
-    let s = c .before .before .before .before .before .before .before .before .before .before .before .before .before .before .before in
+push-zeros-requires : tie.Need-push-zeros-requires
+push-zeros-requires c κs =
+    let s = c .before .before .before .before .before .before .before .before .before .before .before .before .before .before in
     let u = c .before .before .before .before .before .move-up in
     rw length-set (omega (arith, u .kept .0, s .pre .room, s .pre .grows .marked))
 
 slice-write-data-2 : tie.Need-slice-write-data-2
 slice-write-data-2 c =
-    let s = c .before .before .before .before .before .before .before .before .before .before .before .before .before .before .before .before .before .before in
+    let s = c .before .before .before .before .before .before .before .before .before .before .before .before .before .before .before .before .before in
     let u = c .before .before .before .before .before .before .before .before .move-up in
-    let z = c .before .before .put-zeros in
+    let z = c .before .before .push-zeros in
     omega (arith, simp length-set at (z .kept .0), u .kept .0, s .pre .room, s .pre .grows .marked)
 
 same-length : tie.Need-same-length
 same-length c =
     let u = c .before .before .before .before .before .before .before .before .move-up in
-    let z = c .before .before .put-zeros in
+    let z = c .before .before .push-zeros in
     simp length-set (simp length-set at (z .kept .0) ∙ u .kept .0)
 
 returns : tie.Need-returns
 returns c =
-    let s = c .before .before .before .before .before .before .before .before .before .before .before .before .before .before .before .before .before .before in
+    let s = c .before .before .before .before .before .before .before .before .before .before .before .before .before .before .before .before .before in
     let x = s .args in
     let u = c .before .before .before .before .before .before .before .before .move-up in
-    let z = c .before .before .put-zeros in
-    entry-moved (x .widening) (s .pre .grows) (now (x .«data»)) _ _ (x .p) (x .q) (s .pre .onward) (s .pre .room) (u .ensures) (z .ensures)
+    let z = c .before .before .push-zeros in
+    entry-moved (x .widening) (s .pre .grows) (now (x .«data»)) _ _ (x .p) (x .q) (s .pre .onward) (s .pre .room) (u .ensures) (z .ensures .1)
 
 pub expand-entry-spec : {M : Type 1} → statement M
 expand-entry-spec =
@@ -91,15 +78,12 @@ expand-entry-spec =
     add-at
     slice-read-mark
     slice-read-level
-    add-move-up
-    add-move-up-2
-    sub-move-up
     move-up-requires
     slice-write-data
-    add-put-zeros
-    sub-put-zeros
-    sub-put-zeros-2
-    put-zeros-requires
+    add-push-zeros
+    sub-push-zeros
+    sub-push-zeros-2
+    push-zeros-requires
     slice-write-data-2
     same-length
     returns)

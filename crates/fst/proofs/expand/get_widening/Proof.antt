@@ -3,12 +3,6 @@ use Rattle.fst.specs.Expand.{wideningOf}
 use borrow.Author.Needs.{needs}
 use Rattle.fst.proofs.expand.get_widening.Statement.{statement}
 use Rattle.fst.proofs.expand.get_widening.Tie as tie
-use Rattle.fst.proofs.expand.get_widening.Reads as reads
-use Rattle.fst.proofs.expand.get_widening.Lts as lts
-use Rattle.fst.proofs.entry.entry_size.Reads as entry-size-reads
-use Rattle.fst.proofs.entry.get_len_and_meta.Reads as get-len-and-meta-reads
-use Rattle.fst.proofs.expand.level_bits.Reads as level-bits-reads
-use Rattle.fst.proofs.expand.mark_bits.Reads as mark-bits-reads
 
 get-len-and-meta-requires : tie.Need-get-len-and-meta-requires
 get-len-and-meta-requires c κs = search needs

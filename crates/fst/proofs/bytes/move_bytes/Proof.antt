@@ -1,5 +1,5 @@
--- `fst::expand::move_up` meets its contract. Assumes nothing.
-use mathlib.Core.Path.{_≡_, refl, sym, ap, _∙_}
+-- `fst::bytes::move_bytes` meets its contract. Assumes nothing.
+use mathlib.Core.Path.{_≡_, refl, ap, _∙_}
 use mathlib.Core.List.{List}
 use Prim.Native.Nat.{ℕ, _-_, _+_, _≤_}
 use native.Mathlib.Nat.{sub-self, add-zero, sub-zero}
@@ -8,11 +8,9 @@ use denote.Ref.{now}
 use lib.ListN.{length, set, getD, length-set}
 use Rattle.value.specs.Slice.{part, overlay}
 use Rattle.value.proofs.Slices.{part-nil, overlay-nil}
-use Rattle.value.proofs.Backward.{moved-more}
-use Rattle.fst.proofs.expand.move_up.Statement.{statement}
-use Rattle.fst.proofs.expand.move_up.Tie as tie
-use Rattle.fst.proofs.expand.move_up.Reads as reads
-use Rattle.fst.proofs.expand.move_up.Lts as lts
+use Rattle.value.proofs.Backward.{moved-one}
+use Rattle.fst.proofs.bytes.move_bytes.Statement.{statement}
+use Rattle.fst.proofs.bytes.move_bytes.Tie as tie
 
 abbrev Inv-loop : tie.InvT-loop
 Inv-loop data₀ p q n left₀ «data» left =
@@ -51,7 +49,7 @@ loop-again c =
       omega arith,
       ap (λ (l : List ℕ). set l (x .q + k) (getD l (x .p + k) 0))
           (a .loop .inv .1 ∙ ap (λ (i : ℕ). overlay (now (x .«data»)) (x .q + i) (part (x .p + i) (x .n - i) (now (x .«data»)))) e)
-          ∙ moved-more (now (x .«data»)) (x .p) (x .q) (x .n) k 0 (omega arith) (omega arith) (omega arith),
+          ∙ moved-one (now (x .«data»)) (x .p) (x .q) (x .n) k 0 (omega arith) (omega arith) (omega arith),
       rw length-set (a .loop .inv .2),
     )
 
@@ -63,8 +61,8 @@ returns c =
     let e : c .before .loop .left ≡ 0 = omega arith in
     c .before .loop .inv .1 ∙ rw (e, add-zero, add-zero, sub-zero)
 
-pub move-up-spec : {M : Type 1} → statement M
-move-up-spec =
+pub move-bytes-spec : {M : Type 1} → statement M
+move-bytes-spec =
     tie.close
     (tie.spec
     Inv-loop
