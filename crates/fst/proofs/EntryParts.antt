@@ -1,35 +1,24 @@
 -- An entry by its parts: packed levels with the mark on top of their first byte, or the mark's own byte, zeros and packed levels.
 -- Assumes nothing.
-use mathlib.Core.Path.{_≡_, refl, sym, ap, _∙_}
-use mathlib.Core.Bool.{Bool, true, false, cond}
+use mathlib.Core.Path.{_≡_, refl}
 use mathlib.Core.List.{List, [], _∷_, _++_}
-use Prim.Native.Nat.{ℕ, zero, suc, _+_, _-_, _*_, _/_, _%_, _^_, _≤_, _<_}
+use Prim.Native.Nat.{ℕ, zero, suc, _+_, _-_, _*_, _^_, _≤_, _<_}
 use native.Mathlib.Nat.{add-comm, zero-add, zero-mul, mod-eq-of-lt, pow-le-pow-right, lt-of-lt-of-le, zero-lt-suc}
 use native.Mathlib.Omega.{arith}
 use lib.Arith.{digits-div}
-use lib.Dec.{eqb}
 use lib.ListN.{length, replicate}
 use lib.Pow.{pow-add, pow-mono}
-use borrow.Author.Tests.{eq-eqb, ne-eqb}
 use Rattle.value.specs.declared.States.{States}
 use Rattle.value.specs.declared.States.the-variants.{Two, Four, Nine}
 use Rattle.value.specs.Digits.{number, digits}
 use Rattle.value.specs.Level.{markOf, bitsOf, lenOf}
 use Rattle.value.proofs.Digits.{Below, pow-pow, number-lt, digits-high, digits-zeros}
 use Rattle.value.proofs.Levels.{mark-small, len-bits, len-room, len-up}
-use Rattle.value.proofs.Tests.{by-eq}
 use Rattle.wavemem.specs.Packed.{packedWith}
-use Rattle.fst.specs.Entry.{hasMeta, entrySize, entryOf}
+use Rattle.fst.specs.Entry.{entrySize, entryOf}
+use Rattle.fst.proofs.Sizes.{len-le}
 
 -- ---- sizes
-
-pub len-size : (w : ℕ) (M : States) → lenOf w M ≤ entrySize w M
-unfolding entrySize
-len-size w M = go (hasMeta w M)
-  where
-    go : (t : Bool) → lenOf w M ≤ cond t (lenOf w M + 1) (lenOf w M)
-    go true = omega arith
-    go false = omega arith
 
 pub len-small : (w : ℕ) (S : States) → lenOf w S ≤ w
 len-small w Two = omega arith
@@ -38,16 +27,7 @@ len-small w Nine = omega arith
 
 -- the levels of a set that is not above the largest fit
 pub len-fits : (w : ℕ) (own M : States) → markOf own ≤ markOf M → lenOf w own ≤ entrySize w M
-len-fits w own M h = omega (arith, len-up w own M h, len-size w M)
-
--- under Four and Nine the two top bits of an entry are free
-pub two-free : (w : ℕ) (M : States) → 1 ≤ markOf M → w * bitsOf M + 2 ≤ 8 * entrySize w M
-unfolding entrySize
-two-free w Two h = absurd (omega arith)
-two-free w Four h =
-    by-eq (w % 4) 0 (λ e. simp (eq-eqb (w % 4) 0 e) (omega arith)) (λ e. simp (ne-eqb (w % 4) 0 e) (omega arith))
-two-free w Nine h =
-    by-eq (w % 2) 0 (λ e. simp (eq-eqb (w % 2) 0 e) (omega arith)) (λ e. simp (ne-eqb (w % 2) 0 e) (omega arith))
+len-fits w own M h = omega (arith, len-up w own M h, len-le w M)
 
 -- ---- parts
 

@@ -3,31 +3,33 @@
 use mathlib.Core.Path.{_≡_, refl, sym, ap, ap₂, _∙_}
 use mathlib.Core.Bool.{Bool, true, false, _&&_}
 use mathlib.Core.List.{List, [], _∷_, _++_}
-use Prim.Native.Nat.{ℕ, suc, _+_, _-_, _*_, _%_, _^_, _≤_, _<_}
-use native.Mathlib.Nat.{mul-le-mul-left, mod-eq-of-lt, add-zero}
+use Prim.Native.Nat.{ℕ, suc, _+_, _-_, _*_, _≤_}
+use native.Mathlib.Nat.{mul-le-mul-left, add-zero}
 use native.Mathlib.Omega.{arith}
 use lib.Dec.{eqb}
-use lib.ListN.{length, getD, set, replicate, length-set, length-replicate}
+use lib.ListN.{length, getD, set, replicate, length-replicate}
 use borrow.Author.Tests.{eq-eqb, ne-eqb}
 use Rattle.value.specs.declared.States.{States}
 use Rattle.value.specs.Slice.{part, overlay, same}
-use Rattle.value.specs.Level.{foldAll, codesOf, markOf, bitsOf, lenOf}
-use Rattle.value.proofs.Levels.{mark-small, bits-up}
+use Rattle.value.specs.Level.{foldAll, codesOf, markOf, lenOf}
+use Rattle.value.proofs.Levels.{bits-up}
 use Rattle.value.proofs.Slices.{part-length, part-add, part-nil, overlay-one, overlay-overlay}
 use Rattle.wavemem.specs.Packed.{packedFrom, Packable}
 use Rattle.wavemem.proofs.Packing.{length-codes}
 use Rattle.wavemem.proofs.Compare.{same-append, part-more}
-use Rattle.fst.specs.Entry.{entrySize, entryOf}
+use Rattle.fst.specs.Entry.{entrySize}
 use Rattle.fst.specs.Writable.{Writable, entryFrom}
-use Rattle.fst.proofs.EntryParts.{len-fits, two-free, entry-one, entry-apart}
-
--- `mark << 6`
-pub mark-byte : (s : States) (m : ℕ) → m ≡ markOf s → m * 64 % 256 ≡ markOf s * 64
-mark-byte s m e = rw e (mod-eq-of-lt (omega (arith, mark-small s)))
+use Rattle.fst.proofs.Sizes.{mark-bits}
+use Rattle.fst.proofs.EntryParts.{len-fits, entry-one, entry-apart}
 
 module _ {M own : States} {v : List ℕ} {room at : ℕ} (ok : Writable M own v room at) where
-  pub len-le : lenOf (length v) own ≤ entrySize (length v) M
-  len-le = len-fits (length v) own M (ok .under)
+  -- where a layout's two sizes differ, the mark's byte and zeros make the difference
+  module _ {len size : ℕ} (l : len ≡ lenOf (length v) own) (s : size ≡ entrySize (length v) M) where
+    pub len-le : len ≤ size
+    len-le = omega (arith, len-fits (length v) own M (ok .under))
+
+    pub apart-by : (len ≡ size → ⊥) → entrySize (length v) M ≡ suc (size - len - 1 + lenOf (length v) own)
+    apart-by h = omega (arith, len-le)
 
   -- the mark beside the levels
 
@@ -41,7 +43,7 @@ module _ {M own : States} {v : List ℕ} {room at : ℕ} (ok : Writable M own v 
         free =
             λ p.
             omega
-            (arith, two-free (length v) M (omega (arith, ok .under)), mul-le-mul-left (length v) (bits-up own M (ok .under)));
+            (arith, mark-bits (length v) (ok .wide) M (omega (arith, ok .under)), mul-le-mul-left (length v) (bits-up own M (ok .under)));
       }
 
   pub one-entry : (m : ℕ) → m ≡ markOf own * 64 → lenOf (length v) own ≡ entrySize (length v) M → packedFrom own m v ≡ entryFrom M own v

@@ -1,10 +1,10 @@
 // One entry: its size, its bytes stored, its bytes compared. After wellen's src/fst.rs.
 ghost use mathlib.Core.Path.{_≡_};
 ghost use mathlib.Core.Bool.{cond};
-ghost use Prim.Native.Nat.{_+_, _^_, _<_, _≤_};
+ghost use Prim.Native.Nat.{_+_, _*_, _^_, _<_, _≤_};
 ghost use lib.ListN.{length, replicate};
 ghost use Rattle.value.specs.Slice.{part, overlay, same};
-ghost use Rattle.value.specs.Level.{lenOf};
+ghost use Rattle.value.specs.Level.{markOf, lenOf};
 ghost use Rattle.fst.specs.Entry.{hasMeta, entrySize};
 ghost use Rattle.fst.specs.Writable.{Writable, entryFrom};
 use value::States;
@@ -49,6 +49,25 @@ pub fn entry_size(states: States, bits: u32) -> usize
     get_bytes_per_entry(layout.len, layout.has_meta)
 }
 
+// The bytes that a string's levels take, the bytes of its entry, and the byte with the mark of its set in the top two bits.
+struct EntryLayout {
+    len: usize,
+    size: usize,
+    meta_data: u8,
+}
+
+fn entry_layout(max_states: States, states: States, bits: u32) -> EntryLayout
+    ensures { λ r. ⌜ (r .len ≡ lenOf bits states) × (r .size ≡ entrySize bits «max_states») × (r .«meta_data» ≡ markOf states * 64) ⌝ }
+{
+    let len = states.bytes_required(bits);
+    let size = entry_size(max_states, bits);
+    EntryLayout {
+        len,
+        size,
+        meta_data: states.mark() << 6,
+    }
+}
+
 // Stores zeros from a place on. Returns the place behind them.
 pub fn push_zeros(out: &mut [u8], from: usize, count: usize) -> usize
     requires { ⌜ from + count ≤ length (now out) ⌝ }
@@ -89,10 +108,10 @@ pub fn write_entry(
     ensures { λ r. ⌜ r ≡ at + entrySize (length (now (value .entry))) «max_states» ⌝ }
     ensures { λ _. ⌜ now (out .exit) ≡ overlay (now (out .entry)) at (entryFrom «max_states» states (now (value .entry))) ⌝ }
 {
-    let bits = value.len() as u32;
-    let len = states.bytes_required(bits);
-    let size = entry_size(max_states, bits);
-    let meta_data = states.mark() << 6;
+    let layout = entry_layout(max_states, states, value.len() as u32);
+    let len = layout.len;
+    let size = layout.size;
+    let meta_data = layout.meta_data;
     if len == size {
         wavemem::write_n_state_from_ascii(states, value, out, at, meta_data)
     } else {
@@ -113,10 +132,10 @@ pub fn entry_equals(
     requires { ⌜ Writable «max_states» states (now value) (length (now bytes)) at ⌝ }
     ensures { λ r. ⌜ r ≡ same (part at (entrySize (length (now (value .entry))) «max_states») (now (bytes .entry))) (entryFrom «max_states» states (now (value .entry))) ⌝ }
 {
-    let bits = value.len() as u32;
-    let len = states.bytes_required(bits);
-    let size = entry_size(max_states, bits);
-    let meta_data = states.mark() << 6;
+    let layout = entry_layout(max_states, states, value.len() as u32);
+    let len = layout.len;
+    let size = layout.size;
+    let meta_data = layout.meta_data;
     if len == size {
         return wavemem::equals_n_state_from_ascii(states, value, bytes, at, meta_data);
     }

@@ -2,54 +2,46 @@
 -- Assumes nothing.
 use mathlib.Core.Path.{_≡_, refl, sym, ap, ap₂, _∙_, subst}
 use mathlib.Core.Bool.{Bool, true, false, cond}
-use mathlib.Core.List.{List, [], _∷_, _++_, map}
+use mathlib.Core.List.{List, [], _∷_, _++_}
 use Prim.Native.Nat.{ℕ, zero, suc, _+_, _-_, _*_, _/_, _%_, _^_, _≤_, _<_}
 use native.Mathlib.Nat.{pow-suc, zero-lt-suc, mod-eq-of-lt, mul-assoc, suc-mul, zero-mul, zero-add, add-zero, add-comm, mul-le-mul-right, lt-of-lt-of-le, add-mul-div-right, add-mul-mod-self-right, div-lt-iff-lt-mul, pow-le-pow-right}
 use native.Mathlib.Numerals.{add-one}
 use native.Mathlib.Omega.{arith}
-use lib.Dec.{leb}
+use borrow.Author.Tests.{lt-ltb}
+use lib.Dec.{T, eqb, eqb→eq, ltb}
 use lib.ListN.{length, getD, take, drop, set, length-set, length-map, length-drop, List·getD-map}
 use lib.Seq.{length-take-le, take-add, take-suc, take-all}
-use lib.Bits.{bitOr, or-shifted, or-shifted-r, or-zero-r}
+use lib.Bits.{bitOr, bitAnd, or-shifted, or-shifted-r, or-zero-r}
 use lib.Pow.{pow-add, pow-pos, pow-mono, shl-exact}
 use lib.Arith.{digits-mod}
-use borrow.Author.Tests.{lt-leb}
 use Rattle.value.specs.declared.States.{States}
 use Rattle.value.specs.declared.States.the-variants.{Two, Four, Nine}
-use Rattle.value.specs.declared.CharCode.{CharCode}
-use Rattle.value.specs.declared.CharCode.the-variants as code
 use Rattle.value.specs.Digits.{number, digits}
 use Rattle.value.specs.Slice.{part, overlay, same}
-use Rattle.value.specs.Level.{fold, foldAll, codeOf, codesOf, bitsOf, lenOf, isNoCode}
-use Rattle.value.specs.Answer.{charCode}
-use Rattle.value.proofs.Tests.{by-le}
+use Rattle.value.specs.Level.{placeIn, fold, foldAll, codeOf, codesOf, bitsOf, lenOf}
+use Rattle.value.proofs.Tests.{by-le, at-below}
 use Rattle.value.proofs.Slices.{part-length, part-at, overlay-nil, overlay-store}
 use Rattle.value.proofs.Levels.{len-bits}
 use Rattle.value.proofs.Digits.{Below, below-at, below-drop, pow-pow, number-lt, number-append, number-more, number-prefix, digits-at, digits-length, base-pos}
 use Rattle.wavemem.proofs.Compare.{same-is, same-not}
-use Rattle.wavemem.specs.Packed.{packedWith, packedFrom, Codes, OneByte, Packable}
-
--- ---- the code of a character
-
-pub code-is : (c n : ℕ) → charCode c ≡ code.Code n → n ≡ codeOf (fold c)
-unfolding charCode
-code-is c n e = go (isNoCode (codeOf (fold c))) e
-  where
-    go : (t : Bool) → cond t code.Foreign (code.Code (codeOf (fold c))) ≡ code.Code n → n ≡ codeOf (fold c)
-    go true e = cc
-    go false e = cc
-
-pub not-foreign : (c : ℕ) → codeOf (fold c) < 9 → charCode c ≡ code.Foreign → ⊥
-unfolding charCode
-not-foreign c h e =
-    let f : code.Code (codeOf (fold c)) ≡ code.Foreign = sym (simp (lt-leb 9 (codeOf (fold c)) h)) ∙ e in
-    let z : _≡_ {A = ℕ} 0 1 = cc in
-    omega arith
+use Rattle.wavemem.specs.Packed.{packedWith, packedFrom, perByte, OneByte, Packable}
 
 -- ---- the working byte
 
+-- the code of a character of a string
 pub code-at : (s : List ℕ) (i : ℕ) → getD (codesOf (foldAll s)) i (codeOf (fold 0)) ≡ codeOf (fold (getD s i 0))
 code-at s i = List·getD-map codeOf (foldAll s) i (fold 0) ∙ ap codeOf (List·getD-map fold s i 0)
+
+-- the lowest bit of a character of the set Two
+pub low-bit : (c : ℕ) → c < 256 → codeOf (fold c) < 2 → bitAnd c 1 ≡ codeOf (fold c)
+unfolding codeOf placeIn fold
+low-bit c l h =
+    eqb→eq (bitAnd c 1) (codeOf (fold c))
+    (cond-true (eqb (bitAnd c 1) (codeOf (fold c))) (ltb (codeOf (fold c)) 2) (lt-ltb (codeOf (fold c)) 2 h)
+    (at-below (λ (k : ℕ). cond (ltb (codeOf (fold k)) 2) (eqb (bitAnd k 1) (codeOf (fold k))) true) 256 tt c l))
+  where
+    cond-true : (b t : Bool) → t ≡ true → T (cond t b true) → T b
+    cond-true b t e = rw e (λ x. x)
 
 pub below-take : (B : ℕ) (ds : List ℕ) → Below B ds → (i : ℕ) → Below B (take i ds)
 below-take B ds h zero = tt
@@ -68,10 +60,6 @@ module _ (b : ℕ) (cs : List ℕ) (below : Below (2 ^ b) cs) (short : length cs
       rw (so-far, shl-exact {a = n} (i * b) b 8 l f, or-shifted n b c k, number-more (2 ^ b) cs i d more, is)
 
 -- ---- the walk over the bytes
-
--- how many levels a byte holds
-abbrev pub perByte : States → ℕ
-perByte s = 8 / bitsOf s
 
 pub per-bits : (s : States) → perByte s * bitsOf s ≡ 8
 per-bits Two = refl
@@ -179,10 +167,6 @@ meta-on meta k = record { first = λ e. omega arith; later = λ h. refl }
 
 module _ (s : States) (cs : List ℕ) (meta : ℕ) (below : Below (2 ^ bitsOf s) cs) (marked : meta % 64 ≡ 0) (fits : meta < 256)
     (free : 0 < meta → length cs * bitsOf s + 2 ≤ 8 * lenOf (length cs) s) where
-  pub packed-length : length (packedWith (bitsOf s) meta cs) ≡ lenOf (length cs) s
-  unfolding packedWith
-  packed-length = digits-length 256 _ _ ∙ sym (len-bits (length cs) s)
-
   -- where meta data is set, the first byte has two bits free
   top-free : (n : ℕ) → n ≡ lenOf (length cs) s → 0 < n → 0 < meta → number (2 ^ bitsOf s) cs < 64 * 256 ^ (n - 1)
   top-free n e h m =

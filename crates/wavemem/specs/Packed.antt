@@ -20,6 +20,10 @@ packedWith b meta codes =
 abbrev pub packedFrom : States → ℕ → List ℕ → List ℕ
 packedFrom s meta value = packedWith (bitsOf s) meta (codesOf (foldAll value))
 
+-- how many levels a byte holds
+abbrev pub perByte : States → ℕ
+perByte s = 8 / bitsOf s
+
 -- what packing asks of the characters: none is foreign, and each is of the set
 pub record Codes (s : States) (codes : List ℕ) : Type 0 where
   pub known : Below 9 codes

@@ -1,22 +1,17 @@
 -- `wavemem::equals_n_state_from_ascii` meets its contract: each turn compares the next byte.
 -- Assumes nothing.
-use mathlib.Core.Path.{_≡_, refl, sym, ap, _∙_}
-use Prim.Native.Nat.{ℕ, _-_, _*_, _+_, _^_, _<_, _≤_}
+use mathlib.Core.Path.{_≡_}
+use Prim.Native.Nat.{_-_, _<_}
 use native.Mathlib.Omega.{arith}
 use borrow.Author.Needs.{needs}
 use denote.Ref.{now}
 use lib.Bits.{bitOr}
-use lib.ListN.{length, getD, take, drop}
+use lib.ListN.{length, getD}
 use Rattle.value.specs.Level.{lenOf}
 use Rattle.wavemem.specs.Packed.{packedFrom}
-use Rattle.wavemem.proofs.Packing.{spans, per-small, Walk, to-within, from-to, one-byte, is-byte, Agrees, agrees-start, agrees-on, agrees-end, differs}
+use Rattle.wavemem.proofs.Packing.{per-small, to-within, from-to, one-byte, is-byte, Agrees, agrees-start, agrees-on, agrees-end, differs}
 use Rattle.wavemem.proofs.equals_n_state_from_ascii.Statement.{statement}
 use Rattle.wavemem.proofs.equals_n_state_from_ascii.Tie as tie
-use Rattle.wavemem.proofs.equals_n_state_from_ascii.Reads as reads
-use Rattle.wavemem.proofs.equals_n_state_from_ascii.Lts as lts
-use Rattle.value.proofs.States.bytes_required.Reads as bytes-required-reads
-use Rattle.wavemem.proofs.bits_in_a_byte.Reads as bits-in-a-byte-reads
-use Rattle.wavemem.proofs.byte_from_ascii.Reads as byte-from-ascii-reads
 
 abbrev Inv-loop : tie.InvT-loop
 Inv-loop states value bytes at meta-data len per-byte meta₀ from₀ to₀ k₀ meta from to k = Agrees states value bytes at meta-data meta from to k
@@ -24,42 +19,20 @@ Inv-loop states value bytes at meta-data len per-byte meta₀ from₀ to₀ k₀
 abbrev μ-loop : tie.MeasureT-loop
 μ-loop states value bytes at meta-data len per-byte meta₀ from₀ to₀ k₀ meta from to k = lenOf (length value) states - k
 
-cast-bytes-required : tie.Need-cast-bytes-required Inv-loop μ-loop
-cast-bytes-required c = omega arith
-
-bytes-required-requires : tie.Need-bytes-required-requires Inv-loop μ-loop
-bytes-required-requires c κs = search needs
-
-bits-in-a-byte-requires : tie.Need-bits-in-a-byte-requires Inv-loop μ-loop
-bits-in-a-byte-requires c κs = search needs
-
-add-to : tie.Need-add-to Inv-loop μ-loop
-add-to c =
-    let s = c .before .before .before .before in
-    omega (arith, per-small (s .args .states), c .bits-in-a-byte .ensures, s .pre .short)
-
-mul-to : tie.Need-mul-to Inv-loop μ-loop
-mul-to c =
-    let s = c .before .before .before .before in
-    rw (c .before .bytes-required .ensures, c .bits-in-a-byte .ensures)
-    (omega (arith, spans (length (now (s .args .value))) (s .args .states), per-small (s .args .states), s .pre .short))
-
-sub-to : tie.Need-sub-to Inv-loop μ-loop
-sub-to c =
-    let s = c .before .before .before .before in
-    rw (c .before .bytes-required .ensures, c .bits-in-a-byte .ensures) (omega (arith, spans (length (now (s .args .value))) (s .args .states)))
+byte-layout-requires : tie.Need-byte-layout-requires Inv-loop μ-loop
+byte-layout-requires c κs = search needs
 
 loop-holds : tie.Need-loop-holds Inv-loop μ-loop
 loop-holds c =
-    let s = c .before .before .before .before in
-    rw (c .before .bytes-required .ensures, c .bits-in-a-byte .ensures) (agrees-start (now (s .args .bytes)) (s .pre))
+    let s = c .before .before .before in
+    rw (c .byte-layout .ensures .2) (agrees-start (now (s .args .bytes)) (s .pre))
 
 -- the function's entry, and the bytes that are left
 abbrev start : tie.At-loop Inv-loop μ-loop → tie.Start Inv-loop μ-loop
-start a = a .before .before .before .before .before
+start a = a .before .before .before .before
 
 more : (c : tie.In-loop Inv-loop μ-loop) → c .before .loop .k < lenOf (length (now (start (c .before) .args .value))) (start (c .before) .args .states)
-more c = omega (arith, c .loop-test .taken, c .before .before .before .bytes-required .ensures)
+more c = omega (arith, c .loop-test .taken, c .before .before .byte-layout .ensures .0)
 
 add-if1 : tie.Need-add-if1 Inv-loop μ-loop
 add-if1 c = omega (arith, more c, start (c .before) .pre .fits)
@@ -93,11 +66,11 @@ returns c =
     let s = start (i .before) in
     differs (now (s .args .bytes)) (s .pre) _ (more i) (right (c .before)) (c .if1 .taken)
 
-add-to-2 : tie.Need-add-to-2 Inv-loop μ-loop
-add-to-2 c =
+add-to : tie.Need-add-to Inv-loop μ-loop
+add-to c =
     let i = c .before .before .before .before in
     let a = i .before in
-    omega (arith, to-within (a .loop .inv .walk) (more i), per-small (start a .args .states), a .before .bits-in-a-byte .ensures, start a .pre .short)
+    omega (arith, to-within (a .loop .inv .walk) (more i), per-small (start a .args .states), a .before .byte-layout .ensures .1, start a .pre .short)
 
 add-k : tie.Need-add-k Inv-loop μ-loop
 add-k c =
@@ -112,13 +85,13 @@ loop-again c =
     let i = c .before .before .before .before in
     let a = i .before in
     let s = start a in
-    rw (a .before .bits-in-a-byte .ensures) (agrees-on (now (s .args .bytes)) (s .pre) _ (a .loop .inv) (more i) (right (c .before)) (c .if1 .left))
+    rw (a .before .byte-layout .ensures .1) (agrees-on (now (s .args .bytes)) (s .pre) _ (a .loop .inv) (more i) (right (c .before)) (c .if1 .left))
 
 returns-2 : tie.Need-returns-2 Inv-loop μ-loop
 returns-2 c =
     let a = c .before in
     let s = start a in
-    agrees-end (now (s .args .bytes)) (s .pre) (a .loop .inv) (omega (arith, a .before .before .bytes-required .ensures, c .loop-test .left))
+    agrees-end (now (s .args .bytes)) (s .pre) (a .loop .inv) (omega (arith, a .before .byte-layout .ensures .0, c .loop-test .left))
 
 pub equals-n-state-from-ascii-spec : {M : Type 1} → statement M
 equals-n-state-from-ascii-spec =
@@ -126,12 +99,7 @@ equals-n-state-from-ascii-spec =
     (tie.spec
     Inv-loop
     μ-loop
-    cast-bytes-required
-    bytes-required-requires
-    bits-in-a-byte-requires
-    add-to
-    mul-to
-    sub-to
+    byte-layout-requires
     loop-holds
     add-if1
     shared-slice-read-if1
@@ -140,7 +108,7 @@ equals-n-state-from-ascii-spec =
     part-byte-from-ascii-end
     byte-from-ascii-requires
     returns
-    add-to-2
+    add-to
     add-k
     loop-less
     loop-again

@@ -1,21 +1,15 @@
 -- `wavemem::write_n_state_from_ascii` meets its contract: each turn stores the next byte.
 -- Assumes nothing.
-use mathlib.Core.Path.{_≡_, refl, sym, ap, _∙_}
-use Prim.Native.Nat.{ℕ, _-_, _*_, _+_, _^_, _<_, _≤_}
+use mathlib.Core.Path.{ap}
+use Prim.Native.Nat.{ℕ, _-_, _+_, _<_}
 use native.Mathlib.Omega.{arith}
 use borrow.Author.Needs.{needs}
 use denote.Ref.{now}
-use lib.ListN.{length, getD, take, drop}
+use lib.ListN.{length}
 use Rattle.value.specs.Level.{lenOf}
-use Rattle.wavemem.specs.Packed.{packedFrom}
-use Rattle.wavemem.proofs.Packing.{spans, per-small, Walk, to-within, from-to, one-byte, is-byte, Stored, stored-start, stored-on, stored-end}
+use Rattle.wavemem.proofs.Packing.{per-small, to-within, from-to, one-byte, is-byte, Stored, stored-start, stored-on, stored-end}
 use Rattle.wavemem.proofs.write_n_state_from_ascii.Statement.{statement}
 use Rattle.wavemem.proofs.write_n_state_from_ascii.Tie as tie
-use Rattle.wavemem.proofs.write_n_state_from_ascii.Reads as reads
-use Rattle.wavemem.proofs.write_n_state_from_ascii.Lts as lts
-use Rattle.value.proofs.States.bytes_required.Reads as bytes-required-reads
-use Rattle.wavemem.proofs.bits_in_a_byte.Reads as bits-in-a-byte-reads
-use Rattle.wavemem.proofs.byte_from_ascii.Reads as byte-from-ascii-reads
 
 abbrev Inv-loop : tie.InvT-loop
 Inv-loop states value out₀ at meta-data len per-byte meta₀ from₀ to₀ k₀ out meta from to k = Stored states value out₀ at meta-data out meta from to k
@@ -23,41 +17,19 @@ Inv-loop states value out₀ at meta-data len per-byte meta₀ from₀ to₀ k�
 abbrev μ-loop : tie.MeasureT-loop
 μ-loop states value out₀ at meta-data len per-byte meta₀ from₀ to₀ k₀ out meta from to k = lenOf (length value) states - k
 
-cast-bytes-required : tie.Need-cast-bytes-required Inv-loop μ-loop
-cast-bytes-required c = omega arith
-
-bytes-required-requires : tie.Need-bytes-required-requires Inv-loop μ-loop
-bytes-required-requires c κs = search needs
-
-bits-in-a-byte-requires : tie.Need-bits-in-a-byte-requires Inv-loop μ-loop
-bits-in-a-byte-requires c κs = search needs
-
-add-to : tie.Need-add-to Inv-loop μ-loop
-add-to c =
-    let s = c .before .before .before .before in
-    omega (arith, per-small (s .args .states), c .bits-in-a-byte .ensures, s .pre .short)
-
-mul-to : tie.Need-mul-to Inv-loop μ-loop
-mul-to c =
-    let s = c .before .before .before .before in
-    rw (c .before .bytes-required .ensures, c .bits-in-a-byte .ensures)
-    (omega (arith, spans (length (now (s .args .value))) (s .args .states), per-small (s .args .states), s .pre .short))
-
-sub-to : tie.Need-sub-to Inv-loop μ-loop
-sub-to c =
-    let s = c .before .before .before .before in
-    rw (c .before .bytes-required .ensures, c .bits-in-a-byte .ensures) (omega (arith, spans (length (now (s .args .value))) (s .args .states)))
+byte-layout-requires : tie.Need-byte-layout-requires Inv-loop μ-loop
+byte-layout-requires c κs = search needs
 
 loop-holds : tie.Need-loop-holds Inv-loop μ-loop
 loop-holds c =
-    rw (c .before .bytes-required .ensures, c .bits-in-a-byte .ensures) (stored-start (c .before .before .before .before .pre))
+    rw (c .byte-layout .ensures .2) (stored-start (c .before .before .before .pre))
 
 -- the function's entry, and the bytes that are left
 abbrev start : tie.At-loop Inv-loop μ-loop → tie.Start Inv-loop μ-loop
-start a = a .before .before .before .before .before
+start a = a .before .before .before .before
 
 more : (c : tie.In-loop Inv-loop μ-loop) → c .before .loop .k < lenOf (length (now (start (c .before) .args .value))) (start (c .before) .args .states)
-more c = omega (arith, c .loop-test .taken, c .before .before .before .bytes-required .ensures)
+more c = omega (arith, c .loop-test .taken, c .before .before .byte-layout .ensures .0)
 
 sub-byte-from-ascii : tie.Need-sub-byte-from-ascii Inv-loop μ-loop
 sub-byte-from-ascii c = from-to (c .before .loop .inv .walk) (more c)
@@ -81,10 +53,10 @@ slice-write-out c =
     let a = c .before .before .before in
     omega (arith, more (c .before .before), start a .pre .fits, a .loop .inv .long)
 
-add-to-2 : tie.Need-add-to-2 Inv-loop μ-loop
-add-to-2 c =
+add-to : tie.Need-add-to Inv-loop μ-loop
+add-to c =
     let a = c .before .before .before in
-    omega (arith, to-within (a .loop .inv .walk) (more (c .before .before)), per-small (start a .args .states), a .before .bits-in-a-byte .ensures, start a .pre .short)
+    omega (arith, to-within (a .loop .inv .walk) (more (c .before .before)), per-small (start a .args .states), a .before .byte-layout .ensures .1, start a .pre .short)
 
 add-k : tie.Need-add-k Inv-loop μ-loop
 add-k c =
@@ -98,14 +70,14 @@ loop-again : tie.Need-loop-again Inv-loop μ-loop
 loop-again c =
     let a = c .before .before .before in
     let m = more (c .before .before) in
-    rw (a .before .bits-in-a-byte .ensures)
+    rw (a .before .byte-layout .ensures .1)
     (stored-on (start a .pre) _ (a .loop .inv) m
     (is-byte (start a .pre) (a .loop .inv .walk) m (a .loop .meta) (c .byte-from-ascii .result) (omega arith) (a .loop .inv .mark) (c .byte-from-ascii .ensures)))
 
 add-result : tie.Need-add-result Inv-loop μ-loop
 add-result c =
     let a = c .before in
-    omega (arith, a .before .before .bytes-required .ensures, start a .pre .fits)
+    omega (arith, a .before .byte-layout .ensures .0, start a .pre .fits)
 
 same-length : tie.Need-same-length Inv-loop μ-loop
 same-length c = c .before .loop .inv .long
@@ -113,7 +85,7 @@ same-length c = c .before .loop .inv .long
 returns : tie.Need-returns Inv-loop μ-loop
 returns c =
     let a = c .before in
-    let e = a .before .before .bytes-required .ensures in
+    let e = a .before .byte-layout .ensures .0 in
     (ap (λ (n : ℕ). start a .args .at + n) e, stored-end (start a .pre) (a .loop .inv) (omega (arith, e, c .loop-test .left)))
 
 pub write-n-state-from-ascii-spec : {M : Type 1} → statement M
@@ -122,12 +94,7 @@ write-n-state-from-ascii-spec =
     (tie.spec
     Inv-loop
     μ-loop
-    cast-bytes-required
-    bytes-required-requires
-    bits-in-a-byte-requires
-    add-to
-    mul-to
-    sub-to
+    byte-layout-requires
     loop-holds
     sub-byte-from-ascii
     part-byte-from-ascii-start
@@ -135,7 +102,7 @@ write-n-state-from-ascii-spec =
     byte-from-ascii-requires
     add-out
     slice-write-out
-    add-to-2
+    add-to
     add-k
     loop-less
     loop-again

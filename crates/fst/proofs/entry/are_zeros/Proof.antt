@@ -1,18 +1,16 @@
 -- `fst::entry::are_zeros` meets its contract: as many zeros were seen as turns were taken.
 -- Assumes nothing.
-use mathlib.Core.Path.{_≡_, refl, sym, ap, ap₂, _∙_}
+use mathlib.Core.Path.{_≡_, sym, ap, ap₂, _∙_}
 use mathlib.Core.List.{List, [], _∷_, _++_}
 use Prim.Native.Nat.{ℕ, _-_, _+_, _≤_, zero-le}
 use native.Mathlib.Omega.{arith}
 use denote.Ref.{now}
-use lib.ListN.{length, getD, replicate, getD-replicate, replicate-append-replicate}
+use lib.ListN.{getD, replicate, getD-replicate, replicate-append-replicate}
 use Rattle.value.specs.Slice.{part}
 use Rattle.value.proofs.Slices.{part-nil, part-at}
 use Rattle.wavemem.proofs.Compare.{same-is, same-not, part-more}
 use Rattle.fst.proofs.entry.are_zeros.Statement.{statement}
 use Rattle.fst.proofs.entry.are_zeros.Tie as tie
-use Rattle.fst.proofs.entry.are_zeros.Reads as reads
-use Rattle.fst.proofs.entry.are_zeros.Lts as lts
 
 abbrev Inv-loop : tie.InvT-loop
 Inv-loop bytes from count j₀ j = (j ≤ count) × (part from j bytes ≡ replicate j 0)

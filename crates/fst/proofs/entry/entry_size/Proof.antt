@@ -1,16 +1,12 @@
 -- `fst::entry::entry_size` meets its contract.
 -- Assumes nothing.
-use mathlib.Core.Path.{_≡_, _∙_}
+use mathlib.Core.Path.{_∙_}
 use native.Mathlib.Omega.{arith}
 use Rattle.fst.specs.Entry.{entrySize}
 use Rattle.fst.proofs.EntryParts.{len-small}
 use borrow.Author.Needs.{needs}
 use Rattle.fst.proofs.entry.entry_size.Statement.{statement}
 use Rattle.fst.proofs.entry.entry_size.Tie as tie
-use Rattle.fst.proofs.entry.entry_size.Reads as reads
-use Rattle.fst.proofs.entry.entry_size.Lts as lts
-use Rattle.fst.proofs.entry.get_bytes_per_entry.Reads as get-bytes-per-entry-reads
-use Rattle.fst.proofs.entry.get_len_and_meta.Reads as get-len-and-meta-reads
 
 get-len-and-meta-requires : tie.Need-get-len-and-meta-requires
 get-len-and-meta-requires c κs = search needs

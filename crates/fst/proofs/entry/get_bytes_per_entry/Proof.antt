@@ -3,8 +3,6 @@
 use borrow.Author.Needs.{needs}
 use Rattle.fst.proofs.entry.get_bytes_per_entry.Statement.{statement}
 use Rattle.fst.proofs.entry.get_bytes_per_entry.Tie as tie
-use Rattle.fst.proofs.entry.get_bytes_per_entry.Reads as reads
-use Rattle.fst.proofs.entry.get_bytes_per_entry.Lts as lts
 
 add-result : tie.Need-add-result
 add-result c = search needs

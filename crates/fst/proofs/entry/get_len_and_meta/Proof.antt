@@ -3,9 +3,6 @@
 use borrow.Author.Needs.{needs}
 use Rattle.fst.proofs.entry.get_len_and_meta.Statement.{statement}
 use Rattle.fst.proofs.entry.get_len_and_meta.Tie as tie
-use Rattle.fst.proofs.entry.get_len_and_meta.Reads as reads
-use Rattle.fst.proofs.entry.get_len_and_meta.Lts as lts
-use Rattle.value.proofs.States.bytes_required.Reads as bytes-required-reads
 
 bytes-required-requires : tie.Need-bytes-required-requires
 bytes-required-requires c κs = search needs

@@ -10,8 +10,6 @@ use Rattle.value.specs.Slice.{overlay}
 use Rattle.value.proofs.Slices.{overlay-nil, overlay-fill}
 use Rattle.fst.proofs.entry.push_zeros.Statement.{statement}
 use Rattle.fst.proofs.entry.push_zeros.Tie as tie
-use Rattle.fst.proofs.entry.push_zeros.Reads as reads
-use Rattle.fst.proofs.entry.push_zeros.Lts as lts
 
 abbrev Inv-loop : tie.InvT-loop
 Inv-loop out₀ from count j₀ out j = (j ≤ count) × (out ≡ overlay out₀ from (replicate j 0)) × (length out ≡ length out₀)

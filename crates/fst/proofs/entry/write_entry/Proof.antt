@@ -1,71 +1,49 @@
 -- `fst::entry::write_entry` meets its contract, by the two ways to store an entry.
 -- Assumes nothing.
-use mathlib.Core.Path.{_≡_, refl, sym, ap, _∙_}
+use mathlib.Core.Path.{_≡_, refl, sym, _∙_}
 use mathlib.Core.List.{List}
-use Prim.Native.Nat.{ℕ, suc, _+_, _-_, _*_, _%_, _≤_, _<_}
+use Prim.Native.Nat.{ℕ, suc, _+_, _-_, _≤_}
 use native.Mathlib.Omega.{arith}
 use denote.Ref.{now}
-use lib.ListN.{length, set, replicate, length-set}
-use Rattle.value.specs.Level.{markOf, lenOf}
-use Rattle.value.specs.Slice.{part, overlay, same}
-use Rattle.wavemem.specs.Packed.{packedFrom}
+use lib.ListN.{length, length-set}
+use Rattle.value.specs.Level.{lenOf}
 use Rattle.fst.specs.Entry.{entrySize}
-use Rattle.fst.specs.Writable.{entryFrom}
-use Rattle.fst.proofs.EntryWriting.{mark-byte, len-le, one-packable, one-entry, apart-packable, apart-stored}
+use Rattle.fst.proofs.EntryWriting.{len-le, apart-by, one-packable, one-entry, apart-packable, apart-stored}
 use borrow.Author.Needs.{needs}
 use Rattle.fst.proofs.entry.write_entry.Statement.{statement}
 use Rattle.fst.proofs.entry.write_entry.Tie as tie
-use Rattle.fst.proofs.entry.write_entry.Reads as reads
-use Rattle.fst.proofs.entry.write_entry.Lts as lts
-use Rattle.fst.proofs.entry.entry_size.Reads as entry-size-reads
-use Rattle.fst.proofs.entry.push_zeros.Reads as push-zeros-reads
-use Rattle.value.proofs.States.bytes_required.Reads as bytes-required-reads
-use Rattle.value.proofs.States.mark.Reads as mark-reads
-use Rattle.wavemem.proofs.write_n_state_from_ascii.Reads as write-n-state-from-ascii-reads
 
--- the function's entry, and what its first calls say
-abbrev start : tie.After-mark → tie.Start
-start a = a .before .before .before .before .before
+-- the function's entry, the string, and the layout
+abbrev start : tie.After-entry-layout → tie.Start
+start a = a .before .before .before
 
-module _ (a : tie.After-mark) where
-  abbrev v : List ℕ
-  v = now (start a .args .value)
+abbrev v : tie.After-entry-layout → List ℕ
+v a = now (start a .args .value)
 
-  len-is : a .before .before .bytes-required .result ≡ lenOf (length v) (start a .args .states)
-  len-is = a .before .before .bytes-required .ensures
+module _ (a : tie.After-entry-layout) where
+  within : a .entry-layout .result .len ≤ a .entry-layout .result .size
+  within = len-le (start a .pre) (a .entry-layout .ensures .0) (a .entry-layout .ensures .1)
 
-  size-is : a .before .entry-size .result ≡ entrySize (length v) (start a .args .max-states)
-  size-is = a .before .entry-size .ensures
+  apart : (a .entry-layout .result .len ≡ a .entry-layout .result .size → ⊥)
+      → entrySize (length (v a)) (start a .args .max-states)
+      ≡ suc (a .entry-layout .result .size - a .entry-layout .result .len - 1 + lenOf (length (v a)) (start a .args .states))
+  apart h = apart-by (start a .pre) (a .entry-layout .ensures .0) (a .entry-layout .ensures .1) h
 
-  meta-is : a .mark .result * 64 % 256 ≡ markOf (start a .args .states) * 64
-  meta-is = mark-byte (start a .args .states) (a .mark .result) (a .mark .ensures)
+cast-entry-layout : tie.Need-cast-entry-layout
+cast-entry-layout c = search needs
 
-  -- where the two are not one, a byte and z zeros more
-  apart-by : (a .before .before .bytes-required .result ≡ a .before .entry-size .result → ⊥)
-      → entrySize (length v) (start a .args .max-states) ≡ suc (a .before .entry-size .result - a .before .before .bytes-required .result - 1 + lenOf (length v) (start a .args .states))
-  apart-by h = omega (arith, len-is, size-is, len-le (start a .pre))
-
-cast-bits : tie.Need-cast-bits
-cast-bits c = search needs
-
-bytes-required-requires : tie.Need-bytes-required-requires
-bytes-required-requires c κs = search needs
-
-entry-size-requires : tie.Need-entry-size-requires
-entry-size-requires c κs = search needs
-
-mark-requires : tie.Need-mark-requires
-mark-requires c κs = search needs
+entry-layout-requires : tie.Need-entry-layout-requires
+entry-layout-requires c κs = search needs
 
 write-n-state-from-ascii-requires : tie.Need-write-n-state-from-ascii-requires
 write-n-state-from-ascii-requires c κs =
     let a = c .before .before in
-    one-packable (start a .pre) _ (meta-is a) (sym (len-is a) ∙ c .before .if1 .taken ∙ size-is a)
+    one-packable (start a .pre) _ (a .entry-layout .ensures .2) (sym (a .entry-layout .ensures .0) ∙ c .before .if1 .taken ∙ a .entry-layout .ensures .1)
 
 slice-write-out : tie.Need-slice-write-out
 slice-write-out c =
     let a = c .before in
-    omega (arith, apart-by a (c .if1 .left), start a .pre .fits)
+    omega (arith, apart a (c .if1 .left), start a .pre .fits)
 
 add-push-zeros : tie.Need-add-push-zeros
 add-push-zeros c = search needs
@@ -73,24 +51,24 @@ add-push-zeros c = search needs
 sub-push-zeros : tie.Need-sub-push-zeros
 sub-push-zeros c =
     let a = c .before .before in
-    omega (arith, len-is a, size-is a, len-le (start a .pre))
+    omega (arith, within a, a .entry-layout .ensures .0, a .entry-layout .ensures .1)
 
 sub-push-zeros-2 : tie.Need-sub-push-zeros-2
 sub-push-zeros-2 c =
     let a = c .before .before in
-    omega (arith, len-is a, size-is a, len-le (start a .pre), c .before .if1 .left)
+    omega (arith, within a, a .entry-layout .ensures .0, a .entry-layout .ensures .1, c .before .if1 .left)
 
 push-zeros-requires : tie.Need-push-zeros-requires
 push-zeros-requires c κs =
     let a = c .before .before in
-    rw length-set (omega (arith, apart-by a (c .before .if1 .left), start a .pre .fits))
+    rw length-set (omega (arith, apart a (c .before .if1 .left), start a .pre .fits))
 
 write-n-state-from-ascii-requires-2 : tie.Need-write-n-state-from-ascii-requires-2
 write-n-state-from-ascii-requires-2 c κs =
     let p = c .before .before .before in
     let a = p .before .before .before in
     apart-packable (start a .pre)
-    (omega (arith, apart-by a (p .before .before .if1 .left), start a .pre .fits, p .push-zeros .ensures .0, simp length-set at (p .push-zeros .kept .0)))
+    (omega (arith, apart a (p .before .before .if1 .left), start a .pre .fits, p .push-zeros .ensures .0, simp length-set at (p .push-zeros .kept .0)))
 
 same-length : tie.Need-same-length
 same-length c = search needs
@@ -99,9 +77,9 @@ returns : tie.Need-returns
 returns c =
     let w = c .before .before in
     let a = w .before .before .before in
-    let e = sym (len-is a) ∙ w .before .before .if1 .taken ∙ size-is a in (
+    let e = sym (a .entry-layout .ensures .0) ∙ w .before .before .if1 .taken ∙ a .entry-layout .ensures .1 in (
       w .write-n-state-from-ascii .ensures .0 ∙ rw e,
-      w .write-n-state-from-ascii .ensures .1 ∙ rw (one-entry (start a .pre) _ (meta-is a) e),
+      w .write-n-state-from-ascii .ensures .1 ∙ rw (one-entry (start a .pre) _ (a .entry-layout .ensures .2) e),
     )
 
 same-length-2 : tie.Need-same-length-2
@@ -114,20 +92,18 @@ returns-2 c =
     let w = c .before .before in
     let p = w .before .before .before .before in
     let a = p .before .before .before in
-    let e = apart-by a (p .before .before .if1 .left) in (
+    let e = apart a (p .before .before .if1 .left) in (
       w .write-n-state-from-ascii2 .ensures .0 ∙ omega (arith, p .push-zeros .ensures .0, e),
       w .write-n-state-from-ascii2 .ensures .1 ∙ rw (p .push-zeros .ensures .1, p .push-zeros .ensures .0)
-          (apart-stored (start a .pre) _ e (now (start a .args .out)) _ (meta-is a) refl),
+          (apart-stored (start a .pre) _ e (now (start a .args .out)) _ (a .entry-layout .ensures .2) refl),
     )
 
 pub write-entry-spec : {M : Type 1} → statement M
 write-entry-spec =
     tie.close
     (tie.spec
-    cast-bits
-    bytes-required-requires
-    entry-size-requires
-    mark-requires
+    cast-entry-layout
+    entry-layout-requires
     write-n-state-from-ascii-requires
     slice-write-out
     add-push-zeros
