@@ -1,26 +1,54 @@
 -- What Add a change leaves, from the outcome of each of its tests.
 -- Assumes nothing.
-use mathlib.Core.Path.{_≡_, refl, sym, ap, _∙_, subst}
-use mathlib.Core.Bool.{Bool, true, false, not, cond, _&&_}
-use mathlib.Core.List.{List, [], _∷_, _++_}
+use mathlib.Core.Path.{_≡_, refl, sym, ap, _∙_}
+use mathlib.Core.Bool.{Bool, true, false, cond, _&&_}
+use mathlib.Core.List.{List, [], _∷_, _++_, reverse, append-nil}
 use Prim.Native.Nat.{ℕ, zero, suc, _+_, _-_, _*_, _≤_, _<_}
+use native.Mathlib.Nat.{add-zero, mul-zero, suc-mul}
+use native.Mathlib.Numerals.{add-one}
 use native.Mathlib.Omega.{arith}
-use lib.Dec.{T, eqb, leb, ltb, leb→le}
-use borrow.Author.Tests.{not-false}
+use lib.Dec.{eqb, leb, ltb, leb→le}
+use borrow.Author.Tests.{not-true, eq-eqb, ne-eqb, lt-ltb, le-ltb}
 use lib.ListN.{length, getD, set}
 use Rattle.value.specs.declared.States.{States}
-use Rattle.value.specs.Slice.{part, overlay}
+use Rattle.value.specs.Digits.{digits}
+use Rattle.value.specs.Slice.{part, overlay, same}
 use Rattle.value.specs.Level.{markOf, codesOf, foldAll, hasNoCode, leastOf, join}
 use Rattle.value.proofs.Tests.{to-T, and-left, and-right}
-use Rattle.value.proofs.Slices.{part-length, part-at, overlay-part, overlay-snoc, overlay-overlay}
+use Rattle.value.proofs.Levels.{mark-join}
+use Rattle.value.proofs.Slices.{part-length, part-at, part-nil, overlay-part, overlay-snoc, overlay-overlay}
 use Rattle.fst.specs.declared.Encoding.{Encoding}
 use Rattle.fst.specs.declared.Encoding.the-variants.{Event, Real, BitVector}
 use Rattle.fst.specs.declared.Description.{Description}
 use Rattle.fst.specs.Refusal.{tried, Outcome}
 use Rattle.fst.specs.Entry.{entrySize, entryOf, widenAll}
-use Rattle.fst.specs.Record.{Lent, Kept, maximum, sizeOf, usedSize, keptIn, widthStands, fitsBytes, fits, isBad}
+use Rattle.fst.specs.Record.{Lent, Kept, sizeOf, usedSize, keptIn, widthStands, fits, isBad}
 use Rattle.fst.specs.Change.{Change, text, real, isOtherKind, isOtherLength, isForeign, isBelowLast, repeats, appended, changed, withChange, refusals, Recorder, stored, addChange}
+use Rattle.fst.specs.Adding.{Admitted, Levels}
 use Rattle.fst.proofs.Sizes.{widen-all-length}
+use Rattle.fst.proofs.Records.{Fits, fits-room, not-bad}
+use Rattle.fst.proofs.LastEntry.{part-part}
+
+-- ---- number 2, and number 7
+
+pub standing : (d : Description) (l : Lent) → isBad d l ≡ false → Fits d l
+standing d l h = fits-room d l ((not-bad d l h) .1)
+
+pub width-known : (w : ℕ) (M : States) → widthStands (BitVector w M) ≡ true → (1 ≤ w) × (w ≤ 4096)
+unfolding widthStands
+width-known w M h =
+    let t = to-T (leb 1 w && leb w 4096) h in
+    (leb→le 1 w (and-left (leb 1 w) (leb w 4096) t), leb→le w 4096 (and-right (leb 1 w) (leb w 4096) t))
+
+-- a width says nothing of the set
+pub width-any : (w : ℕ) (M N : States) → widthStands (BitVector w M) ≡ true → widthStands (BitVector w N) ≡ true
+unfolding widthStands
+width-any w M N h = h
+
+-- where the width stands, number 2 is that of the room
+no-room : (d : Description) (l : Lent) → widthStands (d .encoding) ≡ true → isBad d l ≡ true → fits d l ≡ false
+unfolding isBad
+no-room d l w h = not-true (fits d l) (rw w at h)
 
 -- ---- a refusal, and an acceptance
 
@@ -29,135 +57,176 @@ module _ (d : Description) (l : Lent) (i : ℕ) (c : Change) where
   abbrev pub refusedWith : ℕ → Outcome Recorder
   refusedWith n = record { refused = n; left = record { description = d; bytes = l .bytes; indices = l .indices } }
 
+  -- accepted, with what is left
+  abbrev pub acceptedWith : Recorder → Outcome Recorder
+  acceptedWith r = record { refused = 0; left = r }
+
   pub two : isBad d l ≡ true → refusedWith 2 ≡ addChange d l i c
   unfolding addChange refusals tried
   two h = rw h
 
-  module _ (sound : isBad d l ≡ false) where
-    pub three : isOtherKind (d .encoding) c ≡ true → refusedWith 3 ≡ addChange d l i c
+  pub three : isBad d l ≡ false → isOtherKind (d .encoding) c ≡ true → refusedWith 3 ≡ addChange d l i c
+  unfolding addChange refusals tried
+  three sound h = rw (sound, h)
+
+  module _ (sound : isBad d l ≡ false) (kind : isOtherKind (d .encoding) c ≡ false) where
+    pub four : isOtherLength (d .encoding) c ≡ true → refusedWith 4 ≡ addChange d l i c
     unfolding addChange refusals tried
-    three h = rw (sound, h)
+    four h = rw (sound, kind, h)
 
-    module _ (kind : isOtherKind (d .encoding) c ≡ false) where
-      pub four : isOtherLength (d .encoding) c ≡ true → refusedWith 4 ≡ addChange d l i c
+    module _ (long : isOtherLength (d .encoding) c ≡ false) where
+      pub five : isForeign (d .encoding) c ≡ true → refusedWith 5 ≡ addChange d l i c
       unfolding addChange refusals tried
-      four h = rw (sound, kind, h)
+      five h = rw (sound, kind, long, h)
 
-      module _ (long : isOtherLength (d .encoding) c ≡ false) where
-        pub five : isForeign (d .encoding) c ≡ true → refusedWith 5 ≡ addChange d l i c
-        unfolding addChange refusals tried
-        five h = rw (sound, kind, long, h)
+      pub six : isForeign (d .encoding) c ≡ false → isBelowLast i (d .count) ((keptIn d l) .indices) ≡ true → refusedWith 6 ≡ addChange d l i c
+      unfolding addChange refusals tried
+      six known h = rw (sound, kind, long, known, h)
 
-        module _ (known : isForeign (d .encoding) c ≡ false) where
-          pub six : isBelowLast i (d .count) ((keptIn d l) .indices) ≡ true → refusedWith 6 ≡ addChange d l i c
-          unfolding addChange refusals tried
-          six h = rw (sound, kind, long, known, h)
+  -- the record with the change, and whether it has room
+  module _ (a : Admitted d l i c) (k : Kept) (e : withChange (keptIn d l) i c ≡ k) where
+    pub seven : widthStands (k .description .encoding) ≡ true → isBad (k .description) l ≡ true → refusedWith 7 ≡ addChange d l i c
+    unfolding addChange refusals tried
+    seven w h = rw (a .sound, a .kind, a .long, a .known, a .rises, e, no-room (k .description) l w h)
 
-          module _ (rises : isBelowLast i (d .count) ((keptIn d l) .indices) ≡ false) where
-            pub seven : (k : Kept) → withChange (keptIn d l) i c ≡ k → fits (k .description) l ≡ false → refusedWith 7 ≡ addChange d l i c
-            unfolding addChange refusals tried
-            seven k e h = rw (sound, kind, long, known, rises, e, h)
+    pub accepted : (r : Recorder) → stored l k ≡ r → isBad (k .description) l ≡ false → acceptedWith r ≡ addChange d l i c
+    unfolding addChange refusals tried
+    accepted r s h = rw (a .sound, a .kind, a .long, a .known, a .rises, e, (not-bad (k .description) l h) .1, s)
 
-            pub accepted : (k : Kept) → withChange (keptIn d l) i c ≡ k → fits (k .description) l ≡ true
-                → _≡_ {A = Outcome Recorder} (record { refused = 0; left = stored l k }) (addChange d l i c)
-            unfolding addChange refusals tried
-            accepted k e h = rw (sound, kind, long, known, rises, e, h)
+-- ---- the last index kept
 
--- ---- what number 2 leaves to be known
-
-pub record Standing (d : Description) (l : Lent) : Type 0 where
-  pub few : d .count ≤ maximum
-  pub bytes-in : l .byteStart + d .count * sizeOf (d .encoding) ≤ length (l .bytes)
-  pub indices-in : l .indexStart + d .count ≤ length (l .indices)
-
-pub standing : (d : Description) (l : Lent) → isBad d l ≡ false → Standing d l
-unfolding isBad fits fitsBytes
-standing d l h =
-    let t = to-T _ (not-false (widthStands (d .encoding) && fits d l) h) in
-    let f = and-right (widthStands (d .encoding)) (fits d l) t in
-    let b = and-left (fitsBytes d (l .byteStart) (l .bytes)) (leb (l .indexStart + d .count) (length (l .indices))) f in
-    record {
-      few = leb→le (d .count) maximum (and-left (leb (d .count) maximum) (leb (l .byteStart + usedSize d) (length (l .bytes))) b);
-      bytes-in = leb→le (l .byteStart + usedSize d) (length (l .bytes)) (and-right (leb (d .count) maximum) (leb (l .byteStart + usedSize d) (length (l .bytes))) b);
-      indices-in = leb→le (l .indexStart + d .count) (length (l .indices)) (and-right (fitsBytes d (l .byteStart) (l .bytes)) (leb (l .indexStart + d .count) (length (l .indices))) f);
-    }
-
-pub width-known : (w : ℕ) (M : States) (n : ℕ) (l : Lent) → isBad (record { encoding = BitVector w M; count = n }) l ≡ false → (1 ≤ w) × (w ≤ 4096)
-unfolding isBad widthStands
-width-known w M n l h =
-    let d : Description = record { encoding = BitVector w M; count = n } in
-    let t = and-left (leb 1 w && leb w 4096) (fits d l) (to-T _ (not-false ((leb 1 w && leb w 4096) && fits d l) h)) in
-    (leb→le 1 w (and-left (leb 1 w) (leb w 4096) t), leb→le w 4096 (and-right (leb 1 w) (leb w 4096) t))
-
--- ---- the indices
-
--- the last index kept
-pub last-kept : (i n : ℕ) (l : List ℕ) (start : ℕ) → 0 < n → isBelowLast i n (part start n l) ≡ ltb i (getD l (start + n - 1) 0)
+pub none-kept : (i n : ℕ) (l : List ℕ) → n ≡ 0 → false ≡ isBelowLast i n l
 unfolding isBelowLast
-last-kept i zero l start h = absurd (omega arith)
+none-kept i n l e = rw e
+
+pub last-kept : (i n : ℕ) (l : List ℕ) (start : ℕ) → (n ≡ 0 → ⊥) → ltb i (getD l (start + (n - 1)) 0) ≡ isBelowLast i n (part start n l)
+unfolding isBelowLast
+last-kept i zero l start h = absurd (h refl)
 last-kept i (suc m) l start h =
-    ap (ltb i)
-    (part-at l start (suc m) m 0 (let e : m < suc m = omega arith in e)
-    ∙ ap (λ (k : ℕ). getD l k 0) (let e : start + m ≡ start + suc m - 1 = omega arith in e))
+    let e : start + (suc m - 1) ≡ start + m = omega arith in
+    ap (ltb i) (ap (λ (k : ℕ). getD l k 0) e ∙ sym (part-at l start (suc m) m 0 (let h : m < suc m = omega arith in h)))
 
--- ---- a string's levels
+-- ---- what a record leaves in the slices
 
-module _ (w : ℕ) (M : States) (n : ℕ) (l : Lent) (i : ℕ) (s : List ℕ) where
-  abbrev pub vector : Description
-  vector = record { encoding = BitVector w M; count = n }
+module _ (l : Lent) (d : Description) (n : ℕ) where
+  abbrev pub indicesKept : List ℕ
+  indicesKept = part (l .indexStart) n (l .indices)
 
-  abbrev pub codes : List ℕ
-  codes = codesOf (foldAll s)
+  -- no index more
+  pub stored-same : (bytes : List ℕ) → l .indexStart + n ≤ length (l .indices)
+      → stored l (record { description = d; bytes = bytes; indices = indicesKept })
+      ≡ record { description = d; bytes = overlay (l .bytes) (l .byteStart) bytes; indices = l .indices }
+  unfolding stored
+  stored-same bytes h = rw (overlay-part (l .indices) (l .indexStart) n h)
 
-  abbrev pub joint : States
-  joint = join M (leastOf codes)
+  -- an entry and an index behind m bytes and n indices
+  pub stored-more : (m i : ℕ) (bytes new : List ℕ) → length bytes ≡ m → l .byteStart + m ≤ length (l .bytes) → l .indexStart + n < length (l .indices)
+      → stored l (record { description = d; bytes = bytes ++ new; indices = indicesKept ++ (i ∷ []) })
+      ≡ record {
+        description = d;
+        bytes = overlay (overlay (l .bytes) (l .byteStart) bytes) (l .byteStart + m) new;
+        indices = set (l .indices) (l .indexStart + n) i;
+      }
+  unfolding stored
+  stored-more m i bytes new e hb hi =
+      let g : l .byteStart + length bytes ≡ l .byteStart + m = ap (λ (k : ℕ). l .byteStart + k) e in
+      rw (
+        overlay-snoc (l .indices) (l .indexStart) n i hi,
+        ← overlay-overlay (l .bytes) (l .byteStart) bytes new (l .byteStart + m) g hb,
+      )
+
+-- ---- a string's levels, for a record of w levels under M, which J joins with the string's own set
+
+module _ (d : Description) (l : Lent) (i : ℕ) (s : List ℕ) (M own J : States) (v : Levels d l i M own s) (j : J ≡ join M own) where
+  abbrev w : ℕ
+  w = length s
+
+  abbrev n : ℕ
+  n = d .count
 
   -- the earlier entries under the set that is then the largest, and the new one
   abbrev pub wide : List ℕ
-  wide = widenAll w M joint n (part (l .byteStart) (n * entrySize w M) (l .bytes))
+  wide = widenAll w M J n (part (l .byteStart) (n * entrySize w M) (l .bytes))
 
   abbrev pub entry : List ℕ
-  entry = entryOf w joint (leastOf codes) codes
-
-  abbrev indicesKept : List ℕ
-  indicesKept = part (l .indexStart) n (l .indices)
+  entry = entryOf w J own (codesOf (foldAll s))
 
   abbrev pub under : ℕ → Description
-  under m = record { encoding = BitVector w joint; count = m }
+  under m = record { encoding = BitVector w J; count = m }
 
-  pub stays : repeats (entrySize w joint) n wide entry ≡ true
-      → withChange (keptIn vector l) i (text s) ≡ record { description = under n; bytes = wide; indices = indicesKept }
+  -- the record with the change
+  abbrev kept : Bool → Kept
+  kept r =
+      cond r
+      (record { description = under n; bytes = wide; indices = indicesKept l d n })
+      (record { description = under (suc n); bytes = wide ++ entry; indices = indicesKept l d n ++ (i ∷ []) })
+
+  with-levels : (r : Bool) → r ≡ repeats (entrySize w J) n wide entry → withChange (keptIn d l) i (text s) ≡ kept r
   unfolding keptIn changed appended
-  stays h = rw h
+  with-levels r e = rw (v .vector, ← v .least, ← j, ← e)
 
-  pub grows : repeats (entrySize w joint) n wide entry ≡ false
-      → withChange (keptIn vector l) i (text s) ≡ record { description = under (suc n); bytes = wide ++ entry; indices = indicesKept ++ (i ∷ []) }
-  unfolding keptIn changed appended
-  grows h = rw h
+  pub width-here : widthStands (BitVector w M) ≡ true
+  width-here = ap widthStands (sym (v .vector)) ∙ (not-bad d l (v .admitted .sound)) .0
 
-  module _ (at : Standing vector l) where
-    -- what a repeat leaves in the slices
-    pub stays-stored : stored l (record { description = under n; bytes = wide; indices = indicesKept })
-        ≡ record { description = under n; bytes = overlay (l .bytes) (l .byteStart) wide; indices = l .indices }
-    unfolding stored
-    stays-stored = rw (overlay-part (l .indices) (l .indexStart) n (at .indices-in))
+  pub room-here : l .byteStart + n * entrySize w M ≤ length (l .bytes)
+  room-here =
+      let f = (standing d l (v .admitted .sound)) .bytes in
+      rw (v .vector) at f
 
-    -- what a new entry leaves, stored behind the widened ones
-    pub grows-stored : 1 ≤ w → markOf M ≤ markOf joint → l .indexStart + n < length (l .indices)
-        → l .byteStart + n * entrySize w joint ≤ length (l .bytes)
-        → stored l (record { description = under (suc n); bytes = wide ++ entry; indices = indicesKept ++ (i ∷ []) })
-        ≡ record {
-          description = under (suc n);
-          bytes = overlay (overlay (l .bytes) (l .byteStart) wide) (l .byteStart + n * entrySize w joint) entry;
-          indices = set (l .indices) (l .indexStart + n) i;
-        }
-    unfolding stored
-    grows-stored pos up room-i room-b =
-        let used = part (l .byteStart) (n * entrySize w M) (l .bytes) in
-        let e : length used ≡ n * entrySize w M = part-length (l .bytes) (l .byteStart) (n * entrySize w M) (at .bytes-in) in
-        let f : length wide ≡ n * entrySize w joint = widen-all-length w pos M joint up n used (omega arith) in
-        let g : l .byteStart + length wide ≡ l .byteStart + n * entrySize w joint = ap (λ (k : ℕ). l .byteStart + k) f in
-        rw (
-          overlay-snoc (l .indices) (l .indexStart) n i room-i,
-          ← overlay-overlay (l .bytes) (l .byteStart) wide entry (l .byteStart + n * entrySize w joint) g room-b,
-        )
+  pub up : markOf M ≤ markOf J
+  up = omega (arith, ap markOf j, mark-join M own)
+
+  count-of : (r : Bool) (next : ℕ) → next ≡ cond r n (n + 1) → under next ≡ (kept r) .description
+  count-of true next e = ap under e
+  count-of false next e = ap under (e ∙ add-one n)
+
+  module _ (r : Bool) (told : r ≡ repeats (entrySize w J) n wide entry) (next : ℕ) (counted : next ≡ cond r n (n + 1)) where
+    pub levels-full : isBad (under next) l ≡ true → refusedWith d l i (text s) 7 ≡ addChange d l i (text s)
+    levels-full h = go r told counted
+      where
+        go : (r : Bool) → r ≡ repeats (entrySize w J) n wide entry → next ≡ cond r n (n + 1) → refusedWith d l i (text s) 7 ≡ addChange d l i (text s)
+        go true t c =
+            seven d l i (text s) (v .admitted) (kept true) (with-levels true t) (width-any w M J width-here)
+            (ap (λ (d : Description). isBad d l) (sym (count-of true next c)) ∙ h)
+        go false t c =
+            seven d l i (text s) (v .admitted) (kept false) (with-levels false t) (width-any w M J width-here)
+            (ap (λ (d : Description). isBad d l) (sym (count-of false next c)) ∙ h)
+
+    module _ (roomy : isBad (under next) l ≡ false) where
+      pub levels-stay : r ≡ true
+          → acceptedWith d l i (text s) (record { description = under next; bytes = overlay (l .bytes) (l .byteStart) wide; indices = l .indices })
+          ≡ addChange d l i (text s)
+      levels-stay e =
+          let q : under next ≡ under n = count-of true next (counted ∙ rw e) in
+          ap (λ (x : Description). acceptedWith d l i (text s) (record { description = x; bytes = overlay (l .bytes) (l .byteStart) wide; indices = l .indices })) q
+          ∙ accepted d l i (text s) (v .admitted) (kept true) (with-levels true (sym e ∙ told)) _
+          (stored-same l (under n) n wide ((standing d l (v .admitted .sound)) .indices))
+          (ap (λ (d : Description). isBad d l) (sym q) ∙ roomy)
+
+      pub levels-grow : r ≡ false
+          → acceptedWith d l i (text s)
+          (record {
+            description = under next;
+            bytes = overlay (overlay (l .bytes) (l .byteStart) wide) (l .byteStart + n * entrySize w J) entry;
+            indices = set (l .indices) (l .indexStart + n) i;
+          })
+          ≡ addChange d l i (text s)
+      levels-grow e =
+          let q : under next ≡ under (suc n) = count-of false next (counted ∙ rw e) in
+          let f = standing (under (suc n)) l (ap (λ (d : Description). isBad d l) (sym q) ∙ roomy) in
+          let p = width-known w M width-here in
+          let u : List ℕ = part (l .byteStart) (n * entrySize w M) (l .bytes) in
+          let z : length u ≡ n * entrySize w M = part-length (l .bytes) (l .byteStart) (n * entrySize w M) room-here in
+          let x : length wide ≡ n * entrySize w J = widen-all-length w (p .0) M J up n u (omega arith) in
+          ap
+          (λ (x : Description).
+          acceptedWith d l i (text s)
+          (record {
+            description = x;
+            bytes = overlay (overlay (l .bytes) (l .byteStart) wide) (l .byteStart + n * entrySize w J) entry;
+            indices = set (l .indices) (l .indexStart + n) i;
+          }))
+          q
+          ∙ accepted d l i (text s) (v .admitted) (kept false) (with-levels false (sym e ∙ told)) _
+          (stored-more l (under (suc n)) n (n * entrySize w J) i wide entry x (omega (arith, f .bytes, suc-mul n (entrySize w J))) (omega (arith, f .indices)))
+          (ap (λ (d : Description). isBad d l) (sym q) ∙ roomy)

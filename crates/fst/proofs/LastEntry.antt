@@ -3,15 +3,15 @@
 use mathlib.Core.Path.{_≡_, refl, sym, ap, _∙_}
 use mathlib.Core.Bool.{Bool, false}
 use mathlib.Core.List.{List, [], _∷_, _++_, append-nil}
-use Prim.Native.Nat.{ℕ, zero, suc, _+_, _-_, _*_, _≤_, _<_}
-use native.Mathlib.Nat.{zero-mul, suc-mul, add-comm, add-assoc}
+use Prim.Native.Nat.{ℕ, zero, suc, _+_, _-_, _*_, _≤_, _<_, zero-le}
+use native.Mathlib.Nat.{zero-mul, one-mul, suc-mul, add-comm, add-assoc}
 use native.Mathlib.Omega.{arith}
 use lib.ListN.{length, take, drop, length-append, length-drop, take-append-drop}
 use lib.Seq.{take-at, drop-append-add, drop-drop, take-take, length-take-le}
 use Rattle.value.specs.declared.States.{States}
 use Rattle.value.specs.Slice.{part, overlay, same}
 use Rattle.value.specs.Level.{markOf}
-use Rattle.value.proofs.Slices.{part-length}
+use Rattle.value.proofs.Slices.{part-length, part-all, part-overlay}
 use Rattle.fst.specs.Entry.{entrySize, widenEntry, widenAll}
 use Rattle.fst.specs.Change.{repeats}
 use Rattle.fst.proofs.Sizes.{widen-length, widen-all-length}
@@ -26,6 +26,29 @@ part-part l start n at m h = go at n (drop start l) h ∙ ap (take m) (drop-drop
     go (suc at) zero r h = absurd (omega arith)
     go (suc at) (suc n) [] h = refl
     go (suc at) (suc n) (x ∷ r) h = go at n r (omega arith)
+
+-- ---- the last of n entries of one size
+
+-- it ends where they end
+pub last-place : (n size start room : ℕ) → (n ≡ 0 → ⊥) → start + n * size ≤ room → start + (n - 1) * size + size ≤ room
+last-place zero size start room h r = absurd (h refl)
+last-place (suc m) size start room h r =
+    let e : suc m - 1 ≡ m = omega arith in
+    rw e (omega (arith, suc-mul m size))
+
+-- there is none to repeat
+pub none-repeated : (size n : ℕ) (bytes new : List ℕ) → n ≡ 0 → false ≡ repeats size n bytes new
+unfolding repeats
+none-repeated size n bytes new e = rw e
+
+-- is it repeated
+pub repeats-plain : (size n start : ℕ) (bytes new : List ℕ) → (n ≡ 0 → ⊥)
+    → same (part (start + (n - 1) * size) size bytes) new ≡ repeats size n (part start (n * size) bytes) new
+unfolding repeats
+repeats-plain size zero start bytes new h = absurd (h refl)
+repeats-plain size (suc m) start bytes new h =
+    let e : suc m - 1 ≡ m = omega arith in
+    rw e (ap (λ (x : List ℕ). same x new) (sym (part-part bytes start (suc m * size) (m * size) size (omega (arith, suc-mul m size)))))
 
 module _ (w : ℕ) (pos : 1 ≤ w) (from to : States) (up : markOf from ≤ markOf to) where
   -- entry m of those laid out anew
@@ -65,3 +88,25 @@ module _ (w : ℕ) (pos : 1 ≤ w) (from to : States) (up : markOf from ≤ mark
       ap (λ (x : List ℕ). same x new)
       (widened-at m (suc m) (part start (suc m * s) bytes) (omega arith) (omega arith)
       ∙ ap (widenEntry w from to) (part-part bytes start (suc m * s) (m * s) s (omega arith)))
+
+  pub repeats-widened : (n start : ℕ) (bytes new : List ℕ) → (n ≡ 0 → ⊥) → start + n * entrySize w from ≤ length bytes
+      → same (widenEntry w from to (part (start + (n - 1) * entrySize w from) (entrySize w from) bytes)) new
+      ≡ repeats (entrySize w to) n (widenAll w from to n (part start (n * entrySize w from) bytes)) new
+  repeats-widened zero start bytes new h r = absurd (h refl)
+  repeats-widened (suc m) start bytes new h r =
+      let e : suc m - 1 ≡ m = omega arith in
+      rw e (sym (repeats-last m start bytes new r))
+
+  -- one entry laid out anew, in a copy
+  one-widened : (v : List ℕ) → length v ≡ entrySize w from → widenAll w from to 1 v ≡ widenEntry w from to v
+  unfolding widenAll part
+  one-widened v l = append-nil (widenEntry w from to (take (entrySize w from) v)) ∙ ap (widenEntry w from to) (rw (← l) (part-all v))
+
+  pub copy-widened : (room copy moved v : List ℕ) → length v ≡ entrySize w from → copy ≡ overlay room 0 v
+      → moved ≡ overlay copy 0 (widenAll w from to 1 (part 0 (1 * entrySize w from) copy))
+      → part 0 (entrySize w to) moved ≡ widenEntry w from to v
+  copy-widened room copy moved v l e f =
+      let s = entrySize w from in
+      let a : part 0 (1 * s) copy ≡ v = rw (one-mul, e) (part-overlay room v 0 s zero-le l) in
+      let b : widenAll w from to 1 (part 0 (1 * s) copy) ≡ widenEntry w from to v = ap (widenAll w from to 1) a ∙ one-widened v l in
+      rw (f, b) (part-overlay copy (widenEntry w from to v) 0 (entrySize w to) zero-le (widen-length w pos from to v up l))

@@ -4,4 +4,5 @@ pub mod Writable
 pub mod Expand
 pub mod Record
 pub mod Change
+pub mod Adding
 pub mod Runs

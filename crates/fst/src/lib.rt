@@ -4,8 +4,10 @@ ghost use Rattle.fst.specs.Refusal.{number, numberOf};
 use value::States;
 
 pub mod bytes;
+pub mod change;
 pub mod entry;
 pub mod expand;
+pub mod real;
 pub mod record;
 
 // Why a call was refused, by the numbers of document 01.

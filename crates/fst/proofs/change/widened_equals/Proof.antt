@@ -1,0 +1,109 @@
+-- `fst::change::widened_equals` meets its contract.
+-- Assumes nothing.
+use mathlib.Core.Path.{_≡_, refl, sym, ap, _∙_}
+use mathlib.Core.List.{List}
+use Prim.Native.Nat.{ℕ, _+_, _*_, _≤_}
+use native.Mathlib.Nat.{one-mul}
+use native.Mathlib.Omega.{arith}
+use denote.Ref.{now}
+use lib.ListN.{length, replicate}
+use Rattle.value.specs.Slice.{part, overlay, same}
+use Rattle.value.proofs.Slices.{part-length}
+use Rattle.fst.specs.Entry.{entrySize}
+use Rattle.fst.specs.Writable.{entryFrom}
+use Rattle.fst.proofs.Rooms.{size-small}
+use Rattle.fst.proofs.LastEntry.{copy-widened}
+use borrow.Author.Needs.{needs}
+use Rattle.fst.proofs.change.widened_equals.Statement.{statement}
+use Rattle.fst.proofs.change.widened_equals.Tie as tie
+use Rattle.fst.proofs.change.widened_equals.Reads as reads
+use Rattle.fst.proofs.change.widened_equals.Lts as lts
+use Rattle.fst.proofs.change.copy_from.Reads as copy-from-reads
+use Rattle.fst.proofs.entry.entry_equals.Reads as entry-equals-reads
+use Rattle.fst.proofs.entry.entry_size.Reads as entry-size-reads
+use Rattle.fst.proofs.expand.expand_entries.Reads as expand-entries-reads
+
+-- src/change.rt:80:16
+cast-bits : tie.Need-cast-bits
+cast-bits c = search needs
+
+-- src/change.rt:81:9
+entry-size-requires : tie.Need-entry-size-requires
+entry-size-requires c κs = search needs
+
+-- src/change.rt:83:32
+slice-aggregate-copy-from : tie.Need-slice-aggregate-copy-from
+slice-aggregate-copy-from c = search needs
+
+-- src/change.rt:83:5
+copy-from-requires : tie.Need-copy-from-requires
+copy-from-requires c κs =
+    let x = c .before .before .before .before in
+    (
+      omega (arith, c .before .entry-size .ensures, x .pre .fits, one-mul (entrySize (length (now (x .args .value))) (x .args .max-states))),
+      omega (arith, c .before .entry-size .ensures, size-small (length (now (x .args .value))) (x .args .max-states) (x .pre .short)),
+    )
+
+-- src/change.rt:84:39
+slice-aggregate-expand-entries : tie.Need-slice-aggregate-expand-entries
+slice-aggregate-expand-entries c = search needs
+
+-- src/change.rt:84:5
+expand-entries-requires : tie.Need-expand-entries-requires
+expand-entries-requires c κs =
+    let x = c .before .before .before .before .before .before .before in
+    record {
+      wide = x .pre .wide;
+      narrow = x .pre .short;
+      up = x .pre .up;
+      few = omega arith;
+      room =
+          omega (arith, c .before .before .copy-from .kept .1 .1 .1 .0, one-mul (entrySize (length (now (x .args .value))) (x .args .joint)), size-small (length (now (x .args .value))) (x .args .joint) (x .pre .short));
+    }
+
+-- src/change.rt:85:40
+slice-aggregate-entry-equals : tie.Need-slice-aggregate-entry-equals
+slice-aggregate-entry-equals c = search needs
+
+-- src/change.rt:85:5
+entry-equals-requires : tie.Need-entry-equals-requires
+entry-equals-requires c κs =
+    let x = c .before .before .before .before .before .before .before .before .before .before in
+    record {
+      under = x .pre .under;
+      codes = x .pre .codes;
+      wide = x .pre .wide;
+      short = x .pre .short;
+      fits =
+          omega (arith, c .before .before .expand-entries .kept .1 .1 .0, c .before .before .before .before .before .copy-from .kept .1 .1 .1 .0, size-small (length (now (x .args .value))) (x .args .joint) (x .pre .short));
+    }
+
+-- src/change.rt:69:1
+returns : tie.Need-returns
+returns c =
+    let moved = c .before .before .before .expand-entries in
+    let copied = c .before .before .before .before .before .before .copy-from in
+    let z = c .before .before .before .before .before .before .before .before in
+    let x = z .before .before .before in
+    let a = x .args in
+    let b = now (a .bytes) in
+    let s = entrySize (length (now (a .value))) (a .max-states) in
+    let r : a .at + s ≤ length b = omega (arith, x .pre .fits, one-mul s) in
+    c .entry-equals .ensures
+    ∙ ap (λ (l : List ℕ). same l (entryFrom (a .joint) (a .states) (now (a .value))))
+    (copy-widened (length (now (a .value))) (x .pre .wide) (a .max-states) (a .joint) (x .pre .up) _ _ _ (part (a .at) s b) (part-length b (a .at) s r)
+    (copied .ensures ∙ ap (λ (k : ℕ). overlay (replicate 2049 0) 0 (part (a .at) k b)) (z .entry-size .ensures)) (moved .ensures))
+
+pub widened-equals-spec : {M : Type 1} → statement M
+widened-equals-spec =
+    tie.close
+    (tie.spec
+    cast-bits
+    entry-size-requires
+    slice-aggregate-copy-from
+    copy-from-requires
+    slice-aggregate-expand-entries
+    expand-entries-requires
+    slice-aggregate-entry-equals
+    entry-equals-requires
+    returns)

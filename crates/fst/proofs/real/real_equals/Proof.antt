@@ -1,0 +1,106 @@
+-- `fst::real::real_equals` meets its contract.
+-- Assumes nothing.
+use Rattle.value.specs.Digits.{digits}
+use native.Mathlib.Nat.{div-one}
+use lib.Bits.{bitAnd, and-mask}
+use Rattle.value.proofs.Slices.{part-nil, part-at}
+use Rattle.wavemem.proofs.Compare.{same-is, same-not, part-more}
+use mathlib.Core.Path.{_≡_, refl, sym, ap, ap₂, _∙_}
+use mathlib.Core.List.{List, [], _∷_, _++_}
+use Prim.Native.Nat.{ℕ, _-_, _+_, _^_, _/_, _%_, _≤_, zero-le}
+use native.Mathlib.Omega.{arith}
+use denote.Ref.{now}
+use lib.ListN.{length, getD, set, length-set}
+use Rattle.value.specs.Slice.{part, overlay}
+use Rattle.fst.proofs.Reals.{lowest, lowest-length, lowest-more, lowest-at, rest-more}
+use Rattle.fst.proofs.real.real_equals.Statement.{statement}
+use Rattle.fst.proofs.real.real_equals.Tie as tie
+use Rattle.fst.proofs.real.real_equals.Reads as reads
+use Rattle.fst.proofs.real.real_equals.Lts as lts
+
+abbrev Inv-loop : tie.InvT-loop
+Inv-loop bits bytes at rest₀ j₀ rest j =
+    (j ≤ 8) × (part at j bytes ≡ lowest 256 bits j) × (rest ≡ bits / 256 ^ j)
+
+abbrev μ-loop : tie.MeasureT-loop
+μ-loop bits bytes at rest₀ j₀ rest j = 8 - j
+
+-- src/real.rt:38:5
+loop-holds : tie.Need-loop-holds Inv-loop μ-loop
+unfolding digits
+loop-holds c = (zero-le, part-nil _ _, sym (div-one _))
+
+-- src/real.rt:39:18
+add-if1 : tie.Need-add-if1 Inv-loop μ-loop
+add-if1 c = omega arith
+
+-- src/real.rt:39:12
+shared-slice-read-if1 : tie.Need-shared-slice-read-if1 Inv-loop μ-loop
+shared-slice-read-if1 c = omega arith
+
+-- src/real.rt:39:12
+cast-if1 : tie.Need-cast-if1 Inv-loop μ-loop
+cast-if1 c = omega (arith, c .shared-slice-known .given (c .before .before .before .args .at + c .before .before .loop .j))
+
+-- src/real.rt:40:13
+-- the byte that is compared
+low : (a : tie.At-loop Inv-loop μ-loop) → bitAnd (a .loop .rest) 255 ≡ a .before .args .bits / 256 ^ a .loop .j % 256
+low a = and-mask (a .loop .rest) 8 ∙ ap (λ (k : ℕ). k % 256) (a .loop .inv .2)
+
+returns : tie.Need-returns Inv-loop μ-loop
+returns c =
+    let a = c .before .before .before in
+    let x = a .before .args in
+    let j = a .loop .j in
+    sym
+    (same-not _ _
+    (λ e.
+    c .if1 .taken
+    (sym (part-at (now (x .bytes)) (x .at) 8 j 0 (omega arith))
+    ∙ ap (λ (l : List ℕ). getD l j 0) e
+    ∙ lowest-at 256 (x .bits) 8 j (omega arith)
+    ∙ sym (low a))))
+
+-- src/real.rt:43:9
+add-j : tie.Need-add-j Inv-loop μ-loop
+add-j c = omega arith
+
+-- src/real.rt:38:5
+loop-less : tie.Need-loop-less Inv-loop μ-loop
+loop-less c = omega arith
+
+-- src/real.rt:38:5
+loop-again : tie.Need-loop-again Inv-loop μ-loop
+loop-again c =
+    let a = c .before .before .before in
+    let x = a .before .args in
+    let j = a .loop .j in (
+      omega arith,
+      part-more (now (x .bytes)) (x .at) j (omega arith)
+          ∙ ap₂ (λ (l : List ℕ) (b : ℕ). l ++ (b ∷ [])) (a .loop .inv .1) (c .if1 .left ∙ low a)
+          ∙ sym (lowest-more 256 (x .bits) j),
+      ap (λ (k : ℕ). k / 256) (a .loop .inv .2) ∙ rest-more 256 (x .bits) j,
+    )
+
+-- src/real.rt:32:1
+returns-2 : tie.Need-returns-2 Inv-loop μ-loop
+returns-2 c =
+    let e : c .before .loop .j ≡ 8 = omega arith in
+    let x = c .before .before .args in
+    sym (same-is _ _ (rw e at (c .before .loop .inv .1)))
+
+pub real-equals-spec : {M : Type 1} → statement M
+real-equals-spec =
+    tie.close
+    (tie.spec
+    Inv-loop
+    μ-loop
+    loop-holds
+    add-if1
+    shared-slice-read-if1
+    cast-if1
+    returns
+    add-j
+    loop-less
+    loop-again
+    returns-2)

@@ -1,0 +1,39 @@
+-- What the inner functions of Add a change ask.
+-- Assumes nothing.
+use Prim.Native.Nat.{ℕ, _+_, _*_, _≤_}
+use mathlib.Core.Path.{_≡_}
+use mathlib.Core.Bool.{false}
+use mathlib.Core.List.{List}
+use lib.ListN.{length}
+use Rattle.value.specs.declared.States.{States}
+use Rattle.value.specs.Level.{foldAll, codesOf, leastOf, markOf}
+use Rattle.wavemem.specs.Packed.{Codes}
+use Rattle.fst.specs.declared.Encoding.the-variants.{BitVector}
+use Rattle.fst.specs.declared.Description.{Description}
+use Rattle.fst.specs.Entry.{entrySize}
+use Rattle.fst.specs.Record.{Lent, maximum, keptIn, isBad}
+use Rattle.fst.specs.Change.{Change, text, isOtherKind, isOtherLength, isForeign, isBelowLast}
+
+-- numbers 2 to 6 are none
+pub record Admitted (d : Description) (l : Lent) (i : ℕ) (c : Change) : Type 0 where
+  pub sound : isBad d l ≡ false
+  pub kind : isOtherKind (d .encoding) c ≡ false
+  pub long : isOtherLength (d .encoding) c ≡ false
+  pub known : isForeign (d .encoding) c ≡ false
+  pub rises : isBelowLast i (d .count) ((keptIn d l) .indices) ≡ false
+
+-- a string and its least set, for a record under a largest set
+pub record Levels (d : Description) (l : Lent) (i : ℕ) (M own : States) (value : List ℕ) : Type 0 where
+  pub admitted : Admitted d l i (text value)
+  pub vector : d .encoding ≡ BitVector (length value) M
+  pub least : own ≡ leastOf (codesOf (foldAll value))
+
+-- a string that may repeat the last of some entries, which are then laid out under a joint set
+pub record Comparable (M joint own : States) (value : List ℕ) (room start count : ℕ) : Type 0 where
+  pub under : markOf own ≤ markOf joint
+  pub up : markOf M ≤ markOf joint
+  pub codes : Codes own (codesOf (foldAll value))
+  pub wide : 1 ≤ length value
+  pub short : length value ≤ 4096
+  pub few : count ≤ maximum
+  pub fits : start + count * entrySize (length value) M ≤ room

@@ -1,0 +1,257 @@
+// Add a change, a string's: `SignalWriter::add_change` of wellen's src/fst.rs.
+ghost use mathlib.Core.Path.{_≡_};
+ghost use mathlib.Core.Bool.{cond, false};
+ghost use Prim.Native.Nat.{_+_, _*_, _≤_};
+ghost use lib.ListN.{length};
+ghost use Rattle.value.specs.Slice.{part, overlay, same};
+ghost use Rattle.fst.specs.declared.Encoding.the-variants as encoding;
+ghost use Rattle.fst.specs.declared.Verdict.the-variants as verdict;
+ghost use Rattle.fst.specs.Entry.{entrySize, widenEntry, widenAll};
+ghost use Rattle.fst.specs.Writable.{entryFrom};
+ghost use Rattle.fst.specs.Record.{maximum, isBad};
+ghost use Rattle.fst.specs.Change.{text, isBelowLast, repeats, addChange, leftBy};
+ghost use Rattle.fst.specs.Adding.{Levels, Comparable};
+use crate::Added;
+use crate::Description;
+use crate::Encoding;
+use crate::Refusal;
+use crate::Verdict;
+use crate::entry::entry_equals;
+use crate::entry::entry_size;
+use crate::entry::write_entry;
+use crate::expand::expand_entries;
+use crate::record::is_bad;
+use value::States;
+use value::StatesAnswer;
+
+pub fn accepted(next: Description) -> Added
+    ensures { λ r. ⌜ r ≡ record { verdict = verdict.Accepted; next = next } ⌝ }
+{
+    Added {
+        verdict: Verdict::Accepted,
+        next,
+    }
+}
+
+pub fn refused(description: Description, refusal: Refusal) -> Added
+    ensures { λ r. ⌜ r ≡ record { verdict = verdict.Refused refusal; next = description } ⌝ }
+{
+    Added {
+        verdict: Verdict::Refused(refusal),
+        next: description,
+    }
+}
+
+// Number 6.
+pub fn is_below_last(index: u32, indices: &[u32], index_start: usize, count: u32) -> bool
+    requires { ⌜ «index_start» + count ≤ length (now indices) ⌝ }
+    ensures { λ r. ⌜ r ≡ isBelowLast index count (part «index_start» count (now (indices .entry))) ⌝ }
+{
+    if count == 0 {
+        return false;
+    }
+    let last = indices[index_start + (count as usize - 1)];
+    index < last
+}
+
+fn copy_from(bytes: &[u8], at: usize, count: usize, out: &mut [u8])
+    requires { ⌜ (at + count ≤ length (now bytes)) × (count ≤ length (now out)) ⌝ }
+    ensures { λ _. ⌜ now (out .exit) ≡ overlay (now (out .entry)) 0 (part at count (now (bytes .entry))) ⌝ }
+{
+    let mut j = 0;
+    while j < count {
+        out[j] = bytes[at + j];
+        j += 1;
+    }
+}
+
+// Whether the entry at a place, laid out under a joint set, is that of a string. No entry is longer than the copy.
+fn widened_equals(
+    max_states: States,
+    joint: States,
+    states: States,
+    value: &[u8],
+    bytes: &[u8],
+    at: usize,
+) -> bool
+    requires { ⌜ Comparable «max_states» joint states (now value) (length (now bytes)) at 1 ⌝ }
+    ensures { λ r. ⌜ r ≡ same (widenEntry (length (now (value .entry))) «max_states» joint (part at (entrySize (length (now (value .entry))) «max_states») (now (bytes .entry)))) (entryFrom joint states (now (value .entry))) ⌝ }
+{
+    let bits = value.len() as u32;
+    let size = entry_size(max_states, bits);
+    let mut entry = [0u8; 2049];
+    copy_from(bytes, at, size, &mut entry);
+    expand_entries(max_states, joint, &mut entry, 0, 1, bits);
+    entry_equals(joint, states, value, &entry, 0)
+}
+
+// Whether a string repeats the last of `count` entries, once they are laid out under a joint set. Nothing is moved yet.
+fn repeats_last(
+    max_states: States,
+    joint: States,
+    states: States,
+    value: &[u8],
+    bytes: &[u8],
+    byte_start: usize,
+    count: u32,
+) -> bool
+    requires { ⌜ Comparable «max_states» joint states (now value) (length (now bytes)) «byte_start» count ⌝ }
+    ensures { λ r. ⌜ r ≡ repeats (entrySize (length (now (value .entry))) joint) count (widenAll (length (now (value .entry))) «max_states» joint count (part «byte_start» (count * entrySize (length (now (value .entry))) «max_states») (now (bytes .entry)))) (entryFrom joint states (now (value .entry))) ⌝ }
+{
+    if count == 0 {
+        return false;
+    }
+    let bits = value.len() as u32;
+    let size = entry_size(max_states, bits);
+    let at = byte_start + (count as usize - 1) * size;
+    if size == entry_size(joint, bits) {
+        entry_equals(joint, states, value, bytes, at)
+    } else {
+        widened_equals(max_states, joint, states, value, bytes, at)
+    }
+}
+
+// The entries with a change.
+fn next_count(count: u32, repeat: bool) -> u32
+    requires { ⌜ count ≤ maximum ⌝ }
+    ensures { λ r. ⌜ r ≡ cond repeat count (count + 1) ⌝ }
+{
+    if repeat { count } else { count + 1 }
+}
+
+impl Description {
+    // Number 7, and what is stored. The room is that of the record with the change.
+    fn add_levels(
+        self,
+        max_states: States,
+        states: States,
+        bytes: &mut [u8],
+        byte_start: usize,
+        indices: &mut [u32],
+        index_start: usize,
+        index: u32,
+        value: &[u8],
+    ) -> Added
+        requires { ⌜ Levels self (record { bytes = now bytes; byteStart = «byte_start»; indices = now indices; indexStart = «index_start» }) index «max_states» states (now value) ⌝ }
+        ensures { λ r. ⌜ leftBy r (now (bytes .exit)) (now (indices .exit)) ≡ addChange self (record { bytes = now (bytes .entry); byteStart = «byte_start»; indices = now (indices .entry); indexStart = «index_start» }) index (text (now (value .entry))) ⌝ }
+    {
+        let width = value.len() as u32;
+        let count = self.count;
+        let joint = States::join(max_states, states);
+        let repeat = repeats_last(max_states, joint, states, value, bytes, byte_start, count);
+        let next = Description {
+            encoding: Encoding::BitVector {
+                width,
+                max_states: joint,
+            },
+            count: next_count(count, repeat),
+        };
+        if is_bad(next, bytes, byte_start, indices, index_start) {
+            return refused(self, Refusal::NoRoom);
+        }
+        let entries = count as usize;
+        expand_entries(max_states, joint, bytes, byte_start, entries, width);
+        if repeat {
+            return accepted(next);
+        }
+        let at = byte_start + entries * entry_size(joint, width);
+        write_entry(joint, states, value, bytes, at);
+        indices[index_start + entries] = index;
+        accepted(next)
+    }
+
+    // Numbers 4 to 6 of a string for a bit vector.
+    fn add_string(
+        self,
+        width: u32,
+        max_states: States,
+        bytes: &mut [u8],
+        byte_start: usize,
+        indices: &mut [u32],
+        index_start: usize,
+        index: u32,
+        value: &[u8],
+    ) -> Added
+        requires { ⌜ (isBad self (record { bytes = now bytes; byteStart = «byte_start»; indices = now indices; indexStart = «index_start» }) ≡ false) × (self .encoding ≡ encoding.BitVector width «max_states») ⌝ }
+        ensures { λ r. ⌜ leftBy r (now (bytes .exit)) (now (indices .exit)) ≡ addChange self (record { bytes = now (bytes .entry); byteStart = «byte_start»; indices = now (indices .entry); indexStart = «index_start» }) index (text (now (value .entry))) ⌝ }
+    {
+        if value.len() != width as usize {
+            return refused(self, Refusal::WrongLength);
+        }
+        let StatesAnswer::Least(states) = States::from_ascii(value) else {
+            return refused(self, Refusal::ForeignCharacter);
+        };
+        if is_below_last(index, indices, index_start, self.count) {
+            return refused(self, Refusal::IndexBelowLast);
+        }
+        self.add_levels(
+            max_states,
+            states,
+            bytes,
+            byte_start,
+            indices,
+            index_start,
+            index,
+            value,
+        )
+    }
+
+    // A string for an event: every change is kept.
+    fn add_event(
+        mut self,
+        bytes: &[u8],
+        byte_start: usize,
+        indices: &mut [u32],
+        index_start: usize,
+        index: u32,
+        value: &[u8],
+    ) -> Added
+        requires { ⌜ (isBad self (record { bytes = now bytes; byteStart = «byte_start»; indices = now indices; indexStart = «index_start» }) ≡ false) × (self .encoding ≡ encoding.Event) ⌝ }
+        ensures { λ r. ⌜ leftBy r (now (bytes .entry)) (now (indices .exit)) ≡ addChange self (record { bytes = now (bytes .entry); byteStart = «byte_start»; indices = now (indices .entry); indexStart = «index_start» }) index (text (now (value .entry))) ⌝ }
+    {
+        if 1 < value.len() {
+            return refused(self, Refusal::WrongLength);
+        }
+        if is_below_last(index, indices, index_start, self.count) {
+            return refused(self, Refusal::IndexBelowLast);
+        }
+        let before = self;
+        self.count += 1;
+        if is_bad(self, bytes, byte_start, indices, index_start) {
+            return refused(before, Refusal::NoRoom);
+        }
+        indices[index_start + before.count as usize] = index;
+        accepted(self)
+    }
+
+    pub fn add_change(
+        mut self,
+        bytes: &mut [u8],
+        byte_start: usize,
+        indices: &mut [u32],
+        index_start: usize,
+        index: u32,
+        value: &[u8],
+    ) -> Added
+        ensures { λ r. ⌜ leftBy r (now (bytes .exit)) (now (indices .exit)) ≡ addChange self (record { bytes = now (bytes .entry); byteStart = «byte_start»; indices = now (indices .entry); indexStart = «index_start» }) index (text (now (value .entry))) ⌝ }
+    {
+        if is_bad(self, bytes, byte_start, indices, index_start) {
+            return refused(self, Refusal::BadRecord);
+        }
+        let encoding = self.encoding;
+        match encoding {
+            Encoding::Event => self.add_event(bytes, byte_start, indices, index_start, index, value),
+            Encoding::Real => refused(self, Refusal::WrongKind),
+            Encoding::BitVector { width, max_states } => self.add_string(
+                width,
+                max_states,
+                bytes,
+                byte_start,
+                indices,
+                index_start,
+                index,
+                value,
+            ),
+        }
+    }
+}
