@@ -1,33 +1,24 @@
 -- What Add a change leaves, from the outcome of each of its tests.
 -- Assumes nothing.
 use mathlib.Core.Path.{_≡_, refl, sym, ap, _∙_}
-use mathlib.Core.Bool.{Bool, true, false, cond, _&&_}
-use mathlib.Core.List.{List, [], _∷_, _++_, reverse, append-nil}
+use mathlib.Core.Bool.{Bool, true, false, _&&_}
+use mathlib.Core.List.{List, [], _∷_, _++_}
 use Prim.Native.Nat.{ℕ, zero, suc, _+_, _-_, _*_, _≤_, _<_}
-use native.Mathlib.Nat.{add-zero, mul-zero, suc-mul}
-use native.Mathlib.Numerals.{add-one}
 use native.Mathlib.Omega.{arith}
-use lib.Dec.{eqb, leb, ltb, leb→le}
-use borrow.Author.Tests.{not-true, eq-eqb, ne-eqb, lt-ltb, le-ltb}
+use lib.Dec.{leb, ltb, leb→le}
+use borrow.Author.Tests.{not-true}
 use lib.ListN.{length, getD, set}
 use Rattle.value.specs.declared.States.{States}
-use Rattle.value.specs.Digits.{digits}
-use Rattle.value.specs.Slice.{part, overlay, same}
-use Rattle.value.specs.Level.{markOf, codesOf, foldAll, hasNoCode, leastOf, join}
+use Rattle.value.specs.Slice.{part, overlay}
 use Rattle.value.proofs.Tests.{to-T, and-left, and-right}
-use Rattle.value.proofs.Levels.{mark-join}
-use Rattle.value.proofs.Slices.{part-length, part-at, part-nil, overlay-part, overlay-snoc, overlay-overlay}
-use Rattle.fst.specs.declared.Encoding.{Encoding}
-use Rattle.fst.specs.declared.Encoding.the-variants.{Event, Real, BitVector}
+use Rattle.value.proofs.Slices.{part-length, part-at, overlay-part, overlay-snoc, overlay-overlay}
+use Rattle.fst.specs.declared.Encoding.the-variants.{BitVector}
 use Rattle.fst.specs.declared.Description.{Description}
 use Rattle.fst.specs.Refusal.{tried, Outcome}
-use Rattle.fst.specs.Entry.{entrySize, entryOf, widenAll}
-use Rattle.fst.specs.Record.{Lent, Kept, sizeOf, usedSize, keptIn, widthStands, fits, isBad}
-use Rattle.fst.specs.Change.{Change, text, real, isOtherKind, isOtherLength, isForeign, isBelowLast, repeats, appended, changed, withChange, refusals, Recorder, stored, addChange}
-use Rattle.fst.specs.Adding.{Admitted, Levels}
-use Rattle.fst.proofs.Sizes.{widen-all-length}
+use Rattle.fst.specs.Record.{Lent, Kept, keptIn, widthStands, fits, isBad}
+use Rattle.fst.specs.Change.{Change, isOtherKind, isOtherLength, isForeign, isBelowLast, withChange, refusals, Recorder, stored, addChange}
+use Rattle.fst.specs.Adding.{Admitted}
 use Rattle.fst.proofs.Records.{Fits, fits-room, not-bad}
-use Rattle.fst.proofs.LastEntry.{part-part}
 
 -- ---- number 2, and number 7
 
@@ -135,98 +126,9 @@ module _ (l : Lent) (d : Description) (n : ℕ) where
         ← overlay-overlay (l .bytes) (l .byteStart) bytes new (l .byteStart + m) g hb,
       )
 
--- ---- a string's levels, for a record of w levels under M, which J joins with the string's own set
-
-module _ (d : Description) (l : Lent) (i : ℕ) (s : List ℕ) (M own J : States) (v : Levels d l i M own s) (j : J ≡ join M own) where
-  abbrev w : ℕ
-  w = length s
-
-  abbrev n : ℕ
-  n = d .count
-
-  -- the earlier entries under the set that is then the largest, and the new one
-  abbrev pub wide : List ℕ
-  wide = widenAll w M J n (part (l .byteStart) (n * entrySize w M) (l .bytes))
-
-  abbrev pub entry : List ℕ
-  entry = entryOf w J own (codesOf (foldAll s))
-
-  abbrev pub under : ℕ → Description
-  under m = record { encoding = BitVector w J; count = m }
-
-  -- the record with the change
-  abbrev kept : Bool → Kept
-  kept r =
-      cond r
-      (record { description = under n; bytes = wide; indices = indicesKept l d n })
-      (record { description = under (suc n); bytes = wide ++ entry; indices = indicesKept l d n ++ (i ∷ []) })
-
-  with-levels : (r : Bool) → r ≡ repeats (entrySize w J) n wide entry → withChange (keptIn d l) i (text s) ≡ kept r
-  unfolding keptIn changed appended
-  with-levels r e = rw (v .vector, ← v .least, ← j, ← e)
-
-  pub width-here : widthStands (BitVector w M) ≡ true
-  width-here = ap widthStands (sym (v .vector)) ∙ (not-bad d l (v .admitted .sound)) .0
-
-  pub room-here : l .byteStart + n * entrySize w M ≤ length (l .bytes)
-  room-here =
-      let f = (standing d l (v .admitted .sound)) .bytes in
-      rw (v .vector) at f
-
-  pub up : markOf M ≤ markOf J
-  up = omega (arith, ap markOf j, mark-join M own)
-
-  count-of : (r : Bool) (next : ℕ) → next ≡ cond r n (n + 1) → under next ≡ (kept r) .description
-  count-of true next e = ap under e
-  count-of false next e = ap under (e ∙ add-one n)
-
-  module _ (r : Bool) (told : r ≡ repeats (entrySize w J) n wide entry) (next : ℕ) (counted : next ≡ cond r n (n + 1)) where
-    pub levels-full : isBad (under next) l ≡ true → refusedWith d l i (text s) 7 ≡ addChange d l i (text s)
-    levels-full h = go r told counted
-      where
-        go : (r : Bool) → r ≡ repeats (entrySize w J) n wide entry → next ≡ cond r n (n + 1) → refusedWith d l i (text s) 7 ≡ addChange d l i (text s)
-        go true t c =
-            seven d l i (text s) (v .admitted) (kept true) (with-levels true t) (width-any w M J width-here)
-            (ap (λ (d : Description). isBad d l) (sym (count-of true next c)) ∙ h)
-        go false t c =
-            seven d l i (text s) (v .admitted) (kept false) (with-levels false t) (width-any w M J width-here)
-            (ap (λ (d : Description). isBad d l) (sym (count-of false next c)) ∙ h)
-
-    module _ (roomy : isBad (under next) l ≡ false) where
-      pub levels-stay : r ≡ true
-          → acceptedWith d l i (text s) (record { description = under next; bytes = overlay (l .bytes) (l .byteStart) wide; indices = l .indices })
-          ≡ addChange d l i (text s)
-      levels-stay e =
-          let q : under next ≡ under n = count-of true next (counted ∙ rw e) in
-          ap (λ (x : Description). acceptedWith d l i (text s) (record { description = x; bytes = overlay (l .bytes) (l .byteStart) wide; indices = l .indices })) q
-          ∙ accepted d l i (text s) (v .admitted) (kept true) (with-levels true (sym e ∙ told)) _
-          (stored-same l (under n) n wide ((standing d l (v .admitted .sound)) .indices))
-          (ap (λ (d : Description). isBad d l) (sym q) ∙ roomy)
-
-      pub levels-grow : r ≡ false
-          → acceptedWith d l i (text s)
-          (record {
-            description = under next;
-            bytes = overlay (overlay (l .bytes) (l .byteStart) wide) (l .byteStart + n * entrySize w J) entry;
-            indices = set (l .indices) (l .indexStart + n) i;
-          })
-          ≡ addChange d l i (text s)
-      levels-grow e =
-          let q : under next ≡ under (suc n) = count-of false next (counted ∙ rw e) in
-          let f = standing (under (suc n)) l (ap (λ (d : Description). isBad d l) (sym q) ∙ roomy) in
-          let p = width-known w M width-here in
-          let u : List ℕ = part (l .byteStart) (n * entrySize w M) (l .bytes) in
-          let z : length u ≡ n * entrySize w M = part-length (l .bytes) (l .byteStart) (n * entrySize w M) room-here in
-          let x : length wide ≡ n * entrySize w J = widen-all-length w (p .0) M J up n u (omega arith) in
-          ap
-          (λ (x : Description).
-          acceptedWith d l i (text s)
-          (record {
-            description = x;
-            bytes = overlay (overlay (l .bytes) (l .byteStart) wide) (l .byteStart + n * entrySize w J) entry;
-            indices = set (l .indices) (l .indexStart + n) i;
-          }))
-          q
-          ∙ accepted d l i (text s) (v .admitted) (kept false) (with-levels false (sym e ∙ told)) _
-          (stored-more l (under (suc n)) n (n * entrySize w J) i wide entry x (omega (arith, f .bytes, suc-mul n (entrySize w J))) (omega (arith, f .indices)))
-          (ap (λ (d : Description). isBad d l) (sym q) ∙ roomy)
+  -- the same where the bytes are those that stood there
+  pub stored-behind : (m i : ℕ) (new : List ℕ) → l .byteStart + m ≤ length (l .bytes) → l .indexStart + n < length (l .indices)
+      → stored l (record { description = d; bytes = part (l .byteStart) m (l .bytes) ++ new; indices = indicesKept ++ (i ∷ []) })
+      ≡ record { description = d; bytes = overlay (l .bytes) (l .byteStart + m) new; indices = set (l .indices) (l .indexStart + n) i }
+  stored-behind m i new hb hi =
+      stored-more m i (part (l .byteStart) m (l .bytes)) new (part-length (l .bytes) (l .byteStart) m hb) hb hi ∙ rw (overlay-part (l .bytes) (l .byteStart) m hb)

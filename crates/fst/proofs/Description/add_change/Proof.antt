@@ -1,5 +1,16 @@
 -- `fst::Description::add_change` meets its contract.
 -- Assumes nothing.
+use mathlib.Core.Path.{_≡_, refl, sym, ap, _∙_}
+use mathlib.Core.List.{List}
+use Prim.Native.Nat.{ℕ, _+_, _*_, _≤_, _<_}
+use native.Mathlib.Omega.{arith}
+use denote.Ref.{now}
+use lib.ListN.{length, set}
+use Rattle.fst.specs.declared.Added.{Added}
+use Rattle.fst.specs.Record.{Lent, isBad}
+use Rattle.fst.specs.Change.{leftBy, text, real}
+use Rattle.fst.proofs.Adding.{two}
+use Rattle.fst.proofs.AddingPlain.{real-three}
 use borrow.Author.Needs.{needs}
 use Rattle.fst.proofs.Description.add_change.Statement.{statement}
 use Rattle.fst.proofs.Description.add_change.Tie as tie
@@ -9,6 +20,10 @@ use Rattle.fst.proofs.Description.add_event.Reads as add-event-reads
 use Rattle.fst.proofs.Description.add_string.Reads as add-string-reads
 use Rattle.fst.proofs.change.refused.Reads as refused-reads
 use Rattle.fst.proofs.record.is_bad.Reads as is-bad-reads
+
+-- the slices that are lent
+abbrev lent : tie.Start → Lent
+lent x = record { bytes = now (x .args .bytes); byteStart = x .args .byte-start; indices = now (x .args .indices); indexStart = x .args .index-start }
 
 -- src/change.rt:238:12
 is-bad-requires : tie.Need-is-bad-requires
@@ -28,7 +43,10 @@ same-length-2 c = search needs
 
 -- src/change.rt:239:13
 returns : tie.Need-returns
-returns c = ?
+returns c =
+    let x = c .before .before .before .before .before .before .before .before in
+    ap (λ (r : Added). leftBy r ((lent x) .bytes) ((lent x) .indices)) (c .refused .ensures)
+    ∙ two (x .args .self) (lent x) (x .args .index) (text (now (x .args .value))) (sym (c .before .before .is-bad .ensures) ∙ c .before .if1 .taken)
 
 -- src/change.rt:243:47
 enum-told : tie.Need-enum-told
@@ -36,7 +54,7 @@ enum-told c = search needs
 
 -- src/change.rt:243:32
 add-event-requires : tie.Need-add-event-requires
-add-event-requires c κs = ?
+add-event-requires c κs = (sym (c .before .before .before .before .before .is-bad .ensures) ∙ c .before .before .before .before .if1 .left, c .before .before .enum-told .given .1)
 
 -- src/change.rt:244:45
 enum-told-2 : tie.Need-enum-told-2
@@ -52,7 +70,7 @@ enum-known-encoding c = search needs
 
 -- src/change.rt:245:58
 add-string-requires : tie.Need-add-string-requires
-add-string-requires c κs = ?
+add-string-requires c κs = (sym (c .before .before .before .before .before .before .is-bad .ensures) ∙ c .before .before .before .before .before .if1 .left, c .before .before .before .encoding .given .1)
 
 -- src/change.rt:227:5
 same-length-3 : tie.Need-same-length-3
@@ -76,7 +94,10 @@ same-length-6 c = search needs
 
 -- src/change.rt:227:5
 returns-3 : tie.Need-returns-3
-returns-3 c = ?
+returns-3 c =
+    let x = c .before .before .before .before .before .before .before .before .before .before in
+    ap (λ (r : Added). leftBy r ((lent x) .bytes) ((lent x) .indices)) (c .refused2 .ensures)
+    ∙ real-three (x .args .self) (lent x) (x .args .index) (now (x .args .value)) (sym (c .before .before .before .before .is-bad .ensures) ∙ c .before .before .before .if1 .left) (c .before .enum-told2 .given .1)
 
 -- src/change.rt:227:5
 same-length-7 : tie.Need-same-length-7

@@ -1,5 +1,18 @@
 -- `fst::Description::add_event` meets its contract.
 -- Assumes nothing.
+use mathlib.Core.Bool.{false}
+use mathlib.Core.Path.{_≡_, refl, sym, ap, _∙_}
+use mathlib.Core.List.{List}
+use Prim.Native.Nat.{ℕ, _+_, _*_, _≤_, _<_}
+use native.Mathlib.Omega.{arith}
+use denote.Ref.{now}
+use lib.ListN.{length, set}
+use Rattle.fst.specs.declared.Added.{Added}
+use Rattle.fst.specs.Record.{Lent, isBad}
+use Rattle.fst.specs.Change.{leftBy, text, real}
+use Rattle.fst.specs.Adding.{Admitted}
+use Rattle.fst.proofs.Adding.{standing}
+use Rattle.fst.proofs.AddingPlain.{oneMore, event-four, event-six, event-admitted, event-full, event-more}
 use borrow.Author.Needs.{needs}
 use Rattle.fst.proofs.Description.add_event.Statement.{statement}
 use Rattle.fst.proofs.Description.add_event.Tie as tie
@@ -10,17 +23,48 @@ use Rattle.fst.proofs.change.is_below_last.Reads as is-below-last-reads
 use Rattle.fst.proofs.change.refused.Reads as refused-reads
 use Rattle.fst.proofs.record.is_bad.Reads as is-bad-reads
 
+-- the slices that are lent
+abbrev lent : tie.Start → Lent
+lent x = record { bytes = now (x .args .bytes); byteStart = x .args .byte-start; indices = now (x .args .indices); indexStart = x .args .index-start }
+
+-- what is known once the index is tried
+module _ (b : tie.After-is-below-last) where
+  abbrev start : tie.Start
+  start = b .before .before .before .before .before .before
+
+  short : length (now (start .args .value)) ≤ 1
+  short = b .before .before .if1 .left
+
+  admits : b .is-below-last .result ≡ false → Admitted (start .args .self) (lent start) (start .args .index) (text (now (start .args .value)))
+  admits h = event-admitted (start .args .self) (lent start) (start .args .index) (now (start .args .value)) (start .pre .0) (start .pre .1) short (sym h ∙ b .is-below-last .ensures)
+
+-- and once the room is
+module _ (z : tie.After-is-bad) where
+  abbrev told : tie.After-is-below-last
+  told = z .before .before .before .before
+
+  roomy : z .is-bad .result ≡ false → isBad (oneMore (start told .args .self)) (lent (start told)) ≡ false
+  roomy h = sym (z .is-bad .ensures) ∙ h
+
+  index-in : z .is-bad .result ≡ false → start told .args .index-start + start told .args .self .count < length (now (start told .args .indices))
+  index-in h = let f = (standing (oneMore (start told .args .self)) (lent (start told)) (roomy h)) .indices in omega arith
+
 -- src/change.rt:213:13
 refused-requires : tie.Need-refused-requires
 refused-requires c κs = search needs
 
 -- src/change.rt:213:13
 returns : tie.Need-returns
-returns c = ?
+returns c =
+    let x = c .before .before .before .before .before in
+    ap (λ (r : Added). leftBy r ((lent x) .bytes) ((lent x) .indices)) (c .refused .ensures)
+    ∙ event-four (x .args .self) (lent x) (x .args .index) (now (x .args .value)) (x .pre .0) (x .pre .1) (c .before .if1 .taken)
 
 -- src/change.rt:215:12
 is-below-last-requires : tie.Need-is-below-last-requires
-is-below-last-requires c κs = ?
+is-below-last-requires c κs =
+    let x = c .before .before .before .before .before in
+    (standing (x .args .self) (lent x) (x .pre .0)) .indices
 
 -- src/change.rt:216:13
 refused-requires-2 : tie.Need-refused-requires-2
@@ -32,11 +76,18 @@ same-length c = search needs
 
 -- src/change.rt:216:13
 returns-2 : tie.Need-returns-2
-returns-2 c = ?
+returns-2 c =
+    let b = c .before .before in
+    let x = start b in
+    ap (λ (r : Added). leftBy r ((lent x) .bytes) ((lent x) .indices)) (c .refused2 .ensures)
+    ∙ event-six (x .args .self) (lent x) (x .args .index) (now (x .args .value)) (x .pre .0) (x .pre .1) (short b) (sym (c .before .if2 .taken) ∙ b .is-below-last .ensures)
 
 -- src/change.rt:219:9
 add-self : tie.Need-add-self
-add-self c = ?
+add-self c =
+    let x = start (c .before .before) in
+    let f = (standing (x .args .self) (lent x) (x .pre .0)) .count in
+    omega arith
 
 -- src/change.rt:220:12
 is-bad-requires : tie.Need-is-bad-requires
@@ -52,7 +103,11 @@ same-length-2 c = search needs
 
 -- src/change.rt:221:13
 returns-3 : tie.Need-returns-3
-returns-3 c = ?
+returns-3 c =
+    let z = c .before .before in
+    let x = start (told z) in
+    ap (λ (r : Added). leftBy r ((lent x) .bytes) ((lent x) .indices)) (c .refused3 .ensures)
+    ∙ event-full (x .args .self) (lent x) (x .args .index) (now (x .args .value)) (x .pre .0) (x .pre .1) (admits (told z) (z .before .before .before .if2 .left)) (sym (z .is-bad .ensures) ∙ c .before .if3 .taken)
 
 -- src/change.rt:223:31
 cast-indices : tie.Need-cast-indices
@@ -60,15 +115,15 @@ cast-indices c = search needs
 
 -- src/change.rt:223:17
 add-indices : tie.Need-add-indices
-add-indices c = ?
+add-indices c = let h = index-in (c .before .before) (c .before .if3 .left) in omega arith
 
 -- src/change.rt:223:9
 mul-indices : tie.Need-mul-indices
-mul-indices c = ?
+mul-indices c = let h = index-in (c .before .before) (c .before .if3 .left) in omega arith
 
 -- src/change.rt:223:9
 slice-write-indices : tie.Need-slice-write-indices
-slice-write-indices c = ?
+slice-write-indices c = index-in (c .before .before) (c .before .if3 .left)
 
 -- src/change.rt:224:9
 accepted-requires : tie.Need-accepted-requires
@@ -80,7 +135,11 @@ same-length-3 c = search needs
 
 -- src/change.rt:200:5
 returns-4 : tie.Need-returns-4
-returns-4 c = ?
+returns-4 c =
+    let z = c .before .before .before in
+    let x = start (told z) in
+    ap (λ (r : Added). leftBy r ((lent x) .bytes) (set (now (x .args .indices)) (x .args .index-start + x .args .self .count) (x .args .index))) (c .accepted .ensures)
+    ∙ event-more (x .args .self) (lent x) (x .args .index) (now (x .args .value)) (x .pre .0) (x .pre .1) (admits (told z) (z .before .before .before .if2 .left)) (roomy z (c .before .before .if3 .left))
 
 pub add-event-spec : {M : Type 1} → statement M
 add-event-spec =

@@ -1,5 +1,24 @@
 -- `fst::Description::add_levels` meets its contract.
 -- Assumes nothing.
+use mathlib.Core.Path.{_≡_, refl, sym, ap, ap₂, _∙_}
+use mathlib.Core.Bool.{Bool, false, cond}
+use mathlib.Core.List.{List}
+use Prim.Native.Nat.{ℕ, _+_, _*_, _≤_, _<_}
+use native.Mathlib.Omega.{arith}
+use denote.Ref.{now}
+use lib.ListN.{length, set}
+use Rattle.fst.specs.declared.Added.{Added}
+use Rattle.fst.specs.Record.{Lent, isBad}
+use Rattle.fst.specs.Change.{leftBy, repeats}
+use Rattle.value.specs.declared.States.{States}
+use Rattle.value.specs.Slice.{overlay}
+use Rattle.value.specs.Level.{join}
+use Rattle.fst.specs.declared.Encoding.the-variants.{BitVector}
+use Rattle.fst.specs.declared.Description.{Description}
+use Rattle.fst.specs.Entry.{entrySize}
+use Rattle.fst.specs.Writable.{entryFrom}
+use Rattle.fst.proofs.Adding.{standing}
+use Rattle.fst.proofs.AddingStrings.{wide, comparable, widenable, roomier, writable, levels-full, levels-stay, levels-grow}
 use borrow.Author.Needs.{needs}
 use Rattle.fst.proofs.Description.add_levels.Statement.{statement}
 use Rattle.fst.proofs.Description.add_levels.Tie as tie
@@ -15,9 +34,61 @@ use Rattle.fst.proofs.expand.expand_entries.Reads as expand-entries-rea
 use Rattle.fst.proofs.record.is_bad.Reads as is-bad-reads
 use Rattle.value.proofs.States.join.Reads as join-reads
 
+-- the slices that are lent
+abbrev lent : tie.Start → Lent
+lent x = record { bytes = now (x .args .bytes); byteStart = x .args .byte-start; indices = now (x .args .indices); indexStart = x .args .index-start }
+
+-- an index's place counts no more bytes than a slice has
+few-indices : (x : tie.Start) → length (now (x .args .indices)) * 4 < 18446744073709551616
+few-indices x = omega arith
+
+-- what is known once the room is tried
+module _ (z : tie.After-is-bad) where
+  abbrev start : tie.Start
+  start = z .before .before .before .before .before .before .before .before .before .before
+
+  abbrev joint : States
+  joint = z .before .before .before .before .before .before .join .result
+
+  joined : joint ≡ join (start .args .max-states) (start .args .states)
+  joined = z .before .before .before .before .before .before .join .ensures
+
+  abbrev repeat : Bool
+  repeat = z .before .before .before .before .repeats-last .result
+
+  told : repeat ≡ repeats (entrySize (length (now (start .args .value))) joint) (start .args .self .count) (wide (start .args .self) (lent start) (start .args .index) (now (start .args .value)) (start .args .max-states) (start .args .states) joint (start .pre) joined) (entryFrom joint (start .args .states) (now (start .args .value)))
+  told = z .before .before .before .before .repeats-last .ensures
+
+  abbrev next : ℕ
+  next = z .before .before .before .next-count .result
+
+  counted : next ≡ cond repeat (start .args .self .count) (start .args .self .count + 1)
+  counted = z .before .before .before .next-count .ensures
+
+  abbrev nextIs : Description
+  nextIs = record { encoding = BitVector (length (now (start .args .value))) joint; count = next }
+
+  roomy : z .is-bad .result ≡ false → isBad nextIs (lent start) ≡ false
+  roomy h = sym (z .is-bad .ensures) ∙ h
+
+  -- room for one entry more
+  places : z .is-bad .result ≡ false → repeat ≡ false
+      → (start .args .byte-start + start .args .self .count * entrySize (length (now (start .args .value))) joint + entrySize (length (now (start .args .value))) joint ≤ length (now (start .args .bytes)))
+      × (start .args .index-start + start .args .self .count < length (now (start .args .indices)))
+  places h e = roomier (start .args .self) (lent start) (start .args .index) (now (start .args .value)) (start .args .max-states) (start .args .states) joint (start .pre) joined repeat told next counted (roomy h) e
+
+-- the new entry's place
+place : (c : tie.After-entry-size) →
+    let x = start (c .before .before .before .before .before .before .before) in
+    x .args .byte-start + x .args .self .count * c .entry-size .result + c .entry-size .result ≤ length (now (x .args .bytes))
+place c = rw (c .entry-size .ensures) ((places (c .before .before .before .before .before .before .before) (c .before .before .before .before .before .before .if1 .left) (c .before .if2 .left)) .0)
+
 -- src/change.rt:138:21
 cast-width : tie.Need-cast-width
-cast-width c = ?
+cast-width c =
+    let x = c .before .before .before in
+    let p = (comparable (x .args .self) (lent x) (x .args .index) (now (x .args .value)) (x .args .max-states) (x .args .states) _ (x .pre) refl) .short in
+    omega arith
 
 -- src/change.rt:140:13
 join-requires : tie.Need-join-requires
@@ -25,11 +96,15 @@ join-requires c κs = search needs
 
 -- src/change.rt:141:13
 repeats-last-requires : tie.Need-repeats-last-requires
-repeats-last-requires c κs = ?
+repeats-last-requires c κs =
+    let x = c .before .before .before .before .before in
+    comparable (x .args .self) (lent x) (x .args .index) (now (x .args .value)) (x .args .max-states) (x .args .states) _ (x .pre) (c .before .join .ensures)
 
 -- src/change.rt:147:20
 next-count-requires : tie.Need-next-count-requires
-next-count-requires c κs = ?
+next-count-requires c κs =
+    let x = c .before .before .before .before .before .before in
+    (standing (x .args .self) (lent x) (x .pre .admitted .sound)) .count
 
 -- src/change.rt:149:12
 is-bad-requires : tie.Need-is-bad-requires
@@ -49,7 +124,11 @@ same-length-2 c = search needs
 
 -- src/change.rt:150:13
 returns : tie.Need-returns
-returns c = ?
+returns c =
+    let z = c .before .before in
+    let x = start z in
+    ap (λ (r : Added). leftBy r ((lent x) .bytes) ((lent x) .indices)) (c .refused .ensures)
+    ∙ levels-full (x .args .self) (lent x) (x .args .index) (now (x .args .value)) (x .args .max-states) (x .args .states) (joint z) (x .pre) (joined z) (repeat z) (told z) (next z) (counted z) (sym (z .is-bad .ensures) ∙ c .before .if1 .taken)
 
 -- src/change.rt:152:23
 cast-entries : tie.Need-cast-entries
@@ -57,7 +136,10 @@ cast-entries c = search needs
 
 -- src/change.rt:153:9
 expand-entries-requires : tie.Need-expand-entries-requires
-expand-entries-requires c κs = ?
+expand-entries-requires c κs =
+    let z = c .before .before in
+    let x = start z in
+    widenable (x .args .self) (lent x) (x .args .index) (now (x .args .value)) (x .args .max-states) (x .args .states) (joint z) (x .pre) (joined z) (repeat z) (told z) (next z) (counted z) (roomy z (c .before .if1 .left))
 
 -- src/change.rt:155:13
 accepted-requires : tie.Need-accepted-requires
@@ -73,7 +155,11 @@ same-length-4 c = search needs
 
 -- src/change.rt:155:13
 returns-2 : tie.Need-returns-2
-returns-2 c = ?
+returns-2 c =
+    let z = c .before .before .before .before .before .before .before in
+    let x = start z in
+    ap₂ (λ (r : Added) (b : List ℕ). leftBy r b (now (x .args .indices))) (c .accepted .ensures) (c .before .before .before .before .expand-entries .ensures)
+    ∙ levels-stay (x .args .self) (lent x) (x .args .index) (now (x .args .value)) (x .args .max-states) (x .args .states) (joint z) (x .pre) (joined z) (repeat z) (told z) (next z) (counted z) (roomy z (c .before .before .before .before .before .before .if1 .left)) (c .before .if2 .taken)
 
 -- src/change.rt:157:41
 entry-size-requires : tie.Need-entry-size-requires
@@ -81,27 +167,36 @@ entry-size-requires c κs = search needs
 
 -- src/change.rt:157:31
 mul-at : tie.Need-mul-at
-mul-at c = ?
+mul-at c = let p = place c in omega arith
 
 -- src/change.rt:157:18
 add-at : tie.Need-add-at
-add-at c = ?
+add-at c = let p = place c in omega arith
 
 -- src/change.rt:158:9
 write-entry-requires : tie.Need-write-entry-requires
-write-entry-requires c κs = ?
+write-entry-requires c κs =
+    let z = c .before .before .before .before .before .before .before .before in
+    let x = start z in
+    writable (x .args .self) (lent x) (x .args .index) (now (x .args .value)) (x .args .max-states) (x .args .states) (joint z) (x .pre) (joined z) (repeat z) (told z) (next z) (counted z) (roomy z (c .before .before .before .before .before .before .before .if1 .left)) (c .before .before .if2 .left) _ _ (c .before .before .before .before .before .expand-entries .kept .1 .1 .0)
+    (ap (λ (k : ℕ). x .args .byte-start + x .args .self .count * k) (c .before .entry-size .ensures))
 
 -- src/change.rt:159:17
+index-in : (c : tie.After-slice-known4) →
+    let x = start (c .before .before .before .before .before .before .before .before .before .before .before) in
+    x .args .index-start + x .args .self .count < length (now (x .args .indices))
+index-in c = (places (c .before .before .before .before .before .before .before .before .before .before .before) (c .before .before .before .before .before .before .before .before .before .before .if1 .left) (c .before .before .before .before .before .if2 .left)) .1
+
 add-indices : tie.Need-add-indices
-add-indices c = ?
+add-indices c = let p = index-in c in omega (arith, few-indices (start (c .before .before .before .before .before .before .before .before .before .before .before)))
 
 -- src/change.rt:159:9
 mul-indices : tie.Need-mul-indices
-mul-indices c = ?
+mul-indices c = let p = index-in c in omega (arith, few-indices (start (c .before .before .before .before .before .before .before .before .before .before .before)))
 
 -- src/change.rt:159:9
 slice-write-indices : tie.Need-slice-write-indices
-slice-write-indices c = ?
+slice-write-indices c = index-in c
 
 -- src/change.rt:160:9
 accepted-requires-2 : tie.Need-accepted-requires-2
@@ -117,7 +212,17 @@ same-length-6 c = search needs
 
 -- src/change.rt:124:5
 returns-3 : tie.Need-returns-3
-returns-3 c = ?
+returns-3 c =
+    let z = c .before .before .before .before .before .before .before .before .before .before .before .before in
+    let x = start z in
+    let w = c .before .before .before .write-entry in
+    ap₂ (λ (r : Added) (b : List ℕ). leftBy r b (set (now (x .args .indices)) (x .args .index-start + x .args .self .count) (x .args .index))) (c .accepted2 .ensures)
+    (w .ensures .1
+    ∙ ap₂
+    (λ (b : List ℕ) (k : ℕ).
+    overlay b (x .args .byte-start + x .args .self .count * k) (entryFrom (joint z) (x .args .states) (now (x .args .value))))
+    (c .before .before .before .before .before .before .before .before .before .expand-entries .ensures) (c .before .before .before .before .before .entry-size .ensures))
+    ∙ levels-grow (x .args .self) (lent x) (x .args .index) (now (x .args .value)) (x .args .max-states) (x .args .states) (joint z) (x .pre) (joined z) (repeat z) (told z) (next z) (counted z) (roomy z (c .before .before .before .before .before .before .before .before .before .before .before .if1 .left)) (c .before .before .before .before .before .before .if2 .left)
 
 pub add-levels-spec : {M : Type 1} → statement M
 add-levels-spec =

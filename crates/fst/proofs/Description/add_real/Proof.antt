@@ -1,5 +1,24 @@
 -- `fst::Description::add_real` meets its contract.
 -- Assumes nothing.
+use mathlib.Core.Path.{_≡_, refl, sym, ap, ap₂, _∙_}
+use mathlib.Core.Bool.{true, false}
+use mathlib.Core.List.{List, [], _∷_}
+use mathlib.Core.Logic.{⊎-elim}
+use Prim.Native.Nat.{ℕ, _+_, _*_, _≤_, _<_}
+use native.Mathlib.Omega.{arith}
+use denote.Ref.{now}
+use lib.ListN.{length, set}
+use Rattle.fst.specs.declared.Added.{Added}
+use Rattle.fst.specs.Record.{Lent, isBad}
+use Rattle.fst.specs.Change.{leftBy, real, isOtherKind}
+use types.Run
+use denote.Enum.Declared
+use Rattle.fst.specs.declared.Encoding.{Encoding}
+use Rattle.fst.specs.declared.Encoding.the-variants.{Event, Real, BitVector}
+use Rattle.fst.specs.Adding.{Admitted}
+use Rattle.fst.proofs.Encoding.{the-type}
+use Rattle.fst.proofs.Adding.{standing, two, three}
+use Rattle.fst.proofs.AddingPlain.{oneMore, real-six, real-admitted, real-room, real-stays, real-full, real-more, real-roomier}
 use borrow.Author.Needs.{needs}
 use Rattle.fst.proofs.Description.add_real.Statement.{statement}
 use Rattle.fst.proofs.Description.add_real.Tie as tie
@@ -11,6 +30,50 @@ use Rattle.fst.proofs.change.refused.Reads as refused-reads
 use Rattle.fst.proofs.real.repeats_real.Reads as repeats-real-reads
 use Rattle.fst.proofs.real.write_real.Reads as write-real-reads
 use Rattle.fst.proofs.record.is_bad.Reads as is-bad-reads
+
+-- the slices that are lent
+abbrev lent : tie.Start → Lent
+lent x = record { bytes = now (x .args .bytes); byteStart = x .args .byte-start; indices = now (x .args .indices); indexStart = x .args .index-start }
+
+-- an index's place counts no more bytes than a slice has
+few-indices : (x : tie.Start) → length (now (x .args .indices)) * 4 < 18446744073709551616
+few-indices x = omega arith
+
+-- a tag that is not a real's
+other : (x : ℕ) (e : Encoding) → Run.OneOf (0 ∷ 2 ∷ []) (Declared.tagOf the-type e) → isOtherKind e (real x) ≡ true
+unfolding isOtherKind
+other x Event k = refl
+other x Real k = absurd (⊎-elim (λ t. omega arith) (λ t. omega arith) k)
+other x (BitVector w M) k = refl
+
+-- what is known once the index is tried
+module _ (b : tie.After-is-below-last) where
+  abbrev start : tie.Start
+  start = b .before .before .before .before .before .before .before .before .before .before
+
+  sound : isBad (start .args .self) (lent start) ≡ false
+  sound = sym (b .before .before .before .before .before .is-bad .ensures) ∙ b .before .before .before .before .if1 .left
+
+  isReal : start .args .self .encoding ≡ Real
+  isReal = b .before .before .enum-told .given .1
+
+  admits : b .is-below-last .result ≡ false → Admitted (start .args .self) (lent start) (start .args .index) (real (start .args .bits))
+  admits h = real-admitted (start .args .self) (lent start) (start .args .index) (start .args .bits) sound isReal (sym h ∙ b .is-below-last .ensures)
+
+-- and once the room is
+module _ (z : tie.After-is-bad2) where
+  abbrev known : tie.After-is-below-last
+  known = z .before .before .before .before .before .before .before .before
+
+  roomy : z .is-bad2 .result ≡ false → isBad (oneMore (start known .args .self)) (lent (start known)) ≡ false
+  roomy h = sym (z .is-bad2 .ensures) ∙ h
+
+  places : z .is-bad2 .result ≡ false
+      → (start known .args .byte-start + start known .args .self .count * 8 + 8 ≤ length (now (start known .args .bytes)))
+      × (start known .args .index-start + start known .args .self .count < length (now (start known .args .indices)))
+  places h =
+      let x = start known in
+      real-roomier (x .args .self) (lent x) (x .args .index) (x .args .bits) (sound known) (isReal known) (admits known (z .before .before .before .before .before .before .before .if2 .left)) (roomy h)
 
 -- src/real.rt:71:12
 is-bad-requires : tie.Need-is-bad-requires
@@ -30,7 +93,10 @@ same-length-2 c = search needs
 
 -- src/real.rt:72:13
 returns : tie.Need-returns
-returns c = ?
+returns c =
+    let x = c .before .before .before .before .before .before .before in
+    ap (λ (r : Added). leftBy r ((lent x) .bytes) ((lent x) .indices)) (c .refused .ensures)
+    ∙ two (x .args .self) (lent x) (x .args .index) (real (x .args .bits)) (sym (c .before .before .is-bad .ensures) ∙ c .before .if1 .taken)
 
 enum-told : tie.Need-enum-told
 enum-told c = search needs
@@ -49,11 +115,16 @@ same-length-4 c = search needs
 
 -- src/real.rt:76:13
 returns-2 : tie.Need-returns-2
-returns-2 c = ?
+returns-2 c =
+    let x = c .before .before .before .before .before .before .before .before in
+    ap (λ (r : Added). leftBy r ((lent x) .bytes) ((lent x) .indices)) (c .refused2 .ensures)
+    ∙ three (x .args .self) (lent x) (x .args .index) (real (x .args .bits)) (sym (c .before .before .before .is-bad .ensures) ∙ c .before .before .if1 .left) (other (x .args .bits) (x .args .self .encoding) (c .before .match .keys2))
 
 -- src/real.rt:79:12
 is-below-last-requires : tie.Need-is-below-last-requires
-is-below-last-requires c κs = ?
+is-below-last-requires c κs =
+    let x = c .before .before .before .before .before .before .before .before .before in
+    (standing (x .args .self) (lent x) (sym (c .before .before .before .before .is-bad .ensures) ∙ c .before .before .before .if1 .left)) .indices
 
 -- src/real.rt:80:13
 refused-requires-3 : tie.Need-refused-requires-3
@@ -69,11 +140,18 @@ same-length-6 c = search needs
 
 -- src/real.rt:80:13
 returns-3 : tie.Need-returns-3
-returns-3 c = ?
+returns-3 c =
+    let b = c .before .before in
+    let x = start b in
+    ap (λ (r : Added). leftBy r ((lent x) .bytes) ((lent x) .indices)) (c .refused3 .ensures)
+    ∙ real-six (x .args .self) (lent x) (x .args .index) (x .args .bits) (sound b) (isReal b) (sym (c .before .if2 .taken) ∙ b .is-below-last .ensures)
 
 -- src/real.rt:82:12
 repeats-real-requires : tie.Need-repeats-real-requires
-repeats-real-requires c κs = ?
+repeats-real-requires c κs =
+    let b = c .before .before in
+    let x = start b in
+    ((standing (x .args .self) (lent x) (sound b)) .count, real-room (x .args .self) (lent x) (x .args .index) (x .args .bits) (sound b) (isReal b))
 
 -- src/real.rt:83:13
 accepted-requires : tie.Need-accepted-requires
@@ -89,11 +167,19 @@ same-length-8 c = search needs
 
 -- src/real.rt:83:13
 returns-4 : tie.Need-returns-4
-returns-4 c = ?
+returns-4 c =
+    let b = c .before .before .before .before .before in
+    let x = start b in
+    ap (λ (r : Added). leftBy r ((lent x) .bytes) ((lent x) .indices)) (c .accepted .ensures)
+    ∙ real-stays (x .args .self) (lent x) (x .args .index) (x .args .bits) (sound b) (isReal b) (admits b (c .before .before .before .before .if2 .left)) (sym (c .before .if3 .taken) ∙ c .before .before .repeats-real .ensures)
 
 -- src/real.rt:86:9
 add-self : tie.Need-add-self
-add-self c = ?
+add-self c =
+    let b = c .before .before .before .before .before in
+    let x = start b in
+    let f = (standing (x .args .self) (lent x) (sound b)) .count in
+    omega arith
 
 -- src/real.rt:87:12
 is-bad-requires-2 : tie.Need-is-bad-requires-2
@@ -113,7 +199,12 @@ same-length-10 c = search needs
 
 -- src/real.rt:88:13
 returns-5 : tie.Need-returns-5
-returns-5 c = ?
+returns-5 c =
+    let z = c .before .before in
+    let b = known z in
+    let x = start b in
+    ap (λ (r : Added). leftBy r ((lent x) .bytes) ((lent x) .indices)) (c .refused4 .ensures)
+    ∙ real-full (x .args .self) (lent x) (x .args .index) (x .args .bits) (sound b) (isReal b) (admits b (z .before .before .before .before .before .before .before .if2 .left)) (sym (z .before .before .before .before .if3 .left) ∙ z .before .before .before .before .before .repeats-real .ensures) (sym (z .is-bad2 .ensures) ∙ c .before .if4 .taken)
 
 -- src/real.rt:90:23
 cast-entries : tie.Need-cast-entries
@@ -125,23 +216,23 @@ mul-write-real c = search needs
 
 -- src/real.rt:91:33
 add-write-real : tie.Need-add-write-real
-add-write-real c = ?
+add-write-real c = let p = places (c .before .before) (c .before .if4 .left) in omega arith
 
 -- src/real.rt:91:9
 write-real-requires : tie.Need-write-real-requires
-write-real-requires c κs = ?
+write-real-requires c κs = (places (c .before .before) (c .before .if4 .left)) .0
 
 -- src/real.rt:92:17
 add-indices : tie.Need-add-indices
-add-indices c = ?
+add-indices c = let p = places (c .before .before .before .before .before) (c .before .before .before .before .if4 .left) in omega (arith, few-indices (start (known (c .before .before .before .before .before))))
 
 -- src/real.rt:92:9
 mul-indices : tie.Need-mul-indices
-mul-indices c = ?
+mul-indices c = let p = places (c .before .before .before .before .before) (c .before .before .before .before .if4 .left) in omega (arith, few-indices (start (known (c .before .before .before .before .before))))
 
 -- src/real.rt:92:9
 slice-write-indices : tie.Need-slice-write-indices
-slice-write-indices c = ?
+slice-write-indices c = (places (c .before .before .before .before .before) (c .before .before .before .before .if4 .left)) .1
 
 -- src/real.rt:93:9
 accepted-requires-2 : tie.Need-accepted-requires-2
@@ -157,7 +248,12 @@ same-length-12 c = search needs
 
 -- src/real.rt:60:5
 returns-6 : tie.Need-returns-6
-returns-6 c = ?
+returns-6 c =
+    let z = c .before .before .before .before .before .before in
+    let b = known z in
+    let x = start b in
+    ap₂ (λ (r : Added) (l : List ℕ). leftBy r l (set (now (x .args .indices)) (x .args .index-start + x .args .self .count) (x .args .index))) (c .accepted2 .ensures) (c .before .before .before .write-real .ensures)
+    ∙ real-more (x .args .self) (lent x) (x .args .index) (x .args .bits) (sound b) (isReal b) (admits b (z .before .before .before .before .before .before .before .if2 .left)) (sym (z .before .before .before .before .if3 .left) ∙ z .before .before .before .before .before .repeats-real .ensures) (roomy z (c .before .before .before .before .before .if4 .left))
 
 pub add-real-spec : {M : Type 1} → statement M
 add-real-spec =

@@ -1,5 +1,18 @@
 -- `fst::Description::add_string` meets its contract.
 -- Assumes nothing.
+use mathlib.Core.Path.{_≡_, refl, sym, ap, _∙_}
+use mathlib.Core.List.{List}
+use Prim.Native.Nat.{ℕ, _+_, _*_, _≤_, _<_}
+use native.Mathlib.Omega.{arith}
+use denote.Ref.{now}
+use lib.ListN.{length, set}
+use Rattle.fst.specs.declared.Added.{Added}
+use Rattle.fst.specs.Record.{Lent, isBad}
+use Rattle.fst.specs.Change.{leftBy, text, real}
+use Rattle.value.specs.declared.StatesAnswer.the-variants as answer
+use Rattle.value.specs.Answer.{leastStates}
+use Rattle.fst.proofs.Adding.{standing}
+use Rattle.fst.proofs.AddingStrings.{string-four, string-five, string-six, string-levels}
 use borrow.Author.Needs.{needs}
 use Rattle.fst.proofs.Description.add_string.Statement.{statement}
 use Rattle.fst.proofs.Description.add_string.Tie as tie
@@ -10,13 +23,31 @@ use Rattle.fst.proofs.change.is_below_last.Reads as is-below-last-reads
 use Rattle.fst.proofs.change.refused.Reads as refused-reads
 use Rattle.value.proofs.States.from_ascii.Reads as from-ascii-reads
 
+-- the slices that are lent
+abbrev lent : tie.Start → Lent
+lent x = record { bytes = now (x .args .bytes); byteStart = x .args .byte-start; indices = now (x .args .indices); indexStart = x .args .index-start }
+
+-- what is known once the index is tried
+module _ (b : tie.After-is-below-last) where
+  abbrev start : tie.Start
+  start = b .before .before .before .before .before .before .before .before .before .before
+
+  long : length (now (start .args .value)) ≡ start .args .width
+  long = b .before .before .before .before .before .before .if1 .left
+
+  least : leastStates (now (start .args .value)) ≡ answer.Least (b .before .before .before .states .given .0 .0)
+  least = sym (b .before .before .before .before .before .from-ascii .ensures) ∙ b .before .before .before .states .given .1
+
 -- src/change.rt:179:13
 refused-requires : tie.Need-refused-requires
 refused-requires c κs = search needs
 
 -- src/change.rt:179:13
 returns : tie.Need-returns
-returns c = ?
+returns c =
+    let x = c .before .before .before .before .before in
+    ap (λ (r : Added). leftBy r ((lent x) .bytes) ((lent x) .indices)) (c .refused .ensures)
+    ∙ string-four (x .args .self) (lent x) (x .args .index) (now (x .args .value)) (x .args .width) (x .args .max-states) (x .pre .0) (x .pre .1) (c .before .if1 .taken)
 
 -- src/change.rt:181:43
 from-ascii-requires : tie.Need-from-ascii-requires
@@ -36,11 +67,16 @@ refused-requires-2 c κs = search needs
 
 -- src/change.rt:182:13
 returns-2 : tie.Need-returns-2
-returns-2 c = ?
+returns-2 c =
+    let x = c .before .before .before .before .before .before .before .before in
+    ap (λ (r : Added). leftBy r ((lent x) .bytes) ((lent x) .indices)) (c .refused2 .ensures)
+    ∙ string-five (x .args .self) (lent x) (x .args .index) (now (x .args .value)) (x .args .width) (x .args .max-states) (x .pre .0) (x .pre .1) (c .before .before .before .before .if1 .left) (sym (c .before .before .before .from-ascii .ensures) ∙ c .before .enum-told .given .1)
 
 -- src/change.rt:184:12
 is-below-last-requires : tie.Need-is-below-last-requires
-is-below-last-requires c κs = ?
+is-below-last-requires c κs =
+    let x = c .before .before .before .before .before .before .before .before .before in
+    (standing (x .args .self) (lent x) (x .pre .0)) .indices
 
 -- src/change.rt:185:13
 refused-requires-3 : tie.Need-refused-requires-3
@@ -52,11 +88,18 @@ same-length c = search needs
 
 -- src/change.rt:185:13
 returns-3 : tie.Need-returns-3
-returns-3 c = ?
+returns-3 c =
+    let b = c .before .before in
+    let x = start b in
+    ap (λ (r : Added). leftBy r ((lent x) .bytes) ((lent x) .indices)) (c .refused3 .ensures)
+    ∙ string-six (x .args .self) (lent x) (x .args .index) (now (x .args .value)) (x .args .width) (x .args .max-states) (x .pre .0) (x .pre .1) (long b) _ (least b) (sym (c .before .if2 .taken) ∙ b .is-below-last .ensures)
 
 -- src/change.rt:187:9
 add-levels-requires : tie.Need-add-levels-requires
-add-levels-requires c κs = ?
+add-levels-requires c κs =
+    let b = c .before .before .before in
+    let x = start b in
+    string-levels (x .args .self) (lent x) (x .args .index) (now (x .args .value)) (x .args .width) (x .args .max-states) (x .pre .0) (x .pre .1) (long b) _ (least b) (sym (c .before .before .if2 .left) ∙ b .is-below-last .ensures)
 
 -- src/change.rt:164:5
 same-length-2 : tie.Need-same-length-2

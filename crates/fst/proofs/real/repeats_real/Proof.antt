@@ -1,5 +1,8 @@
 -- `fst::real::repeats_real` meets its contract.
 -- Assumes nothing.
+use mathlib.Core.Path.{_∙_}
+use denote.Ref.{now}
+use Rattle.fst.proofs.LastEntry.{none-repeated, repeats-plain}
 use borrow.Author.Needs.{needs}
 use Rattle.fst.proofs.real.repeats_real.Statement.{statement}
 use Rattle.fst.proofs.real.repeats_real.Tie as tie
@@ -9,7 +12,7 @@ use Rattle.fst.proofs.real.real_equals.Reads as real-equals-reads
 
 -- src/real.rt:54:9
 returns : tie.Need-returns
-returns c = ?
+returns c = none-repeated _ _ _ _ (c .if1 .taken)
 
 -- src/real.rt:56:44
 sub-real-equals : tie.Need-sub-real-equals
@@ -29,7 +32,9 @@ real-equals-requires c κs = search needs
 
 -- src/real.rt:49:1
 returns-2 : tie.Need-returns-2
-returns-2 c = ?
+returns-2 c =
+    let x = c .before .before .before .args in
+    c .real-equals .ensures ∙ repeats-plain 8 (x .count) (x .byte-start) (now (x .bytes)) _ (c .before .if1 .left)
 
 pub repeats-real-spec : {M : Type 1} → statement M
 repeats-real-spec =

@@ -1,0 +1,186 @@
+-- What Add a change leaves of a string for an event, and of a real.
+-- Assumes nothing.
+use mathlib.Core.Path.{_≡_, refl, sym, ap, _∙_}
+use mathlib.Core.Bool.{Bool, true, false}
+use mathlib.Core.List.{List, [], _∷_, _++_, reverse, append-nil}
+use Prim.Native.Nat.{ℕ, suc, _+_, _*_, _≤_, _<_}
+use native.Mathlib.Numerals.{add-one}
+use native.Mathlib.Omega.{arith}
+use borrow.Author.Tests.{lt-ltb, le-ltb}
+use lib.ListN.{length, set}
+use Rattle.value.specs.Digits.{digits}
+use Rattle.value.specs.Slice.{part, overlay}
+use Rattle.value.proofs.Slices.{overlay-nil, overlay-part}
+use Rattle.fst.specs.declared.Encoding.{Encoding}
+use Rattle.fst.specs.declared.Encoding.the-variants.{Event, Real}
+use Rattle.fst.specs.declared.Description.{Description}
+use Rattle.fst.specs.Record.{Lent, Kept, sizeOf, usedSize, keptIn, widthStands, isBad}
+use Rattle.fst.specs.Change.{Change, text, real, isOtherKind, isOtherLength, isForeign, isBelowLast, repeats, appended, changed, withChange, Recorder, stored, addChange}
+use Rattle.fst.specs.Adding.{Admitted}
+use Rattle.fst.proofs.Records.{not-bad}
+use Rattle.fst.proofs.Adding.{standing, refusedWith, acceptedWith, three, four, six, seven, accepted, indicesKept, stored-same, stored-behind}
+
+-- the same description with one entry more
+abbrev pub oneMore : Description → Description
+oneMore d = record { encoding = d .encoding; count = d .count + 1 }
+
+-- a change that is kept as some bytes behind the others, with its index
+module _ (d : Description) (l : Lent) (i : ℕ) (c : Change) (a : Admitted d l i c) (new : List ℕ) where
+  abbrev behind : Kept
+  behind =
+      record {
+        description = oneMore d;
+        bytes = part (l .byteStart) (usedSize d) (l .bytes) ++ new;
+        indices = indicesKept l d (d .count) ++ (i ∷ []);
+      }
+
+  module _ (kept : withChange (keptIn d l) i c ≡ behind) where
+    kept-full : isBad (oneMore d) l ≡ true → refusedWith d l i c 7 ≡ addChange d l i c
+    kept-full h = seven d l i c a behind kept ((not-bad d l (a .sound)) .0) h
+
+    kept-more : isBad (oneMore d) l ≡ false
+        → acceptedWith d l i c
+        (record {
+          description = oneMore d;
+          bytes = overlay (l .bytes) (l .byteStart + usedSize d) new;
+          indices = set (l .indices) (l .indexStart + d .count) i;
+        })
+        ≡ addChange d l i c
+    kept-more h =
+        let f = standing (oneMore d) l h in
+        accepted d l i c a behind kept _
+        (stored-behind l (oneMore d) (d .count) (usedSize d) i new ((standing d l (a .sound)) .bytes) (omega (arith, f .indices)))
+        h
+
+-- ---- an event
+
+module _ (d : Description) (l : Lent) (i : ℕ) (s : List ℕ) (sound : isBad d l ≡ false) (event : d .encoding ≡ Event) where
+  event-kind : isOtherKind (d .encoding) (text s) ≡ false
+  unfolding isOtherKind
+  event-kind = rw event
+
+  pub event-four : 1 < length s → refusedWith d l i (text s) 4 ≡ addChange d l i (text s)
+  unfolding isOtherLength
+  event-four h = four d l i (text s) sound event-kind (rw (event, lt-ltb 1 (length s) h))
+
+  module _ (short : length s ≤ 1) where
+    event-long : isOtherLength (d .encoding) (text s) ≡ false
+    unfolding isOtherLength
+    event-long = rw (event, le-ltb 1 (length s) short)
+
+    event-known : isForeign (d .encoding) (text s) ≡ false
+    unfolding isForeign
+    event-known = rw event
+
+    pub event-six : true ≡ isBelowLast i (d .count) (part (l .indexStart) (d .count) (l .indices)) → refusedWith d l i (text s) 6 ≡ addChange d l i (text s)
+    unfolding keptIn
+    event-six h = six d l i (text s) sound event-kind event-long event-known (sym h)
+
+    pub event-admitted : false ≡ isBelowLast i (d .count) (part (l .indexStart) (d .count) (l .indices)) → Admitted d l i (text s)
+    unfolding keptIn
+    event-admitted h = record { sound = sound; kind = event-kind; long = event-long; known = event-known; rises = sym h }
+
+  -- every change is kept, with no bytes
+  event-kept : (a : Admitted d l i (text s)) → withChange (keptIn d l) i (text s) ≡ behind d l i (text s) a []
+  unfolding keptIn changed
+  event-kept a = rw (event, add-one, append-nil)
+
+  pub event-full : Admitted d l i (text s) → isBad (oneMore d) l ≡ true → refusedWith d l i (text s) 7 ≡ addChange d l i (text s)
+  event-full a h = kept-full d l i (text s) a [] (event-kept a) h
+
+  pub event-more : Admitted d l i (text s) → isBad (oneMore d) l ≡ false
+      → acceptedWith d l i (text s) (record { description = oneMore d; bytes = l .bytes; indices = set (l .indices) (l .indexStart + d .count) i }) ≡ addChange d l i (text s)
+  event-more a h =
+      ap
+      (λ (b : List ℕ).
+      acceptedWith d l i (text s) (record { description = oneMore d; bytes = b; indices = set (l .indices) (l .indexStart + d .count) i }))
+      (sym (overlay-nil (l .bytes) (l .byteStart + usedSize d)))
+      ∙ kept-more d l i (text s) a [] (event-kept a) h
+
+-- ---- a real
+
+-- a string to a real record
+pub real-three : (d : Description) (l : Lent) (i : ℕ) (s : List ℕ) → isBad d l ≡ false → d .encoding ≡ Real → refusedWith d l i (text s) 3 ≡ addChange d l i (text s)
+unfolding isOtherKind
+real-three d l i s sound e = three d l i (text s) sound (rw e)
+
+abbrev pub realBytes : ℕ → List ℕ
+realBytes x = reverse (digits 256 8 x)
+
+module _ (d : Description) (l : Lent) (i x : ℕ) (sound : isBad d l ≡ false) (isReal : d .encoding ≡ Real) where
+  real-kind : isOtherKind (d .encoding) (real x) ≡ false
+  unfolding isOtherKind
+  real-kind = rw isReal
+
+  real-long : isOtherLength (d .encoding) (real x) ≡ false
+  unfolding isOtherLength
+  real-long = rw isReal
+
+  real-known : isForeign (d .encoding) (real x) ≡ false
+  unfolding isForeign
+  real-known = rw isReal
+
+  pub real-six : true ≡ isBelowLast i (d .count) (part (l .indexStart) (d .count) (l .indices)) → refusedWith d l i (real x) 6 ≡ addChange d l i (real x)
+  unfolding keptIn
+  real-six h = six d l i (real x) sound real-kind real-long real-known (sym h)
+
+  pub real-admitted : false ≡ isBelowLast i (d .count) (part (l .indexStart) (d .count) (l .indices)) → Admitted d l i (real x)
+  unfolding keptIn
+  real-admitted h = record { sound = sound; kind = real-kind; long = real-long; known = real-known; rises = sym h }
+
+  pub real-room : l .byteStart + d .count * 8 ≤ length (l .bytes)
+  real-room =
+      let f = (standing d l sound) .bytes in
+      rw isReal at f
+
+  module _ (a : Admitted d l i (real x)) where
+    abbrev pub repeated : Bool
+    repeated = repeats 8 (d .count) (part (l .byteStart) (d .count * 8) (l .bytes)) (realBytes x)
+
+    real-kept : false ≡ repeated → withChange (keptIn d l) i (real x) ≡ behind d l i (real x) a (realBytes x)
+    unfolding keptIn changed appended
+    real-kept e = rw (isReal, ← e, add-one)
+
+    real-same : true ≡ repeated → withChange (keptIn d l) i (real x) ≡ keptIn d l
+    unfolding keptIn changed appended
+    real-same e = rw (isReal, ← e)
+
+    real-stored : stored l (keptIn d l) ≡ record { description = d; bytes = l .bytes; indices = l .indices }
+    unfolding keptIn
+    real-stored =
+        let f = standing d l sound in
+        stored-same l d (d .count) (part (l .byteStart) (usedSize d) (l .bytes)) (f .indices) ∙ rw (overlay-part (l .bytes) (l .byteStart) (usedSize d) (f .bytes))
+
+    pub real-stays : true ≡ repeated → acceptedWith d l i (real x) (record { description = d; bytes = l .bytes; indices = l .indices }) ≡ addChange d l i (real x)
+    unfolding keptIn
+    real-stays e = accepted d l i (real x) a (keptIn d l) (real-same e) _ real-stored sound
+
+    pub real-full : false ≡ repeated → isBad (oneMore d) l ≡ true → refusedWith d l i (real x) 7 ≡ addChange d l i (real x)
+    real-full e h = kept-full d l i (real x) a (realBytes x) (real-kept e) h
+
+    pub real-more : false ≡ repeated → isBad (oneMore d) l ≡ false
+        → acceptedWith d l i (real x)
+        (record {
+          description = oneMore d;
+          bytes = overlay (l .bytes) (l .byteStart + d .count * 8) (realBytes x);
+          indices = set (l .indices) (l .indexStart + d .count) i;
+        })
+        ≡ addChange d l i (real x)
+    real-more e h =
+        ap
+        (λ (k : Encoding).
+        acceptedWith d l i (real x)
+        (record {
+          description = oneMore d;
+          bytes = overlay (l .bytes) (l .byteStart + d .count * sizeOf k) (realBytes x);
+          indices = set (l .indices) (l .indexStart + d .count) i;
+        }))
+        (sym isReal)
+        ∙ kept-more d l i (real x) a (realBytes x) (real-kept e) h
+
+    -- room for one more
+    pub real-roomier : isBad (oneMore d) l ≡ false → (l .byteStart + d .count * 8 + 8 ≤ length (l .bytes)) × (l .indexStart + d .count < length (l .indices))
+    real-roomier h =
+        let f = standing (oneMore d) l h in
+        let b : l .byteStart + (d .count + 1) * 8 ≤ length (l .bytes) = rw isReal at (f .bytes) in
+        (omega arith, omega (arith, f .indices))

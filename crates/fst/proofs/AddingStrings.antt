@@ -1,0 +1,256 @@
+-- What Add a change leaves of a string for a bit vector.
+-- Assumes nothing.
+use mathlib.Core.Path.{_≡_, refl, sym, ap, _∙_}
+use mathlib.Core.Bool.{Bool, true, false, cond, not}
+use mathlib.Core.List.{List, [], _∷_, _++_}
+use Prim.Native.Nat.{ℕ, suc, _+_, _*_, _≤_, _<_}
+use native.Mathlib.Nat.{suc-mul, mul-le-mul-right}
+use native.Mathlib.Numerals.{add-one}
+use native.Mathlib.Omega.{arith}
+use borrow.Author.Tests.{eq-eqb, ne-eqb}
+use lib.ListN.{length, set}
+use Rattle.value.specs.declared.States.{States}
+use Rattle.value.specs.declared.StatesAnswer.{StatesAnswer}
+use Rattle.value.specs.declared.StatesAnswer.the-variants as answer
+use Rattle.value.specs.Slice.{part, overlay}
+use Rattle.value.specs.Level.{markOf, codesOf, foldAll, hasNoCode, leastOf, join}
+use Rattle.value.specs.Answer.{leastStates}
+use Rattle.value.proofs.Levels.{mark-join, all-below} 
+use Rattle.value.proofs.Levels as levels
+use Rattle.value.proofs.Slices.{part-length}
+use Rattle.wavemem.specs.Packed.{Codes}
+use Rattle.fst.specs.declared.Encoding.{Encoding}
+use Rattle.fst.specs.declared.Encoding.the-variants.{BitVector}
+use Rattle.fst.specs.declared.Description.{Description}
+use Rattle.fst.specs.Entry.{entrySize, entryOf, widenAll}
+use Rattle.fst.specs.Writable.{Writable}
+use Rattle.fst.specs.Expand.{Widenable}
+use Rattle.fst.specs.Record.{Lent, Kept, keptIn, widthStands, isBad}
+use Rattle.fst.specs.Change.{text, isOtherKind, isOtherLength, isForeign, isBelowLast, repeats, appended, changed, withChange, addChange}
+use Rattle.fst.specs.Adding.{Admitted, Levels, Comparable}
+use Rattle.fst.proofs.Sizes.{widen-all-length}
+use Rattle.fst.proofs.Records.{not-bad}
+use Rattle.fst.proofs.Adding.{standing, width-known, width-any, refusedWith, acceptedWith, four, five, six, seven, accepted, indicesKept, stored-same, stored-more}
+
+-- ---- what the least set of a string says
+
+told : (s : List ℕ) (a : StatesAnswer) → leastStates s ≡ a
+    → (b : Bool) → hasNoCode (codesOf (foldAll s)) ≡ b → cond b answer.Foreign (answer.Least (leastOf (codesOf (foldAll s)))) ≡ a
+unfolding leastStates
+told s a e b h = rw (← h) e
+
+pub foreign-told : (s : List ℕ) → leastStates s ≡ answer.Foreign → hasNoCode (codesOf (foldAll s)) ≡ true
+foreign-told s e = go (hasNoCode (codesOf (foldAll s))) refl
+  where
+    go : (b : Bool) → hasNoCode (codesOf (foldAll s)) ≡ b → hasNoCode (codesOf (foldAll s)) ≡ true
+    go true h = h
+    go false h =
+        let q = told s answer.Foreign e false h in
+        let z : _≡_ {A = ℕ} 0 1 = cc in
+        absurd (omega arith)
+
+pub least-told : (s : List ℕ) (own : States) → leastStates s ≡ answer.Least own
+    → (hasNoCode (codesOf (foldAll s)) ≡ false) × (own ≡ leastOf (codesOf (foldAll s)))
+least-told s own e = go (hasNoCode (codesOf (foldAll s))) refl
+  where
+    go : (b : Bool) → hasNoCode (codesOf (foldAll s)) ≡ b → (hasNoCode (codesOf (foldAll s)) ≡ false) × (own ≡ leastOf (codesOf (foldAll s)))
+    go true h =
+        let q = told s (answer.Least own) e true h in
+        let z : _≡_ {A = ℕ} 0 1 = cc in
+        absurd (omega arith)
+    go false h = let q = told s (answer.Least own) e false h in (h, cc)
+
+-- ---- numbers 4 to 6
+
+module _ (d : Description) (l : Lent) (i : ℕ) (s : List ℕ) (w : ℕ) (M : States) (sound : isBad d l ≡ false) (vector : d .encoding ≡ BitVector w M) where
+  string-kind : isOtherKind (d .encoding) (text s) ≡ false
+  unfolding isOtherKind
+  string-kind = rw vector
+
+  pub string-four : (length s ≡ w → ⊥) → refusedWith d l i (text s) 4 ≡ addChange d l i (text s)
+  unfolding isOtherLength
+  string-four h = four d l i (text s) sound string-kind (rw (vector, ne-eqb (length s) w h))
+
+  module _ (long : length s ≡ w) where
+    string-long : isOtherLength (d .encoding) (text s) ≡ false
+    unfolding isOtherLength
+    string-long = rw (vector, eq-eqb (length s) w long)
+
+    pub string-five : leastStates s ≡ answer.Foreign → refusedWith d l i (text s) 5 ≡ addChange d l i (text s)
+    unfolding isForeign
+    string-five e = five d l i (text s) sound string-kind string-long (rw vector (foreign-told s e))
+
+    module _ (own : States) (least : leastStates s ≡ answer.Least own) where
+      string-known : isForeign (d .encoding) (text s) ≡ false
+      unfolding isForeign
+      string-known = rw vector ((least-told s own least) .0)
+
+      pub string-six : true ≡ isBelowLast i (d .count) (part (l .indexStart) (d .count) (l .indices)) → refusedWith d l i (text s) 6 ≡ addChange d l i (text s)
+      unfolding keptIn
+      string-six h = six d l i (text s) sound string-kind string-long string-known (sym h)
+
+      pub string-levels : false ≡ isBelowLast i (d .count) (part (l .indexStart) (d .count) (l .indices)) → Levels d l i M own s
+      unfolding keptIn
+      string-levels h =
+          record {
+            admitted = record { sound = sound; kind = string-kind; long = string-long; known = string-known; rises = sym h };
+            vector = vector ∙ ap (λ (k : ℕ). BitVector k M) (sym long);
+            least = (least-told s own least) .1;
+          }
+
+-- ---- a string's levels, for a record of w levels under M, which J joins with the string's own set
+
+module _ (d : Description) (l : Lent) (i : ℕ) (s : List ℕ) (M own J : States) (v : Levels d l i M own s) (j : J ≡ join M own) where
+  abbrev w : ℕ
+  w = length s
+
+  abbrev n : ℕ
+  n = d .count
+
+  -- the earlier entries under the set that is then the largest, and the new one
+  abbrev pub wide : List ℕ
+  wide = widenAll w M J n (part (l .byteStart) (n * entrySize w M) (l .bytes))
+
+  abbrev pub entry : List ℕ
+  entry = entryOf w J own (codesOf (foldAll s))
+
+  abbrev pub under : ℕ → Description
+  under m = record { encoding = BitVector w J; count = m }
+
+  -- the record with the change
+  abbrev kept : Bool → Kept
+  kept r =
+      cond r
+      (record { description = under n; bytes = wide; indices = indicesKept l d n })
+      (record { description = under (suc n); bytes = wide ++ entry; indices = indicesKept l d n ++ (i ∷ []) })
+
+  with-levels : (r : Bool) → r ≡ repeats (entrySize w J) n wide entry → withChange (keptIn d l) i (text s) ≡ kept r
+  unfolding keptIn changed appended
+  with-levels r e = rw (v .vector, ← v .least, ← j, ← e)
+
+  pub width-here : widthStands (BitVector w M) ≡ true
+  width-here = ap widthStands (sym (v .vector)) ∙ (not-bad d l (v .admitted .sound)) .0
+
+  pub room-here : l .byteStart + n * entrySize w M ≤ length (l .bytes)
+  room-here =
+      let f = (standing d l (v .admitted .sound)) .bytes in
+      rw (v .vector) at f
+
+  pub up : markOf M ≤ markOf J
+  up = omega (arith, ap markOf j, mark-join M own)
+
+  under-joint : markOf own ≤ markOf J
+  under-joint = omega (arith, ap markOf j, mark-join M own)
+
+  codes : Codes own (codesOf (foldAll s))
+  unfolding isForeign
+  codes =
+      let k : hasNoCode (codesOf (foldAll s)) ≡ false = ap (λ (e : Encoding). isForeign e (text s)) (sym (v .vector)) ∙ v .admitted .known in
+      let b = all-below (codesOf (foldAll s)) k in
+      record { known = b; below = rw (v .least) (levels.under (codesOf (foldAll s)) b) }
+
+  -- what the calls ask
+  pub comparable : Comparable M J own s (length (l .bytes)) (l .byteStart) n
+  comparable =
+      let p = width-known w M width-here in
+      record {
+        under = under-joint;
+        up = up;
+        codes = codes;
+        wide = p .0;
+        short = p .1;
+        few = (standing d l (v .admitted .sound)) .count;
+        fits = room-here;
+      }
+
+  count-of : (r : Bool) (next : ℕ) → next ≡ cond r n (n + 1) → under next ≡ (kept r) .description
+  count-of true next e = ap under e
+  count-of false next e = ap under (e ∙ add-one n)
+
+  module _ (r : Bool) (told : r ≡ repeats (entrySize w J) n wide entry) (next : ℕ) (counted : next ≡ cond r n (n + 1)) where
+    pub levels-full : isBad (under next) l ≡ true → refusedWith d l i (text s) 7 ≡ addChange d l i (text s)
+    levels-full h = go r told counted
+      where
+        go : (r : Bool) → r ≡ repeats (entrySize w J) n wide entry → next ≡ cond r n (n + 1) → refusedWith d l i (text s) 7 ≡ addChange d l i (text s)
+        go true t c =
+            seven d l i (text s) (v .admitted) (kept true) (with-levels true t) (width-any w M J width-here)
+            (ap (λ (d : Description). isBad d l) (sym (count-of true next c)) ∙ h)
+        go false t c =
+            seven d l i (text s) (v .admitted) (kept false) (with-levels false t) (width-any w M J width-here)
+            (ap (λ (d : Description). isBad d l) (sym (count-of false next c)) ∙ h)
+
+    module _ (roomy : isBad (under next) l ≡ false) where
+      not-less : n ≤ next
+      not-less = go r counted
+        where
+          go : (r : Bool) → next ≡ cond r n (n + 1) → n ≤ next
+          go true e = omega arith
+          go false e = omega arith
+
+      pub widenable : Widenable M J (l .byteStart) n w (length (l .bytes))
+      widenable =
+          let p = width-known w M width-here in
+          let f = standing (under next) l roomy in
+          record {
+            wide = p .0;
+            narrow = p .1;
+            up = up;
+            few = (standing d l (v .admitted .sound)) .count;
+            room = omega (arith, f .bytes, mul-le-mul-right (entrySize w J) not-less);
+          }
+
+      -- room for one entry more
+      pub roomier : r ≡ false → (l .byteStart + n * entrySize w J + entrySize w J ≤ length (l .bytes)) × (l .indexStart + n < length (l .indices))
+      roomier e =
+          let f = standing (under next) l roomy in
+          let z : next ≡ suc n = counted ∙ rw e (add-one n) in
+          let b : next * entrySize w J ≡ n * entrySize w J + entrySize w J = ap (λ (k : ℕ). k * entrySize w J) z ∙ suc-mul n (entrySize w J) in
+          (omega (arith, f .bytes), omega (arith, f .indices))
+
+      pub writable : r ≡ false → (room at : ℕ) → room ≡ length (l .bytes) → at ≡ l .byteStart + n * entrySize w J → Writable J own s room at
+      writable e room at q k =
+          let p = width-known w M width-here in
+          record {
+            under = under-joint;
+            codes = codes;
+            wide = p .0;
+            short = p .1;
+            fits = omega (arith, (roomier e) .0);
+          }
+
+      pub levels-stay : r ≡ true
+          → acceptedWith d l i (text s) (record { description = under next; bytes = overlay (l .bytes) (l .byteStart) wide; indices = l .indices })
+          ≡ addChange d l i (text s)
+      levels-stay e =
+          let q : under next ≡ under n = count-of true next (counted ∙ rw e) in
+          ap (λ (x : Description). acceptedWith d l i (text s) (record { description = x; bytes = overlay (l .bytes) (l .byteStart) wide; indices = l .indices })) q
+          ∙ accepted d l i (text s) (v .admitted) (kept true) (with-levels true (sym e ∙ told)) _
+          (stored-same l (under n) n wide ((standing d l (v .admitted .sound)) .indices))
+          (ap (λ (d : Description). isBad d l) (sym q) ∙ roomy)
+
+      pub levels-grow : r ≡ false
+          → acceptedWith d l i (text s)
+          (record {
+            description = under next;
+            bytes = overlay (overlay (l .bytes) (l .byteStart) wide) (l .byteStart + n * entrySize w J) entry;
+            indices = set (l .indices) (l .indexStart + n) i;
+          })
+          ≡ addChange d l i (text s)
+      levels-grow e =
+          let q : under next ≡ under (suc n) = count-of false next (counted ∙ rw e) in
+          let p = width-known w M width-here in
+          let u : List ℕ = part (l .byteStart) (n * entrySize w M) (l .bytes) in
+          let z : length u ≡ n * entrySize w M = part-length (l .bytes) (l .byteStart) (n * entrySize w M) room-here in
+          let x : length wide ≡ n * entrySize w J = widen-all-length w (p .0) M J up n u (omega arith) in
+          ap
+          (λ (x : Description).
+          acceptedWith d l i (text s)
+          (record {
+            description = x;
+            bytes = overlay (overlay (l .bytes) (l .byteStart) wide) (l .byteStart + n * entrySize w J) entry;
+            indices = set (l .indices) (l .indexStart + n) i;
+          }))
+          q
+          ∙ accepted d l i (text s) (v .admitted) (kept false) (with-levels false (sym e ∙ told)) _
+          (stored-more l (under (suc n)) n (n * entrySize w J) i wide entry x (omega (arith, (roomier e) .0)) ((roomier e) .1))
+          (ap (λ (d : Description). isBad d l) (sym q) ∙ roomy)
