@@ -15,7 +15,7 @@ use Rattle.value.specs.declared.StatesAnswer.the-variants as answer
 use Rattle.value.specs.Slice.{part, overlay}
 use Rattle.value.specs.Level.{markOf, codesOf, foldAll, hasNoCode, leastOf, join}
 use Rattle.value.specs.Answer.{leastStates}
-use Rattle.value.proofs.Levels.{mark-join, all-below} 
+use Rattle.value.proofs.Levels.{mark-join, all-below}
 use Rattle.value.proofs.Levels as levels
 use Rattle.value.proofs.Slices.{part-length}
 use Rattle.wavemem.specs.Packed.{Codes}

@@ -122,7 +122,7 @@ fn next_count(count: u32, repeat: bool) -> u32
 impl Description {
     // Number 7, and what is stored. The room is that of the record with the change.
     fn add_levels(
-        self,
+        mut self,
         max_states: States,
         states: States,
         bytes: &mut [u8],
@@ -139,25 +139,26 @@ impl Description {
         let count = self.count;
         let joint = States::join(max_states, states);
         let repeat = repeats_last(max_states, joint, states, value, bytes, byte_start, count);
-        let next = Description {
+        let before = self;
+        self = Description {
             encoding: Encoding::BitVector {
                 width,
                 max_states: joint,
             },
             count: next_count(count, repeat),
         };
-        if is_bad(next, bytes, byte_start, indices, index_start) {
-            return refused(self, Refusal::NoRoom);
+        if is_bad(self, bytes, byte_start, indices, index_start) {
+            return refused(before, Refusal::NoRoom);
         }
         let entries = count as usize;
         expand_entries(max_states, joint, bytes, byte_start, entries, width);
         if repeat {
-            return accepted(next);
+            return accepted(self);
         }
         let at = byte_start + entries * entry_size(joint, width);
         write_entry(joint, states, value, bytes, at);
         indices[index_start + entries] = index;
-        accepted(next)
+        accepted(self)
     }
 
     // Numbers 4 to 6 of a string for a bit vector.
@@ -240,7 +241,14 @@ impl Description {
         }
         let encoding = self.encoding;
         match encoding {
-            Encoding::Event => self.add_event(bytes, byte_start, indices, index_start, index, value),
+            Encoding::Event => self.add_event(
+                bytes,
+                byte_start,
+                indices,
+                index_start,
+                index,
+                value,
+            ),
             Encoding::Real => refused(self, Refusal::WrongKind),
             Encoding::BitVector { width, max_states } => self.add_string(
                 width,

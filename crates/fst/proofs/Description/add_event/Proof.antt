@@ -16,12 +16,6 @@ use Rattle.fst.proofs.AddingPlain.{oneMore, event-four, event-six, even
 use borrow.Author.Needs.{needs}
 use Rattle.fst.proofs.Description.add_event.Statement.{statement}
 use Rattle.fst.proofs.Description.add_event.Tie as tie
-use Rattle.fst.proofs.Description.add_event.Reads as reads
-use Rattle.fst.proofs.Description.add_event.Lts as lts
-use Rattle.fst.proofs.change.accepted.Reads as accepted-reads
-use Rattle.fst.proofs.change.is_below_last.Reads as is-below-last-reads
-use Rattle.fst.proofs.change.refused.Reads as refused-reads
-use Rattle.fst.proofs.record.is_bad.Reads as is-bad-reads
 
 -- the slices that are lent
 abbrev lent : tie.Start → Lent
@@ -49,32 +43,26 @@ module _ (z : tie.After-is-bad) where
   index-in : z .is-bad .result ≡ false → start told .args .index-start + start told .args .self .count < length (now (start told .args .indices))
   index-in h = let f = (standing (oneMore (start told .args .self)) (lent (start told)) (roomy h)) .indices in omega arith
 
--- src/change.rt:213:13
 refused-requires : tie.Need-refused-requires
 refused-requires c κs = search needs
 
--- src/change.rt:213:13
 returns : tie.Need-returns
 returns c =
     let x = c .before .before .before .before .before in
     ap (λ (r : Added). leftBy r ((lent x) .bytes) ((lent x) .indices)) (c .refused .ensures)
     ∙ event-four (x .args .self) (lent x) (x .args .index) (now (x .args .value)) (x .pre .0) (x .pre .1) (c .before .if1 .taken)
 
--- src/change.rt:215:12
 is-below-last-requires : tie.Need-is-below-last-requires
 is-below-last-requires c κs =
     let x = c .before .before .before .before .before in
     (standing (x .args .self) (lent x) (x .pre .0)) .indices
 
--- src/change.rt:216:13
 refused-requires-2 : tie.Need-refused-requires-2
 refused-requires-2 c κs = search needs
 
--- src/change.rt:216:13
 same-length : tie.Need-same-length
 same-length c = search needs
 
--- src/change.rt:216:13
 returns-2 : tie.Need-returns-2
 returns-2 c =
     let b = c .before .before in
@@ -82,26 +70,21 @@ returns-2 c =
     ap (λ (r : Added). leftBy r ((lent x) .bytes) ((lent x) .indices)) (c .refused2 .ensures)
     ∙ event-six (x .args .self) (lent x) (x .args .index) (now (x .args .value)) (x .pre .0) (x .pre .1) (short b) (sym (c .before .if2 .taken) ∙ b .is-below-last .ensures)
 
--- src/change.rt:219:9
 add-self : tie.Need-add-self
 add-self c =
     let x = start (c .before .before) in
     let f = (standing (x .args .self) (lent x) (x .pre .0)) .count in
     omega arith
 
--- src/change.rt:220:12
 is-bad-requires : tie.Need-is-bad-requires
 is-bad-requires c κs = search needs
 
--- src/change.rt:221:13
 refused-requires-3 : tie.Need-refused-requires-3
 refused-requires-3 c κs = search needs
 
--- src/change.rt:221:13
 same-length-2 : tie.Need-same-length-2
 same-length-2 c = search needs
 
--- src/change.rt:221:13
 returns-3 : tie.Need-returns-3
 returns-3 c =
     let z = c .before .before in
@@ -109,31 +92,24 @@ returns-3 c =
     ap (λ (r : Added). leftBy r ((lent x) .bytes) ((lent x) .indices)) (c .refused3 .ensures)
     ∙ event-full (x .args .self) (lent x) (x .args .index) (now (x .args .value)) (x .pre .0) (x .pre .1) (admits (told z) (z .before .before .before .if2 .left)) (sym (z .is-bad .ensures) ∙ c .before .if3 .taken)
 
--- src/change.rt:223:31
 cast-indices : tie.Need-cast-indices
 cast-indices c = search needs
 
--- src/change.rt:223:17
 add-indices : tie.Need-add-indices
 add-indices c = let h = index-in (c .before .before) (c .before .if3 .left) in omega arith
 
--- src/change.rt:223:9
 mul-indices : tie.Need-mul-indices
 mul-indices c = let h = index-in (c .before .before) (c .before .if3 .left) in omega arith
 
--- src/change.rt:223:9
 slice-write-indices : tie.Need-slice-write-indices
 slice-write-indices c = index-in (c .before .before) (c .before .if3 .left)
 
--- src/change.rt:224:9
 accepted-requires : tie.Need-accepted-requires
 accepted-requires c κs = search needs
 
--- src/change.rt:200:5
 same-length-3 : tie.Need-same-length-3
 same-length-3 c = search needs
 
--- src/change.rt:200:5
 returns-4 : tie.Need-returns-4
 returns-4 c =
     let z = c .before .before .before in

@@ -22,17 +22,6 @@ use Rattle.fst.proofs.AddingStrings.{wide, comparable, widenable, roomi
 use borrow.Author.Needs.{needs}
 use Rattle.fst.proofs.Description.add_levels.Statement.{statement}
 use Rattle.fst.proofs.Description.add_levels.Tie as tie
-use Rattle.fst.proofs.Description.add_levels.Reads as reads
-use Rattle.fst.proofs.Description.add_levels.Lts as lts
-use Rattle.fst.proofs.change.accepted.Reads as accepted-reads
-use Rattle.fst.proofs.change.next_count.Reads as next-count-reads
-use Rattle.fst.proofs.change.refused.Reads as refused-reads
-use Rattle.fst.proofs.change.repeats_last.Reads as repeats-last-reads
-use Rattle.fst.proofs.entry.entry_size.Reads as entry-size-reads
-use Rattle.fst.proofs.entry.write_entry.Reads as write-entry-reads
-use Rattle.fst.proofs.expand.expand_entries.Reads as expand-entries-reads
-use Rattle.fst.proofs.record.is_bad.Reads as is-bad-reads
-use Rattle.value.proofs.States.join.Reads as join-reads
 
 -- the slices that are lent
 abbrev lent : tie.Start → Lent
@@ -83,46 +72,37 @@ place : (c : tie.After-entry-size) →
     x .args .byte-start + x .args .self .count * c .entry-size .result + c .entry-size .result ≤ length (now (x .args .bytes))
 place c = rw (c .entry-size .ensures) ((places (c .before .before .before .before .before .before .before) (c .before .before .before .before .before .before .if1 .left) (c .before .if2 .left)) .0)
 
--- src/change.rt:138:21
 cast-width : tie.Need-cast-width
 cast-width c =
     let x = c .before .before .before in
     let p = (comparable (x .args .self) (lent x) (x .args .index) (now (x .args .value)) (x .args .max-states) (x .args .states) _ (x .pre) refl) .short in
     omega arith
 
--- src/change.rt:140:13
 join-requires : tie.Need-join-requires
 join-requires c κs = search needs
 
--- src/change.rt:141:13
 repeats-last-requires : tie.Need-repeats-last-requires
 repeats-last-requires c κs =
     let x = c .before .before .before .before .before in
     comparable (x .args .self) (lent x) (x .args .index) (now (x .args .value)) (x .args .max-states) (x .args .states) _ (x .pre) (c .before .join .ensures)
 
--- src/change.rt:147:20
 next-count-requires : tie.Need-next-count-requires
 next-count-requires c κs =
     let x = c .before .before .before .before .before .before in
     (standing (x .args .self) (lent x) (x .pre .admitted .sound)) .count
 
--- src/change.rt:149:12
 is-bad-requires : tie.Need-is-bad-requires
 is-bad-requires c κs = search needs
 
--- src/change.rt:150:13
 refused-requires : tie.Need-refused-requires
 refused-requires c κs = search needs
 
--- src/change.rt:150:13
 same-length : tie.Need-same-length
 same-length c = search needs
 
--- src/change.rt:150:13
 same-length-2 : tie.Need-same-length-2
 same-length-2 c = search needs
 
--- src/change.rt:150:13
 returns : tie.Need-returns
 returns c =
     let z = c .before .before in
@@ -130,30 +110,24 @@ returns c =
     ap (λ (r : Added). leftBy r ((lent x) .bytes) ((lent x) .indices)) (c .refused .ensures)
     ∙ levels-full (x .args .self) (lent x) (x .args .index) (now (x .args .value)) (x .args .max-states) (x .args .states) (joint z) (x .pre) (joined z) (repeat z) (told z) (next z) (counted z) (sym (z .is-bad .ensures) ∙ c .before .if1 .taken)
 
--- src/change.rt:152:23
 cast-entries : tie.Need-cast-entries
 cast-entries c = search needs
 
--- src/change.rt:153:9
 expand-entries-requires : tie.Need-expand-entries-requires
 expand-entries-requires c κs =
     let z = c .before .before in
     let x = start z in
     widenable (x .args .self) (lent x) (x .args .index) (now (x .args .value)) (x .args .max-states) (x .args .states) (joint z) (x .pre) (joined z) (repeat z) (told z) (next z) (counted z) (roomy z (c .before .if1 .left))
 
--- src/change.rt:155:13
 accepted-requires : tie.Need-accepted-requires
 accepted-requires c κs = search needs
 
--- src/change.rt:155:13
 same-length-3 : tie.Need-same-length-3
 same-length-3 c = search needs
 
--- src/change.rt:155:13
 same-length-4 : tie.Need-same-length-4
 same-length-4 c = search needs
 
--- src/change.rt:155:13
 returns-2 : tie.Need-returns-2
 returns-2 c =
     let z = c .before .before .before .before .before .before .before in
@@ -161,19 +135,15 @@ returns-2 c =
     ap₂ (λ (r : Added) (b : List ℕ). leftBy r b (now (x .args .indices))) (c .accepted .ensures) (c .before .before .before .before .expand-entries .ensures)
     ∙ levels-stay (x .args .self) (lent x) (x .args .index) (now (x .args .value)) (x .args .max-states) (x .args .states) (joint z) (x .pre) (joined z) (repeat z) (told z) (next z) (counted z) (roomy z (c .before .before .before .before .before .before .if1 .left)) (c .before .if2 .taken)
 
--- src/change.rt:157:41
 entry-size-requires : tie.Need-entry-size-requires
 entry-size-requires c κs = search needs
 
--- src/change.rt:157:31
 mul-at : tie.Need-mul-at
 mul-at c = let p = place c in omega arith
 
--- src/change.rt:157:18
 add-at : tie.Need-add-at
 add-at c = let p = place c in omega arith
 
--- src/change.rt:158:9
 write-entry-requires : tie.Need-write-entry-requires
 write-entry-requires c κs =
     let z = c .before .before .before .before .before .before .before .before in
@@ -181,7 +151,6 @@ write-entry-requires c κs =
     writable (x .args .self) (lent x) (x .args .index) (now (x .args .value)) (x .args .max-states) (x .args .states) (joint z) (x .pre) (joined z) (repeat z) (told z) (next z) (counted z) (roomy z (c .before .before .before .before .before .before .before .if1 .left)) (c .before .before .if2 .left) _ _ (c .before .before .before .before .before .expand-entries .kept .1 .1 .0)
     (ap (λ (k : ℕ). x .args .byte-start + x .args .self .count * k) (c .before .entry-size .ensures))
 
--- src/change.rt:159:17
 index-in : (c : tie.After-slice-known4) →
     let x = start (c .before .before .before .before .before .before .before .before .before .before .before) in
     x .args .index-start + x .args .self .count < length (now (x .args .indices))
@@ -190,27 +159,21 @@ index-in c = (places (c .before .before .before .before .before .before .before 
 add-indices : tie.Need-add-indices
 add-indices c = let p = index-in c in omega (arith, few-indices (start (c .before .before .before .before .before .before .before .before .before .before .before)))
 
--- src/change.rt:159:9
 mul-indices : tie.Need-mul-indices
 mul-indices c = let p = index-in c in omega (arith, few-indices (start (c .before .before .before .before .before .before .before .before .before .before .before)))
 
--- src/change.rt:159:9
 slice-write-indices : tie.Need-slice-write-indices
 slice-write-indices c = index-in c
 
--- src/change.rt:160:9
 accepted-requires-2 : tie.Need-accepted-requires-2
 accepted-requires-2 c κs = search needs
 
--- src/change.rt:124:5
 same-length-5 : tie.Need-same-length-5
 same-length-5 c = search needs
 
--- src/change.rt:124:5
 same-length-6 : tie.Need-same-length-6
 same-length-6 c = search needs
 
--- src/change.rt:124:5
 returns-3 : tie.Need-returns-3
 returns-3 c =
     let z = c .before .before .before .before .before .before .before .before .before .before .before .before in

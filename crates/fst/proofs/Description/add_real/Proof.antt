@@ -22,14 +22,6 @@ use Rattle.fst.proofs.AddingPlain.{oneMore, real-six, real-admitted, re
 use borrow.Author.Needs.{needs}
 use Rattle.fst.proofs.Description.add_real.Statement.{statement}
 use Rattle.fst.proofs.Description.add_real.Tie as tie
-use Rattle.fst.proofs.Description.add_real.Reads as reads
-use Rattle.fst.proofs.Description.add_real.Lts as lts
-use Rattle.fst.proofs.change.accepted.Reads as accepted-reads
-use Rattle.fst.proofs.change.is_below_last.Reads as is-below-last-reads
-use Rattle.fst.proofs.change.refused.Reads as refused-reads
-use Rattle.fst.proofs.real.repeats_real.Reads as repeats-real-reads
-use Rattle.fst.proofs.real.write_real.Reads as write-real-reads
-use Rattle.fst.proofs.record.is_bad.Reads as is-bad-reads
 
 -- the slices that are lent
 abbrev lent : tie.Start → Lent
@@ -75,23 +67,18 @@ module _ (z : tie.After-is-bad2) where
       let x = start known in
       real-roomier (x .args .self) (lent x) (x .args .index) (x .args .bits) (sound known) (isReal known) (admits known (z .before .before .before .before .before .before .before .if2 .left)) (roomy h)
 
--- src/real.rt:71:12
 is-bad-requires : tie.Need-is-bad-requires
 is-bad-requires c κs = search needs
 
--- src/real.rt:72:13
 refused-requires : tie.Need-refused-requires
 refused-requires c κs = search needs
 
--- src/real.rt:72:13
 same-length : tie.Need-same-length
 same-length c = search needs
 
--- src/real.rt:72:13
 same-length-2 : tie.Need-same-length-2
 same-length-2 c = search needs
 
--- src/real.rt:72:13
 returns : tie.Need-returns
 returns c =
     let x = c .before .before .before .before .before .before .before in
@@ -101,44 +88,35 @@ returns c =
 enum-told : tie.Need-enum-told
 enum-told c = search needs
 
--- src/real.rt:76:13
 refused-requires-2 : tie.Need-refused-requires-2
 refused-requires-2 c κs = search needs
 
--- src/real.rt:76:13
 same-length-3 : tie.Need-same-length-3
 same-length-3 c = search needs
 
--- src/real.rt:76:13
 same-length-4 : tie.Need-same-length-4
 same-length-4 c = search needs
 
--- src/real.rt:76:13
 returns-2 : tie.Need-returns-2
 returns-2 c =
     let x = c .before .before .before .before .before .before .before .before in
     ap (λ (r : Added). leftBy r ((lent x) .bytes) ((lent x) .indices)) (c .refused2 .ensures)
     ∙ three (x .args .self) (lent x) (x .args .index) (real (x .args .bits)) (sym (c .before .before .before .is-bad .ensures) ∙ c .before .before .if1 .left) (other (x .args .bits) (x .args .self .encoding) (c .before .match .keys2))
 
--- src/real.rt:79:12
 is-below-last-requires : tie.Need-is-below-last-requires
 is-below-last-requires c κs =
     let x = c .before .before .before .before .before .before .before .before .before in
     (standing (x .args .self) (lent x) (sym (c .before .before .before .before .is-bad .ensures) ∙ c .before .before .before .if1 .left)) .indices
 
--- src/real.rt:80:13
 refused-requires-3 : tie.Need-refused-requires-3
 refused-requires-3 c κs = search needs
 
--- src/real.rt:80:13
 same-length-5 : tie.Need-same-length-5
 same-length-5 c = search needs
 
--- src/real.rt:80:13
 same-length-6 : tie.Need-same-length-6
 same-length-6 c = search needs
 
--- src/real.rt:80:13
 returns-3 : tie.Need-returns-3
 returns-3 c =
     let b = c .before .before in
@@ -146,26 +124,21 @@ returns-3 c =
     ap (λ (r : Added). leftBy r ((lent x) .bytes) ((lent x) .indices)) (c .refused3 .ensures)
     ∙ real-six (x .args .self) (lent x) (x .args .index) (x .args .bits) (sound b) (isReal b) (sym (c .before .if2 .taken) ∙ b .is-below-last .ensures)
 
--- src/real.rt:82:12
 repeats-real-requires : tie.Need-repeats-real-requires
 repeats-real-requires c κs =
     let b = c .before .before in
     let x = start b in
     ((standing (x .args .self) (lent x) (sound b)) .count, real-room (x .args .self) (lent x) (x .args .index) (x .args .bits) (sound b) (isReal b))
 
--- src/real.rt:83:13
 accepted-requires : tie.Need-accepted-requires
 accepted-requires c κs = search needs
 
--- src/real.rt:83:13
 same-length-7 : tie.Need-same-length-7
 same-length-7 c = search needs
 
--- src/real.rt:83:13
 same-length-8 : tie.Need-same-length-8
 same-length-8 c = search needs
 
--- src/real.rt:83:13
 returns-4 : tie.Need-returns-4
 returns-4 c =
     let b = c .before .before .before .before .before in
@@ -173,7 +146,6 @@ returns-4 c =
     ap (λ (r : Added). leftBy r ((lent x) .bytes) ((lent x) .indices)) (c .accepted .ensures)
     ∙ real-stays (x .args .self) (lent x) (x .args .index) (x .args .bits) (sound b) (isReal b) (admits b (c .before .before .before .before .if2 .left)) (sym (c .before .if3 .taken) ∙ c .before .before .repeats-real .ensures)
 
--- src/real.rt:86:9
 add-self : tie.Need-add-self
 add-self c =
     let b = c .before .before .before .before .before in
@@ -181,23 +153,18 @@ add-self c =
     let f = (standing (x .args .self) (lent x) (sound b)) .count in
     omega arith
 
--- src/real.rt:87:12
 is-bad-requires-2 : tie.Need-is-bad-requires-2
 is-bad-requires-2 c κs = search needs
 
--- src/real.rt:88:13
 refused-requires-4 : tie.Need-refused-requires-4
 refused-requires-4 c κs = search needs
 
--- src/real.rt:88:13
 same-length-9 : tie.Need-same-length-9
 same-length-9 c = search needs
 
--- src/real.rt:88:13
 same-length-10 : tie.Need-same-length-10
 same-length-10 c = search needs
 
--- src/real.rt:88:13
 returns-5 : tie.Need-returns-5
 returns-5 c =
     let z = c .before .before in
@@ -206,47 +173,36 @@ returns-5 c =
     ap (λ (r : Added). leftBy r ((lent x) .bytes) ((lent x) .indices)) (c .refused4 .ensures)
     ∙ real-full (x .args .self) (lent x) (x .args .index) (x .args .bits) (sound b) (isReal b) (admits b (z .before .before .before .before .before .before .before .if2 .left)) (sym (z .before .before .before .before .if3 .left) ∙ z .before .before .before .before .before .repeats-real .ensures) (sym (z .is-bad2 .ensures) ∙ c .before .if4 .taken)
 
--- src/real.rt:90:23
 cast-entries : tie.Need-cast-entries
 cast-entries c = search needs
 
--- src/real.rt:91:46
 mul-write-real : tie.Need-mul-write-real
 mul-write-real c = search needs
 
--- src/real.rt:91:33
 add-write-real : tie.Need-add-write-real
 add-write-real c = let p = places (c .before .before) (c .before .if4 .left) in omega arith
 
--- src/real.rt:91:9
 write-real-requires : tie.Need-write-real-requires
 write-real-requires c κs = (places (c .before .before) (c .before .if4 .left)) .0
 
--- src/real.rt:92:17
 add-indices : tie.Need-add-indices
 add-indices c = let p = places (c .before .before .before .before .before) (c .before .before .before .before .if4 .left) in omega (arith, few-indices (start (known (c .before .before .before .before .before))))
 
--- src/real.rt:92:9
 mul-indices : tie.Need-mul-indices
 mul-indices c = let p = places (c .before .before .before .before .before) (c .before .before .before .before .if4 .left) in omega (arith, few-indices (start (known (c .before .before .before .before .before))))
 
--- src/real.rt:92:9
 slice-write-indices : tie.Need-slice-write-indices
 slice-write-indices c = (places (c .before .before .before .before .before) (c .before .before .before .before .if4 .left)) .1
 
--- src/real.rt:93:9
 accepted-requires-2 : tie.Need-accepted-requires-2
 accepted-requires-2 c κs = search needs
 
--- src/real.rt:60:5
 same-length-11 : tie.Need-same-length-11
 same-length-11 c = search needs
 
--- src/real.rt:60:5
 same-length-12 : tie.Need-same-length-12
 same-length-12 c = search needs
 
--- src/real.rt:60:5
 returns-6 : tie.Need-returns-6
 returns-6 c =
     let z = c .before .before .before .before .before .before in

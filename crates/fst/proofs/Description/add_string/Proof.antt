@@ -16,12 +16,6 @@ use Rattle.fst.proofs.AddingStrings.{string-four, string-five, string-s
 use borrow.Author.Needs.{needs}
 use Rattle.fst.proofs.Description.add_string.Statement.{statement}
 use Rattle.fst.proofs.Description.add_string.Tie as tie
-use Rattle.fst.proofs.Description.add_string.Reads as reads
-use Rattle.fst.proofs.Description.add_string.Lts as lts
-use Rattle.fst.proofs.Description.add_levels.Reads as add-levels-reads
-use Rattle.fst.proofs.change.is_below_last.Reads as is-below-last-reads
-use Rattle.fst.proofs.change.refused.Reads as refused-reads
-use Rattle.value.proofs.States.from_ascii.Reads as from-ascii-reads
 
 -- the slices that are lent
 abbrev lent : tie.Start → Lent
@@ -38,55 +32,44 @@ module _ (b : tie.After-is-below-last) where
   least : leastStates (now (start .args .value)) ≡ answer.Least (b .before .before .before .states .given .0 .0)
   least = sym (b .before .before .before .before .before .from-ascii .ensures) ∙ b .before .before .before .states .given .1
 
--- src/change.rt:179:13
 refused-requires : tie.Need-refused-requires
 refused-requires c κs = search needs
 
--- src/change.rt:179:13
 returns : tie.Need-returns
 returns c =
     let x = c .before .before .before .before .before in
     ap (λ (r : Added). leftBy r ((lent x) .bytes) ((lent x) .indices)) (c .refused .ensures)
     ∙ string-four (x .args .self) (lent x) (x .args .index) (now (x .args .value)) (x .args .width) (x .args .max-states) (x .pre .0) (x .pre .1) (c .before .if1 .taken)
 
--- src/change.rt:181:43
 from-ascii-requires : tie.Need-from-ascii-requires
 from-ascii-requires c κs = search needs
 
--- src/change.rt:181:33
 enum-known-states : tie.Need-enum-known-states
 enum-known-states c = search needs
 
--- src/change.rt:182:34
 enum-told : tie.Need-enum-told
 enum-told c = search needs
 
--- src/change.rt:182:13
 refused-requires-2 : tie.Need-refused-requires-2
 refused-requires-2 c κs = search needs
 
--- src/change.rt:182:13
 returns-2 : tie.Need-returns-2
 returns-2 c =
     let x = c .before .before .before .before .before .before .before .before in
     ap (λ (r : Added). leftBy r ((lent x) .bytes) ((lent x) .indices)) (c .refused2 .ensures)
     ∙ string-five (x .args .self) (lent x) (x .args .index) (now (x .args .value)) (x .args .width) (x .args .max-states) (x .pre .0) (x .pre .1) (c .before .before .before .before .if1 .left) (sym (c .before .before .before .from-ascii .ensures) ∙ c .before .enum-told .given .1)
 
--- src/change.rt:184:12
 is-below-last-requires : tie.Need-is-below-last-requires
 is-below-last-requires c κs =
     let x = c .before .before .before .before .before .before .before .before .before in
     (standing (x .args .self) (lent x) (x .pre .0)) .indices
 
--- src/change.rt:185:13
 refused-requires-3 : tie.Need-refused-requires-3
 refused-requires-3 c κs = search needs
 
--- src/change.rt:185:13
 same-length : tie.Need-same-length
 same-length c = search needs
 
--- src/change.rt:185:13
 returns-3 : tie.Need-returns-3
 returns-3 c =
     let b = c .before .before in
@@ -94,22 +77,18 @@ returns-3 c =
     ap (λ (r : Added). leftBy r ((lent x) .bytes) ((lent x) .indices)) (c .refused3 .ensures)
     ∙ string-six (x .args .self) (lent x) (x .args .index) (now (x .args .value)) (x .args .width) (x .args .max-states) (x .pre .0) (x .pre .1) (long b) _ (least b) (sym (c .before .if2 .taken) ∙ b .is-below-last .ensures)
 
--- src/change.rt:187:9
 add-levels-requires : tie.Need-add-levels-requires
 add-levels-requires c κs =
     let b = c .before .before .before in
     let x = start b in
     string-levels (x .args .self) (lent x) (x .args .index) (now (x .args .value)) (x .args .width) (x .args .max-states) (x .pre .0) (x .pre .1) (long b) _ (least b) (sym (c .before .before .if2 .left) ∙ b .is-below-last .ensures)
 
--- src/change.rt:164:5
 same-length-2 : tie.Need-same-length-2
 same-length-2 c = search needs
 
--- src/change.rt:164:5
 same-length-3 : tie.Need-same-length-3
 same-length-3 c = search needs
 
--- src/change.rt:164:5
 returns-4 : tie.Need-returns-4
 returns-4 c = search needs
 

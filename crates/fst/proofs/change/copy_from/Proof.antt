@@ -11,8 +11,6 @@ use Rattle.value.proofs.Slices.{part-nil, part-length, overlay-nil, overlay-sto
 use Rattle.wavemem.proofs.Compare.{part-more}
 use Rattle.fst.proofs.change.copy_from.Statement.{statement}
 use Rattle.fst.proofs.change.copy_from.Tie as tie
-use Rattle.fst.proofs.change.copy_from.Reads as reads
-use Rattle.fst.proofs.change.copy_from.Lts as lts
 
 abbrev Inv-loop : tie.InvT-loop
 Inv-loop bytes at count out₀ j₀ out j = (j ≤ count) × (out ≡ overlay out₀ 0 (part at j bytes)) × (length out ≡ length out₀)

@@ -6,8 +6,6 @@ use Rattle.fst.proofs.Adding.{none-kept, last-kept}
 use borrow.Author.Needs.{needs}
 use Rattle.fst.proofs.change.is_below_last.Statement.{statement}
 use Rattle.fst.proofs.change.is_below_last.Tie as tie
-use Rattle.fst.proofs.change.is_below_last.Reads as reads
-use Rattle.fst.proofs.change.is_below_last.Lts as lts
 
 returns : tie.Need-returns
 returns c = none-kept _ _ _ (c .if1 .taken)

@@ -3,8 +3,6 @@
 use borrow.Author.Needs.{needs}
 use Rattle.fst.proofs.change.next_count.Statement.{statement}
 use Rattle.fst.proofs.change.next_count.Tie as tie
-use Rattle.fst.proofs.change.next_count.Reads as reads
-use Rattle.fst.proofs.change.next_count.Lts as lts
 
 add-result : tie.Need-add-result
 add-result c = search needs

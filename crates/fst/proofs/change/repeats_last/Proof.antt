@@ -15,13 +15,7 @@ use Rattle.fst.proofs.LastEntry.{last-place, none-repeated, repeats-wid
 use borrow.Author.Needs.{needs}
 use Rattle.fst.proofs.change.repeats_last.Statement.{statement}
 use Rattle.fst.proofs.change.repeats_last.Tie as tie
-use Rattle.fst.proofs.change.repeats_last.Reads as reads
-use Rattle.fst.proofs.change.repeats_last.Lts as lts
-use Rattle.fst.proofs.change.widened_equals.Reads as widened-equals-reads
-use Rattle.fst.proofs.entry.entry_equals.Reads as entry-equals-reads
-use Rattle.fst.proofs.entry.entry_size.Reads as entry-size-reads
 
--- src/change.rt:102:9
 -- the last entry lies in the slice
 place : (c : tie.After-entry-size) →
     let a = c .before .before .before .before .args in
@@ -33,31 +27,24 @@ place c =
 returns : tie.Need-returns
 returns c = none-repeated _ _ _ _ (c .if1 .taken)
 
--- src/change.rt:104:16
 cast-bits : tie.Need-cast-bits
 cast-bits c = search needs
 
--- src/change.rt:105:9
 entry-size-requires : tie.Need-entry-size-requires
 entry-size-requires c κs = search needs
 
--- src/change.rt:106:28
 sub-at : tie.Need-sub-at
 sub-at c = search needs
 
--- src/change.rt:106:27
 mul-at : tie.Need-mul-at
 mul-at c = let p = place c in omega arith
 
--- src/change.rt:106:14
 add-at : tie.Need-add-at
 add-at c = let p = place c in omega arith
 
--- src/change.rt:107:16
 entry-size-requires-2 : tie.Need-entry-size-requires-2
 entry-size-requires-2 c κs = search needs
 
--- src/change.rt:108:9
 entry-equals-requires : tie.Need-entry-equals-requires
 entry-equals-requires c κs =
     let x = c .before .before .before .before .before .before in
@@ -70,7 +57,6 @@ entry-equals-requires c κs =
       fits = omega (arith, c .before .entry-size2 .ensures, c .if2 .taken);
     }
 
--- src/change.rt:110:9
 widened-equals-requires : tie.Need-widened-equals-requires
 widened-equals-requires c κs =
     let x = c .before .before .before .before .before .before in
@@ -85,7 +71,6 @@ widened-equals-requires c κs =
       fits = omega (arith, one-mul (entrySize (length (now (x .args .value))) (x .args .max-states)), c .before .before .entry-size .ensures);
     }
 
--- src/change.rt:89:1
 returns-2 : tie.Need-returns-2
 returns-2 c =
     let z = c .before .before .before in
@@ -99,7 +84,6 @@ returns-2 c =
     ∙ rw (← e, s) (ap (λ (l : List ℕ). same l (entryFrom (a .joint) (a .states) (now (a .value)))) (sym (widen-same w (a .max-states) (a .joint) _ e)))
     ∙ repeats-widened w (x .pre .wide) (a .max-states) (a .joint) (x .pre .up) (a .count) (a .byte-start) b _ (z .before .if1 .left) (x .pre .fits)
 
--- src/change.rt:89:1
 returns-3 : tie.Need-returns-3
 returns-3 c =
     let z = c .before .before .before in

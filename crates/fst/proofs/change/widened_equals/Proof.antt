@@ -16,39 +16,26 @@ use Rattle.fst.proofs.LastEntry.{copy-widened}
 use borrow.Author.Needs.{needs}
 use Rattle.fst.proofs.change.widened_equals.Statement.{statement}
 use Rattle.fst.proofs.change.widened_equals.Tie as tie
-use Rattle.fst.proofs.change.widened_equals.Reads as reads
-use Rattle.fst.proofs.change.widened_equals.Lts as lts
-use Rattle.fst.proofs.change.copy_from.Reads as copy-from-reads
-use Rattle.fst.proofs.entry.entry_equals.Reads as entry-equals-reads
-use Rattle.fst.proofs.entry.entry_size.Reads as entry-size-reads
-use Rattle.fst.proofs.expand.expand_entries.Reads as expand-entries-reads
 
--- src/change.rt:80:16
 cast-bits : tie.Need-cast-bits
 cast-bits c = search needs
 
--- src/change.rt:81:9
 entry-size-requires : tie.Need-entry-size-requires
 entry-size-requires c κs = search needs
 
--- src/change.rt:83:32
 slice-aggregate-copy-from : tie.Need-slice-aggregate-copy-from
 slice-aggregate-copy-from c = search needs
 
--- src/change.rt:83:5
 copy-from-requires : tie.Need-copy-from-requires
 copy-from-requires c κs =
-    let x = c .before .before .before .before in
-    (
+    let x = c .before .before .before .before in (
       omega (arith, c .before .entry-size .ensures, x .pre .fits, one-mul (entrySize (length (now (x .args .value))) (x .args .max-states))),
       omega (arith, c .before .entry-size .ensures, size-small (length (now (x .args .value))) (x .args .max-states) (x .pre .short)),
     )
 
--- src/change.rt:84:39
 slice-aggregate-expand-entries : tie.Need-slice-aggregate-expand-entries
 slice-aggregate-expand-entries c = search needs
 
--- src/change.rt:84:5
 expand-entries-requires : tie.Need-expand-entries-requires
 expand-entries-requires c κs =
     let x = c .before .before .before .before .before .before .before in
@@ -61,11 +48,9 @@ expand-entries-requires c κs =
           omega (arith, c .before .before .copy-from .kept .1 .1 .1 .0, one-mul (entrySize (length (now (x .args .value))) (x .args .joint)), size-small (length (now (x .args .value))) (x .args .joint) (x .pre .short));
     }
 
--- src/change.rt:85:40
 slice-aggregate-entry-equals : tie.Need-slice-aggregate-entry-equals
 slice-aggregate-entry-equals c = search needs
 
--- src/change.rt:85:5
 entry-equals-requires : tie.Need-entry-equals-requires
 entry-equals-requires c κs =
     let x = c .before .before .before .before .before .before .before .before .before .before in
@@ -78,7 +63,6 @@ entry-equals-requires c κs =
           omega (arith, c .before .before .expand-entries .kept .1 .1 .0, c .before .before .before .before .before .copy-from .kept .1 .1 .1 .0, size-small (length (now (x .args .value))) (x .args .joint) (x .pre .short));
     }
 
--- src/change.rt:69:1
 returns : tie.Need-returns
 returns c =
     let moved = c .before .before .before .expand-entries in

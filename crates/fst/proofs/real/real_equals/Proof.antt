@@ -15,8 +15,6 @@ use Rattle.value.specs.Slice.{part, overlay}
 use Rattle.fst.proofs.Reals.{lowest, lowest-length, lowest-more, lowest-at, rest-more}
 use Rattle.fst.proofs.real.real_equals.Statement.{statement}
 use Rattle.fst.proofs.real.real_equals.Tie as tie
-use Rattle.fst.proofs.real.real_equals.Reads as reads
-use Rattle.fst.proofs.real.real_equals.Lts as lts
 
 abbrev Inv-loop : tie.InvT-loop
 Inv-loop bits bytes at rest₀ j₀ rest j =
@@ -25,24 +23,19 @@ Inv-loop bits bytes at rest₀ j₀ rest j =
 abbrev μ-loop : tie.MeasureT-loop
 μ-loop bits bytes at rest₀ j₀ rest j = 8 - j
 
--- src/real.rt:38:5
 loop-holds : tie.Need-loop-holds Inv-loop μ-loop
 unfolding digits
 loop-holds c = (zero-le, part-nil _ _, sym (div-one _))
 
--- src/real.rt:39:18
 add-if1 : tie.Need-add-if1 Inv-loop μ-loop
 add-if1 c = omega arith
 
--- src/real.rt:39:12
 shared-slice-read-if1 : tie.Need-shared-slice-read-if1 Inv-loop μ-loop
 shared-slice-read-if1 c = omega arith
 
--- src/real.rt:39:12
 cast-if1 : tie.Need-cast-if1 Inv-loop μ-loop
 cast-if1 c = omega (arith, c .shared-slice-known .given (c .before .before .before .args .at + c .before .before .loop .j))
 
--- src/real.rt:40:13
 -- the byte that is compared
 low : (a : tie.At-loop Inv-loop μ-loop) → bitAnd (a .loop .rest) 255 ≡ a .before .args .bits / 256 ^ a .loop .j % 256
 low a = and-mask (a .loop .rest) 8 ∙ ap (λ (k : ℕ). k % 256) (a .loop .inv .2)
@@ -61,15 +54,12 @@ returns c =
     ∙ lowest-at 256 (x .bits) 8 j (omega arith)
     ∙ sym (low a))))
 
--- src/real.rt:43:9
 add-j : tie.Need-add-j Inv-loop μ-loop
 add-j c = omega arith
 
--- src/real.rt:38:5
 loop-less : tie.Need-loop-less Inv-loop μ-loop
 loop-less c = omega arith
 
--- src/real.rt:38:5
 loop-again : tie.Need-loop-again Inv-loop μ-loop
 loop-again c =
     let a = c .before .before .before in
@@ -82,7 +72,6 @@ loop-again c =
       ap (λ (k : ℕ). k / 256) (a .loop .inv .2) ∙ rest-more 256 (x .bits) j,
     )
 
--- src/real.rt:32:1
 returns-2 : tie.Need-returns-2 Inv-loop μ-loop
 returns-2 c =
     let e : c .before .loop .j ≡ 8 = omega arith in

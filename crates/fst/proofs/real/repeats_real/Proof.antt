@@ -6,31 +6,22 @@ use Rattle.fst.proofs.LastEntry.{none-repeated, repeats-plain}
 use borrow.Author.Needs.{needs}
 use Rattle.fst.proofs.real.repeats_real.Statement.{statement}
 use Rattle.fst.proofs.real.repeats_real.Tie as tie
-use Rattle.fst.proofs.real.repeats_real.Reads as reads
-use Rattle.fst.proofs.real.repeats_real.Lts as lts
-use Rattle.fst.proofs.real.real_equals.Reads as real-equals-reads
 
--- src/real.rt:54:9
 returns : tie.Need-returns
 returns c = none-repeated _ _ _ _ (c .if1 .taken)
 
--- src/real.rt:56:44
 sub-real-equals : tie.Need-sub-real-equals
 sub-real-equals c = search needs
 
--- src/real.rt:56:43
 mul-real-equals : tie.Need-mul-real-equals
 mul-real-equals c = search needs
 
--- src/real.rt:56:30
 add-real-equals : tie.Need-add-real-equals
 add-real-equals c = search needs
 
--- src/real.rt:56:5
 real-equals-requires : tie.Need-real-equals-requires
 real-equals-requires c κs = search needs
 
--- src/real.rt:49:1
 returns-2 : tie.Need-returns-2
 returns-2 c =
     let x = c .before .before .before .args in

@@ -14,8 +14,6 @@ use Rattle.value.specs.Slice.{part, overlay}
 use Rattle.fst.proofs.Reals.{lowest, lowest-length, lowest-more, rest-more}
 use Rattle.fst.proofs.real.write_real.Statement.{statement}
 use Rattle.fst.proofs.real.write_real.Tie as tie
-use Rattle.fst.proofs.real.write_real.Reads as reads
-use Rattle.fst.proofs.real.write_real.Lts as lts
 
 abbrev Inv-loop : tie.InvT-loop
 Inv-loop bits out₀ at rest₀ j₀ out rest j =
@@ -24,32 +22,25 @@ Inv-loop bits out₀ at rest₀ j₀ out rest j =
 abbrev μ-loop : tie.MeasureT-loop
 μ-loop bits out₀ at rest₀ j₀ out rest j = 8 - j
 
--- src/real.rt:25:5
 loop-holds : tie.Need-loop-holds Inv-loop μ-loop
 unfolding digits
 loop-holds c = (zero-le, sym (overlay-nil _ _), sym (div-one _), refl)
 
--- src/real.rt:26:23
 cast-out : tie.Need-cast-out Inv-loop μ-loop
 cast-out c = omega (arith, and-mask (c .before .loop .rest) 8)
 
--- src/real.rt:26:13
 add-out : tie.Need-add-out Inv-loop μ-loop
 add-out c = omega arith
 
--- src/real.rt:26:9
 slice-write-out : tie.Need-slice-write-out Inv-loop μ-loop
 slice-write-out c = omega arith
 
--- src/real.rt:28:9
 add-j : tie.Need-add-j Inv-loop μ-loop
 add-j c = omega arith
 
--- src/real.rt:25:5
 loop-less : tie.Need-loop-less Inv-loop μ-loop
 loop-less c = omega arith
 
--- src/real.rt:25:5
 loop-again : tie.Need-loop-again Inv-loop μ-loop
 loop-again c =
     let a = c .before in
@@ -65,11 +56,9 @@ loop-again c =
       rw length-set (a .loop .inv .3),
     )
 
--- src/real.rt:19:1
 same-length : tie.Need-same-length Inv-loop μ-loop
 same-length c = c .before .loop .inv .3
 
--- src/real.rt:19:1
 returns : tie.Need-returns Inv-loop μ-loop
 returns c =
     let e : c .before .loop .j ≡ 8 = omega arith in
