@@ -47,11 +47,11 @@ pub fn is_below_last(index: u32, indices: &[u32], index_start: usize, count: u32
     requires { ⌜ «index_start» + count ≤ length (now indices) ⌝ }
     ensures { λ r. ⌜ r ≡ isBelowLast index count (part «index_start» count (now (indices .entry))) ⌝ }
 {
-    if count == 0 {
-        return false;
+    if 0 < count {
+        let last = indices[index_start + (count as usize - 1)];
+        return index < last;
     }
-    let last = indices[index_start + (count as usize - 1)];
-    index < last
+    false
 }
 
 fn copy_from(bytes: &[u8], at: usize, count: usize, out: &mut [u8])

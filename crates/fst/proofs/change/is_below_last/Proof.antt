@@ -1,14 +1,10 @@
 -- `fst::change::is_below_last` meets its contract.
 -- Assumes nothing.
 use native.Mathlib.Omega.{arith}
-use denote.Ref.{now}
 use Rattle.fst.proofs.Adding.{none-kept, last-kept}
 use borrow.Author.Needs.{needs}
 use Rattle.fst.proofs.change.is_below_last.Statement.{statement}
 use Rattle.fst.proofs.change.is_below_last.Tie as tie
-
-returns : tie.Need-returns
-returns c = none-kept _ _ _ (c .if1 .taken)
 
 sub-last : tie.Need-sub-last
 sub-last c = search needs
@@ -22,9 +18,12 @@ mul-last c = search needs
 shared-slice-read-last : tie.Need-shared-slice-read-last
 shared-slice-read-last c = search needs
 
+returns : tie.Need-returns
+returns c = last-kept _ _ _ _ (λ e. omega arith)
+
 returns-2 : tie.Need-returns-2
-returns-2 c = last-kept _ _ _ _ (c .before .if1 .left)
+returns-2 c = none-kept _ _ _ (omega arith)
 
 pub is-below-last-spec : {M : Type 1} → statement M
 is-below-last-spec =
-    tie.close (tie.spec returns sub-last add-last mul-last shared-slice-read-last returns-2)
+    tie.close (tie.spec sub-last add-last mul-last shared-slice-read-last returns returns-2)

@@ -1,0 +1,260 @@
+// Rows 1 to 8 of document 01 and the edges of its Add a change, run on the code. Each call writes a line: the number, the count, the
+// mark of the largest set, the bytes and the indices, whole. Two bytes aa and three indices 46 stand before the record, and what is
+// behind the used part is aa and 46 too.
+ghost use Prim.Native.Nat.{_<_};
+use fst::Added;
+use fst::Description;
+use fst::Encoding;
+use fst::Made;
+
+// The character of a hexadecimal digit.
+fn digit(n: u8) -> u8
+    requires { ⌜ n < 16 ⌝ }
+{
+    if n < 10 { b'0' + n } else { b'a' + (n - 10) }
+}
+
+fn write_byte(n: u8) {
+    let text = [b' ', digit(n / 16), digit(n % 16)];
+    io::write_all(1, &text);
+}
+
+fn write_bytes(bytes: &[u8]) {
+    let mut i = 0;
+    while i < bytes.len() {
+        write_byte(bytes[i]);
+        i += 1;
+    }
+}
+
+fn low_byte(n: u32) -> u8 {
+    (n % 256) as u8
+}
+
+fn write_indices(indices: &[u32]) {
+    let mut i = 0;
+    while i < indices.len() {
+        write_byte(low_byte(indices[i]));
+        i += 1;
+    }
+}
+
+fn largest(description: Description) -> u8 {
+    let encoding = description.encoding;
+    match encoding {
+        Encoding::Event => 0,
+        Encoding::Real => 0,
+        Encoding::BitVector { width, max_states } => max_states.mark(),
+    }
+}
+
+fn write_call(added: Added, bytes: &[u8], indices: &[u32]) {
+    let verdict = added.verdict;
+    let next = added.next;
+    write_byte(verdict.number());
+    write_byte(low_byte(next.count));
+    write_byte(largest(next));
+    io::write_all(1, b" |");
+    write_bytes(bytes);
+    io::write_all(1, b" |");
+    write_indices(indices);
+    io::write_all(1, b"\n");
+}
+
+fn title(text: &[u8]) {
+    io::write_all(1, text);
+    io::write_all(1, b"\n");
+}
+
+// A call with a string, for a record that starts at 2 and 3.
+fn string(
+    description: Description,
+    bytes: &mut [u8],
+    indices: &mut [u32],
+    index: u32,
+    value: &[u8],
+) -> Description {
+    let added = description.add_change(bytes, 2, indices, 3, index, value);
+    write_call(added, bytes, indices);
+    added.next
+}
+
+fn real(
+    description: Description,
+    bytes: &mut [u8],
+    indices: &mut [u32],
+    index: u32,
+    bits: u64,
+) -> Description {
+    let added = description.add_real(bytes, 2, indices, 3, index, bits);
+    write_call(added, bytes, indices);
+    added.next
+}
+
+// A record of a width that stands. Of any other it is an event.
+fn fresh(width: u32) -> Description {
+    let Made::Record(description) = fst::record::fresh(width) else {
+        return Description {
+            encoding: Encoding::Event,
+            count: 0,
+        };
+    };
+    description
+}
+
+fn row_1() {
+    let mut bytes = [0xaau8; 4];
+    let mut indices = [0x46u32; 5];
+    title(b"row 1");
+    let d = fresh(1);
+    string(d, &mut bytes, &mut indices, 0, b"1");
+}
+
+fn row_2() {
+    let mut bytes = [0xaau8; 5];
+    let mut indices = [0x46u32; 6];
+    title(b"row 2");
+    let d = fresh(1);
+    let e = string(d, &mut bytes, &mut indices, 0, b"x");
+    string(e, &mut bytes, &mut indices, 1, b"X");
+}
+
+fn rows_3_and_4() {
+    let mut bytes = [0xaau8; 8];
+    let mut indices = [0x46u32; 6];
+    title(b"rows 3 and 4");
+    let d = fresh(3);
+    let e = string(d, &mut bytes, &mut indices, 0, b"x01");
+    string(e, &mut bytes, &mut indices, 0, b"hz1");
+}
+
+fn row_5() {
+    let mut bytes = [0xaau8; 8];
+    let mut indices = [0x46u32; 6];
+    title(b"row 5");
+    let d = fresh(4);
+    let e = string(d, &mut bytes, &mut indices, 0, b"1010");
+    string(e, &mut bytes, &mut indices, 2, b"10xz");
+}
+
+fn row_6() {
+    let mut bytes = [0xaau8; 6];
+    let mut indices = [0x46u32; 5];
+    title(b"row 6");
+    let d = fresh(5);
+    string(d, &mut bytes, &mut indices, 0, b"0000x");
+}
+
+fn row_7() {
+    let mut bytes = [0xaau8; 6];
+    let mut indices = [0x46u32; 5];
+    title(b"row 7");
+    let d = fresh(2);
+    string(d, &mut bytes, &mut indices, 0, b"u-");
+}
+
+fn row_8() {
+    let mut bytes = [0xaau8; 6];
+    let mut indices = [0x46u32; 7];
+    title(b"row 8");
+    let d = fresh(1);
+    let e = string(d, &mut bytes, &mut indices, 5, b"0");
+    let f = string(e, &mut bytes, &mut indices, 10, b"0");
+    let g = string(f, &mut bytes, &mut indices, 7, b"1");
+    string(g, &mut bytes, &mut indices, 6, b"0");
+}
+
+// Row 5 in 4 bytes, and in 3.
+fn edge_room() {
+    let mut four = [0xaau8; 6];
+    let mut three = [0xaau8; 5];
+    let mut indices = [0x46u32; 5];
+    title(b"row 5 in 4 bytes");
+    let d = fresh(4);
+    let e = string(d, &mut four, &mut indices, 0, b"1010");
+    string(e, &mut four, &mut indices, 2, b"10xz");
+    title(b"row 5 in 3 bytes");
+    let f = string(d, &mut three, &mut indices, 0, b"1010");
+    string(f, &mut three, &mut indices, 2, b"10xz");
+}
+
+// Two entries that overlap their new places, in full slices.
+fn edge_widened() {
+    let mut bytes = [0xaau8; 8];
+    let mut indices = [0x46u32; 6];
+    title(b"two entries widened");
+    let d = fresh(4);
+    let e = string(d, &mut bytes, &mut indices, 0, b"1010");
+    let f = string(e, &mut bytes, &mut indices, 1, b"0101");
+    string(f, &mut bytes, &mut indices, 2, b"10xz");
+}
+
+fn edge_real() {
+    let mut bytes = [0xaau8; 20];
+    let mut indices = [0x46u32; 6];
+    title(b"0.0, 0.0 again, -0.0, a string");
+    let d = fst::record::fresh_real();
+    let e = real(d, &mut bytes, &mut indices, 1, 0);
+    let f = real(e, &mut bytes, &mut indices, 2, 0);
+    let g = real(f, &mut bytes, &mut indices, 2, 0x8000000000000000);
+    string(g, &mut bytes, &mut indices, 3, b"1");
+}
+
+fn edge_event() {
+    let mut bytes = [0xaau8; 3];
+    let mut indices = [0x46u32; 5];
+    title(b"an event, a real, two bytes, no room");
+    let d = fresh(0);
+    let e = string(d, &mut bytes, &mut indices, 4, b"?");
+    let f = real(e, &mut bytes, &mut indices, 4, 0);
+    let g = string(f, &mut bytes, &mut indices, 4, b"11");
+    let h = string(g, &mut bytes, &mut indices, 4, b"");
+    string(h, &mut bytes, &mut indices, 4, b"");
+}
+
+// A repeat that raises the set, on a byte that no writer made; a foreign character; another length.
+fn edge_byte() {
+    let mut bytes = [0xaa, 0xaa, 0x42];
+    let mut indices = [0x46u32; 4];
+    title(b"42 then x, y, xx");
+    let d = Description {
+        encoding: Encoding::BitVector {
+            width: 1,
+            max_states: value::States::Two,
+        },
+        count: 1,
+    };
+    let e = string(d, &mut bytes, &mut indices, 0x50, b"x");
+    let f = string(e, &mut bytes, &mut indices, 0x50, b"y");
+    string(f, &mut bytes, &mut indices, 0x50, b"xx");
+}
+
+fn write_fresh(made: Made) {
+    match made {
+        Made::Record(description) => write_byte(largest(description)),
+        Made::Refused(refusal) => write_byte(refusal.number()),
+    }
+    io::write_all(1, b"\n");
+}
+
+fn edge_width() {
+    title(b"widths 4096 and 4097");
+    write_fresh(fst::record::fresh(4096));
+    write_fresh(fst::record::fresh(4097));
+}
+
+fn main() {
+    row_1();
+    row_2();
+    rows_3_and_4();
+    row_5();
+    row_6();
+    row_7();
+    row_8();
+    edge_room();
+    edge_widened();
+    edge_real();
+    edge_event();
+    edge_byte();
+    edge_width();
+}
