@@ -3,7 +3,7 @@
 use mathlib.Core.Path.{_≡_, refl, sym, ap, _∙_}
 use mathlib.Core.Bool.{Bool, true, false, _&&_}
 use mathlib.Core.List.{List, [], _∷_, _++_}
-use Prim.Native.Nat.{ℕ, zero, suc, _+_, _-_, _*_, _≤_, _<_}
+use Prim.Native.Nat.{ℕ, zero, suc, _+_, _-_, _≤_, _<_}
 use native.Mathlib.Omega.{arith}
 use lib.Dec.{leb, ltb, leb→le}
 use borrow.Author.Tests.{not-true}
@@ -43,6 +43,13 @@ no-room d l w h = not-true (fits d l) (rw w at h)
 
 -- ---- a refusal, and an acceptance
 
+-- numbers 2 to 5 are none
+pub record Suited (d : Description) (l : Lent) (c : Change) : Type 0 where
+  pub sound : isBad d l ≡ false
+  pub kind : isOtherKind (d .encoding) c ≡ false
+  pub long : isOtherLength (d .encoding) c ≡ false
+  pub known : isForeign (d .encoding) c ≡ false
+
 module _ (d : Description) (l : Lent) (i : ℕ) (c : Change) where
   -- refused with a number, and everything as it was
   abbrev pub refusedWith : ℕ → Outcome Recorder
@@ -70,9 +77,18 @@ module _ (d : Description) (l : Lent) (i : ℕ) (c : Change) where
       unfolding addChange refusals tried
       five h = rw (sound, kind, long, h)
 
-      pub six : isForeign (d .encoding) c ≡ false → isBelowLast i (d .count) ((keptIn d l) .indices) ≡ true → refusedWith 6 ≡ addChange d l i c
-      unfolding addChange refusals tried
-      six known h = rw (sound, kind, long, known, h)
+  -- the last index kept
+  abbrev below : Bool
+  below = isBelowLast i (d .count) (part (l .indexStart) (d .count) (l .indices))
+
+  module _ (u : Suited d l c) where
+    pub six : true ≡ below → refusedWith 6 ≡ addChange d l i c
+    unfolding addChange refusals tried keptIn
+    six h = rw (u .sound, u .kind, u .long, u .known, ← h)
+
+    pub admits : false ≡ below → Admitted d l i c
+    unfolding keptIn
+    admits h = record { sound = u .sound; kind = u .kind; long = u .long; known = u .known; rises = sym h }
 
   -- the record with the change, and whether it has room
   module _ (a : Admitted d l i c) (k : Kept) (e : withChange (keptIn d l) i c ≡ k) where

@@ -1,9 +1,9 @@
 -- What Add a change leaves of a string for an event, and of a real.
 -- Assumes nothing.
-use mathlib.Core.Path.{_≡_, refl, sym, ap, _∙_}
+use mathlib.Core.Path.{_≡_, sym, ap, _∙_}
 use mathlib.Core.Bool.{Bool, true, false}
 use mathlib.Core.List.{List, [], _∷_, _++_, reverse, append-nil}
-use Prim.Native.Nat.{ℕ, suc, _+_, _*_, _≤_, _<_}
+use Prim.Native.Nat.{ℕ, _+_, _*_, _≤_, _<_}
 use native.Mathlib.Numerals.{add-one}
 use native.Mathlib.Omega.{arith}
 use borrow.Author.Tests.{lt-ltb, le-ltb}
@@ -14,11 +14,11 @@ use Rattle.value.proofs.Slices.{overlay-nil, overlay-part}
 use Rattle.fst.specs.declared.Encoding.{Encoding}
 use Rattle.fst.specs.declared.Encoding.the-variants.{Event, Real}
 use Rattle.fst.specs.declared.Description.{Description}
-use Rattle.fst.specs.Record.{Lent, Kept, sizeOf, usedSize, keptIn, widthStands, isBad}
-use Rattle.fst.specs.Change.{Change, text, real, isOtherKind, isOtherLength, isForeign, isBelowLast, repeats, appended, changed, withChange, Recorder, stored, addChange}
+use Rattle.fst.specs.Record.{Lent, Kept, sizeOf, usedSize, keptIn, isBad}
+use Rattle.fst.specs.Change.{Change, text, real, isOtherKind, isOtherLength, isForeign, repeats, appended, changed, withChange, stored, addChange}
 use Rattle.fst.specs.Adding.{Admitted}
 use Rattle.fst.proofs.Records.{not-bad}
-use Rattle.fst.proofs.Adding.{standing, refusedWith, acceptedWith, three, four, six, seven, accepted, indicesKept, stored-same, stored-behind}
+use Rattle.fst.proofs.Adding.{standing, refusedWith, acceptedWith, Suited, three, four, seven, accepted, indicesKept, stored-same, stored-behind}
 
 -- the same description with one entry more
 abbrev pub oneMore : Description → Description
@@ -63,22 +63,9 @@ module _ (d : Description) (l : Lent) (i : ℕ) (s : List ℕ) (sound : isBad d 
   unfolding isOtherLength
   event-four h = four d l i (text s) sound event-kind (rw (event, lt-ltb 1 (length s) h))
 
-  module _ (short : length s ≤ 1) where
-    event-long : isOtherLength (d .encoding) (text s) ≡ false
-    unfolding isOtherLength
-    event-long = rw (event, le-ltb 1 (length s) short)
-
-    event-known : isForeign (d .encoding) (text s) ≡ false
-    unfolding isForeign
-    event-known = rw event
-
-    pub event-six : true ≡ isBelowLast i (d .count) (part (l .indexStart) (d .count) (l .indices)) → refusedWith d l i (text s) 6 ≡ addChange d l i (text s)
-    unfolding keptIn
-    event-six h = six d l i (text s) sound event-kind event-long event-known (sym h)
-
-    pub event-admitted : false ≡ isBelowLast i (d .count) (part (l .indexStart) (d .count) (l .indices)) → Admitted d l i (text s)
-    unfolding keptIn
-    event-admitted h = record { sound = sound; kind = event-kind; long = event-long; known = event-known; rises = sym h }
+  pub event-suited : length s ≤ 1 → Suited d l (text s)
+  unfolding isOtherLength isForeign
+  event-suited short = record { sound = sound; kind = event-kind; long = rw (event, le-ltb 1 (length s) short); known = rw event }
 
   -- every change is kept, with no bytes
   event-kept : (a : Admitted d l i (text s)) → withChange (keptIn d l) i (text s) ≡ behind d l i (text s) a []
@@ -108,25 +95,9 @@ abbrev pub realBytes : ℕ → List ℕ
 realBytes x = reverse (digits 256 8 x)
 
 module _ (d : Description) (l : Lent) (i x : ℕ) (sound : isBad d l ≡ false) (isReal : d .encoding ≡ Real) where
-  real-kind : isOtherKind (d .encoding) (real x) ≡ false
-  unfolding isOtherKind
-  real-kind = rw isReal
-
-  real-long : isOtherLength (d .encoding) (real x) ≡ false
-  unfolding isOtherLength
-  real-long = rw isReal
-
-  real-known : isForeign (d .encoding) (real x) ≡ false
-  unfolding isForeign
-  real-known = rw isReal
-
-  pub real-six : true ≡ isBelowLast i (d .count) (part (l .indexStart) (d .count) (l .indices)) → refusedWith d l i (real x) 6 ≡ addChange d l i (real x)
-  unfolding keptIn
-  real-six h = six d l i (real x) sound real-kind real-long real-known (sym h)
-
-  pub real-admitted : false ≡ isBelowLast i (d .count) (part (l .indexStart) (d .count) (l .indices)) → Admitted d l i (real x)
-  unfolding keptIn
-  real-admitted h = record { sound = sound; kind = real-kind; long = real-long; known = real-known; rises = sym h }
+  pub real-suited : Suited d l (real x)
+  unfolding isOtherKind isOtherLength isForeign
+  real-suited = record { sound = sound; kind = rw isReal; long = rw isReal; known = rw isReal }
 
   pub real-room : l .byteStart + d .count * 8 ≤ length (l .bytes)
   real-room =

@@ -1,7 +1,7 @@
 -- What Add a change leaves of a string for a bit vector.
 -- Assumes nothing.
 use mathlib.Core.Path.{_≡_, refl, sym, ap, _∙_}
-use mathlib.Core.Bool.{Bool, true, false, cond, not}
+use mathlib.Core.Bool.{Bool, true, false, cond}
 use mathlib.Core.List.{List, [], _∷_, _++_}
 use Prim.Native.Nat.{ℕ, suc, _+_, _*_, _≤_, _<_}
 use native.Mathlib.Nat.{suc-mul, mul-le-mul-right}
@@ -26,11 +26,11 @@ use Rattle.fst.specs.Entry.{entrySize, entryOf, widenAll}
 use Rattle.fst.specs.Writable.{Writable}
 use Rattle.fst.specs.Expand.{Widenable}
 use Rattle.fst.specs.Record.{Lent, Kept, keptIn, widthStands, isBad}
-use Rattle.fst.specs.Change.{text, isOtherKind, isOtherLength, isForeign, isBelowLast, repeats, appended, changed, withChange, addChange}
+use Rattle.fst.specs.Change.{text, isOtherKind, isOtherLength, isForeign, repeats, appended, changed, withChange, addChange}
 use Rattle.fst.specs.Adding.{Admitted, Levels, Comparable}
 use Rattle.fst.proofs.Sizes.{widen-all-length}
 use Rattle.fst.proofs.Records.{not-bad}
-use Rattle.fst.proofs.Adding.{standing, width-known, width-any, refusedWith, acceptedWith, four, five, six, seven, accepted, indicesKept, stored-same, stored-more}
+use Rattle.fst.proofs.Adding.{standing, width-known, width-any, refusedWith, acceptedWith, Suited, four, five, seven, accepted, indicesKept, stored-same, stored-more}
 
 -- ---- what the least set of a string says
 
@@ -80,23 +80,17 @@ module _ (d : Description) (l : Lent) (i : ℕ) (s : List ℕ) (w : ℕ) (M : St
     unfolding isForeign
     string-five e = five d l i (text s) sound string-kind string-long (rw vector (foreign-told s e))
 
-    module _ (own : States) (least : leastStates s ≡ answer.Least own) where
-      string-known : isForeign (d .encoding) (text s) ≡ false
-      unfolding isForeign
-      string-known = rw vector ((least-told s own least) .0)
+    pub string-suited : (own : States) → leastStates s ≡ answer.Least own → Suited d l (text s)
+    unfolding isForeign
+    string-suited own least = record { sound = sound; kind = string-kind; long = string-long; known = rw vector ((least-told s own least) .0) }
 
-      pub string-six : true ≡ isBelowLast i (d .count) (part (l .indexStart) (d .count) (l .indices)) → refusedWith d l i (text s) 6 ≡ addChange d l i (text s)
-      unfolding keptIn
-      string-six h = six d l i (text s) sound string-kind string-long string-known (sym h)
-
-      pub string-levels : false ≡ isBelowLast i (d .count) (part (l .indexStart) (d .count) (l .indices)) → Levels d l i M own s
-      unfolding keptIn
-      string-levels h =
-          record {
-            admitted = record { sound = sound; kind = string-kind; long = string-long; known = string-known; rises = sym h };
-            vector = vector ∙ ap (λ (k : ℕ). BitVector k M) (sym long);
-            least = (least-told s own least) .1;
-          }
+    pub string-levels : (own : States) → leastStates s ≡ answer.Least own → Admitted d l i (text s) → Levels d l i M own s
+    string-levels own least a =
+        record {
+          admitted = a;
+          vector = vector ∙ ap (λ (k : ℕ). BitVector k M) (sym long);
+          least = (least-told s own least) .1;
+        }
 
 -- ---- a string's levels, for a record of w levels under M, which J joins with the string's own set
 

@@ -1,12 +1,12 @@
 -- The last of entries laid out anew is the last one laid out anew, so that a repeat is told before anything is stored.
 -- Assumes nothing.
 use mathlib.Core.Path.{_≡_, refl, sym, ap, _∙_}
-use mathlib.Core.Bool.{Bool, false}
+use mathlib.Core.Bool.{false}
 use mathlib.Core.List.{List, [], _∷_, _++_, append-nil}
 use Prim.Native.Nat.{ℕ, zero, suc, _+_, _-_, _*_, _≤_, _<_, zero-le}
-use native.Mathlib.Nat.{zero-mul, one-mul, suc-mul, add-comm, add-assoc}
+use native.Mathlib.Nat.{zero-mul, one-mul, suc-mul, add-comm}
 use native.Mathlib.Omega.{arith}
-use lib.ListN.{length, take, drop, length-append, length-drop, take-append-drop}
+use lib.ListN.{length, take, drop, length-drop}
 use lib.Seq.{take-at, drop-append-add, drop-drop, take-take, length-take-le}
 use Rattle.value.specs.declared.States.{States}
 use Rattle.value.specs.Slice.{part, overlay, same}
@@ -14,7 +14,7 @@ use Rattle.value.specs.Level.{markOf}
 use Rattle.value.proofs.Slices.{part-length, part-all, part-overlay}
 use Rattle.fst.specs.Entry.{entrySize, widenEntry, widenAll}
 use Rattle.fst.specs.Change.{repeats}
-use Rattle.fst.proofs.Sizes.{widen-length, widen-all-length}
+use Rattle.fst.proofs.Sizes.{widen-length}
 
 -- a part of a part
 pub part-part : (l : List ℕ) (start n at m : ℕ) → at + m ≤ n → part at m (part start n l) ≡ part (start + at) m l

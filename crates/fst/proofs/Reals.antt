@@ -1,15 +1,14 @@
 -- A real's bytes, the lowest first: one byte more, and the byte at a place.
 -- Assumes nothing.
-use mathlib.Core.Path.{_≡_, refl, sym, ap, _∙_}
+use mathlib.Core.Path.{_≡_, sym, ap, _∙_}
 use mathlib.Core.List.{List, [], _∷_, _++_, reverse, reverse-cons}
-use Prim.Native.Nat.{ℕ, zero, suc, _+_, _*_, _^_, _/_, _%_, _≤_, _<_}
+use Prim.Native.Nat.{ℕ, zero, suc, _+_, _^_, _/_, _%_, _<_}
 use native.Mathlib.Nat.{div-div-eq-div-mul, pow-suc}
 use native.Mathlib.Numerals.{add-one}
 use native.Mathlib.Omega.{arith}
 use lib.ListN.{length, getD, length-reverse, List·getD-append}
 use lib.Seq.{getD-at}
 use Rattle.value.specs.Digits.{digits}
-use Rattle.value.specs.Slice.{part, same}
 use Rattle.value.proofs.Tests.{by-eq}
 use Rattle.value.proofs.Digits.{digits-length}
 

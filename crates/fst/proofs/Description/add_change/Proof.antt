@@ -1,14 +1,10 @@
 -- `fst::Description::add_change` meets its contract.
 -- Assumes nothing.
-use mathlib.Core.Path.{_≡_, refl, sym, ap, _∙_}
-use mathlib.Core.List.{List}
-use Prim.Native.Nat.{ℕ, _+_, _*_, _≤_, _<_}
-use native.Mathlib.Omega.{arith}
+use mathlib.Core.Path.{sym, ap, _∙_}
 use denote.Ref.{now}
-use lib.ListN.{length, set}
 use Rattle.fst.specs.declared.Added.{Added}
-use Rattle.fst.specs.Record.{Lent, isBad}
-use Rattle.fst.specs.Change.{leftBy, text, real}
+use Rattle.fst.specs.Record.{Lent}
+use Rattle.fst.specs.Change.{leftBy, text}
 use Rattle.fst.proofs.Adding.{two}
 use Rattle.fst.proofs.AddingPlain.{real-three}
 use borrow.Author.Needs.{needs}

@@ -1,18 +1,17 @@
 -- `fst::Description::add_event` meets its contract.
 -- Assumes nothing.
 use mathlib.Core.Bool.{false}
-use mathlib.Core.Path.{_≡_, refl, sym, ap, _∙_}
-use mathlib.Core.List.{List}
-use Prim.Native.Nat.{ℕ, _+_, _*_, _≤_, _<_}
+use mathlib.Core.Path.{_≡_, sym, ap, _∙_}
+use Prim.Native.Nat.{_+_, _<_}
 use native.Mathlib.Omega.{arith}
 use denote.Ref.{now}
 use lib.ListN.{length, set}
 use Rattle.fst.specs.declared.Added.{Added}
 use Rattle.fst.specs.Record.{Lent, isBad}
-use Rattle.fst.specs.Change.{leftBy, text, real}
+use Rattle.fst.specs.Change.{leftBy, text}
 use Rattle.fst.specs.Adding.{Admitted}
-use Rattle.fst.proofs.Adding.{standing}
-use Rattle.fst.proofs.AddingPlain.{oneMore, event-four, event-six, event-admitted, event-full, event-more}
+use Rattle.fst.proofs.Adding.{Suited, standing, six, admits}
+use Rattle.fst.proofs.AddingPlain.{oneMore, event-four, event-suited, event-full, event-more}
 use borrow.Author.Needs.{needs}
 use Rattle.fst.proofs.Description.add_event.Statement.{statement}
 use Rattle.fst.proofs.Description.add_event.Tie as tie
@@ -26,11 +25,11 @@ module _ (b : tie.After-is-below-last) where
   abbrev start : tie.Start
   start = b .before .before .before .before .before .before
 
-  short : length (now (start .args .value)) ≤ 1
-  short = b .before .before .if1 .left
+  suited : Suited (start .args .self) (lent start) (text (now (start .args .value)))
+  suited = event-suited (start .args .self) (lent start) (start .args .index) (now (start .args .value)) (start .pre .0) (start .pre .1) (b .before .before .if1 .left)
 
-  admits : b .is-below-last .result ≡ false → Admitted (start .args .self) (lent start) (start .args .index) (text (now (start .args .value)))
-  admits h = event-admitted (start .args .self) (lent start) (start .args .index) (now (start .args .value)) (start .pre .0) (start .pre .1) short (sym h ∙ b .is-below-last .ensures)
+  passes : b .is-below-last .result ≡ false → Admitted (start .args .self) (lent start) (start .args .index) (text (now (start .args .value)))
+  passes h = admits (start .args .self) (lent start) (start .args .index) (text (now (start .args .value))) suited (sym h ∙ b .is-below-last .ensures)
 
 -- and once the room is
 module _ (z : tie.After-is-bad) where
@@ -68,7 +67,7 @@ returns-2 c =
     let b = c .before .before in
     let x = start b in
     ap (λ (r : Added). leftBy r ((lent x) .bytes) ((lent x) .indices)) (c .refused2 .ensures)
-    ∙ event-six (x .args .self) (lent x) (x .args .index) (now (x .args .value)) (x .pre .0) (x .pre .1) (short b) (sym (c .before .if2 .taken) ∙ b .is-below-last .ensures)
+    ∙ six (x .args .self) (lent x) (x .args .index) (text (now (x .args .value))) (suited b) (sym (c .before .if2 .taken) ∙ b .is-below-last .ensures)
 
 add-self : tie.Need-add-self
 add-self c =
@@ -90,7 +89,7 @@ returns-3 c =
     let z = c .before .before in
     let x = start (told z) in
     ap (λ (r : Added). leftBy r ((lent x) .bytes) ((lent x) .indices)) (c .refused3 .ensures)
-    ∙ event-full (x .args .self) (lent x) (x .args .index) (now (x .args .value)) (x .pre .0) (x .pre .1) (admits (told z) (z .before .before .before .if2 .left)) (sym (z .is-bad .ensures) ∙ c .before .if3 .taken)
+    ∙ event-full (x .args .self) (lent x) (x .args .index) (now (x .args .value)) (x .pre .0) (x .pre .1) (passes (told z) (z .before .before .before .if2 .left)) (sym (z .is-bad .ensures) ∙ c .before .if3 .taken)
 
 cast-indices : tie.Need-cast-indices
 cast-indices c = search needs
@@ -115,7 +114,7 @@ returns-4 c =
     let z = c .before .before .before in
     let x = start (told z) in
     ap (λ (r : Added). leftBy r ((lent x) .bytes) (set (now (x .args .indices)) (x .args .index-start + x .args .self .count) (x .args .index))) (c .accepted .ensures)
-    ∙ event-more (x .args .self) (lent x) (x .args .index) (now (x .args .value)) (x .pre .0) (x .pre .1) (admits (told z) (z .before .before .before .if2 .left)) (roomy z (c .before .before .if3 .left))
+    ∙ event-more (x .args .self) (lent x) (x .args .index) (now (x .args .value)) (x .pre .0) (x .pre .1) (passes (told z) (z .before .before .before .if2 .left)) (roomy z (c .before .before .if3 .left))
 
 pub add-event-spec : {M : Type 1} → statement M
 add-event-spec =

@@ -17,8 +17,8 @@ use Rattle.fst.specs.declared.Encoding.{Encoding}
 use Rattle.fst.specs.declared.Encoding.the-variants.{Event, Real, BitVector}
 use Rattle.fst.specs.Adding.{Admitted}
 use Rattle.fst.proofs.Encoding.{the-type}
-use Rattle.fst.proofs.Adding.{standing, two, three}
-use Rattle.fst.proofs.AddingPlain.{oneMore, real-six, real-admitted, real-room, real-stays, real-full, real-more, real-roomier}
+use Rattle.fst.proofs.Adding.{Suited, standing, two, three, six, admits}
+use Rattle.fst.proofs.AddingPlain.{oneMore, real-suited, real-room, real-stays, real-full, real-more, real-roomier}
 use borrow.Author.Needs.{needs}
 use Rattle.fst.proofs.Description.add_real.Statement.{statement}
 use Rattle.fst.proofs.Description.add_real.Tie as tie
@@ -49,8 +49,11 @@ module _ (b : tie.After-is-below-last) where
   isReal : start .args .self .encoding ≡ Real
   isReal = b .before .before .enum-told .given .1
 
-  admits : b .is-below-last .result ≡ false → Admitted (start .args .self) (lent start) (start .args .index) (real (start .args .bits))
-  admits h = real-admitted (start .args .self) (lent start) (start .args .index) (start .args .bits) sound isReal (sym h ∙ b .is-below-last .ensures)
+  suited : Suited (start .args .self) (lent start) (real (start .args .bits))
+  suited = real-suited (start .args .self) (lent start) (start .args .index) (start .args .bits) sound isReal
+
+  passes : b .is-below-last .result ≡ false → Admitted (start .args .self) (lent start) (start .args .index) (real (start .args .bits))
+  passes h = admits (start .args .self) (lent start) (start .args .index) (real (start .args .bits)) suited (sym h ∙ b .is-below-last .ensures)
 
 -- and once the room is
 module _ (z : tie.After-is-bad2) where
@@ -65,7 +68,7 @@ module _ (z : tie.After-is-bad2) where
       × (start known .args .index-start + start known .args .self .count < length (now (start known .args .indices)))
   places h =
       let x = start known in
-      real-roomier (x .args .self) (lent x) (x .args .index) (x .args .bits) (sound known) (isReal known) (admits known (z .before .before .before .before .before .before .before .if2 .left)) (roomy h)
+      real-roomier (x .args .self) (lent x) (x .args .index) (x .args .bits) (sound known) (isReal known) (passes known (z .before .before .before .before .before .before .before .if2 .left)) (roomy h)
 
 is-bad-requires : tie.Need-is-bad-requires
 is-bad-requires c κs = search needs
@@ -122,7 +125,7 @@ returns-3 c =
     let b = c .before .before in
     let x = start b in
     ap (λ (r : Added). leftBy r ((lent x) .bytes) ((lent x) .indices)) (c .refused3 .ensures)
-    ∙ real-six (x .args .self) (lent x) (x .args .index) (x .args .bits) (sound b) (isReal b) (sym (c .before .if2 .taken) ∙ b .is-below-last .ensures)
+    ∙ six (x .args .self) (lent x) (x .args .index) (real (x .args .bits)) (suited b) (sym (c .before .if2 .taken) ∙ b .is-below-last .ensures)
 
 repeats-real-requires : tie.Need-repeats-real-requires
 repeats-real-requires c κs =
@@ -144,7 +147,7 @@ returns-4 c =
     let b = c .before .before .before .before .before in
     let x = start b in
     ap (λ (r : Added). leftBy r ((lent x) .bytes) ((lent x) .indices)) (c .accepted .ensures)
-    ∙ real-stays (x .args .self) (lent x) (x .args .index) (x .args .bits) (sound b) (isReal b) (admits b (c .before .before .before .before .if2 .left)) (sym (c .before .if3 .taken) ∙ c .before .before .repeats-real .ensures)
+    ∙ real-stays (x .args .self) (lent x) (x .args .index) (x .args .bits) (sound b) (isReal b) (passes b (c .before .before .before .before .if2 .left)) (sym (c .before .if3 .taken) ∙ c .before .before .repeats-real .ensures)
 
 add-self : tie.Need-add-self
 add-self c =
@@ -171,7 +174,7 @@ returns-5 c =
     let b = known z in
     let x = start b in
     ap (λ (r : Added). leftBy r ((lent x) .bytes) ((lent x) .indices)) (c .refused4 .ensures)
-    ∙ real-full (x .args .self) (lent x) (x .args .index) (x .args .bits) (sound b) (isReal b) (admits b (z .before .before .before .before .before .before .before .if2 .left)) (sym (z .before .before .before .before .if3 .left) ∙ z .before .before .before .before .before .repeats-real .ensures) (sym (z .is-bad2 .ensures) ∙ c .before .if4 .taken)
+    ∙ real-full (x .args .self) (lent x) (x .args .index) (x .args .bits) (sound b) (isReal b) (passes b (z .before .before .before .before .before .before .before .if2 .left)) (sym (z .before .before .before .before .if3 .left) ∙ z .before .before .before .before .before .repeats-real .ensures) (sym (z .is-bad2 .ensures) ∙ c .before .if4 .taken)
 
 cast-entries : tie.Need-cast-entries
 cast-entries c = search needs
@@ -209,7 +212,7 @@ returns-6 c =
     let b = known z in
     let x = start b in
     ap₂ (λ (r : Added) (l : List ℕ). leftBy r l (set (now (x .args .indices)) (x .args .index-start + x .args .self .count) (x .args .index))) (c .accepted2 .ensures) (c .before .before .before .write-real .ensures)
-    ∙ real-more (x .args .self) (lent x) (x .args .index) (x .args .bits) (sound b) (isReal b) (admits b (z .before .before .before .before .before .before .before .if2 .left)) (sym (z .before .before .before .before .if3 .left) ∙ z .before .before .before .before .before .repeats-real .ensures) (roomy z (c .before .before .before .before .before .if4 .left))
+    ∙ real-more (x .args .self) (lent x) (x .args .index) (x .args .bits) (sound b) (isReal b) (passes b (z .before .before .before .before .before .before .before .if2 .left)) (sym (z .before .before .before .before .if3 .left) ∙ z .before .before .before .before .before .repeats-real .ensures) (roomy z (c .before .before .before .before .before .if4 .left))
 
 pub add-real-spec : {M : Type 1} → statement M
 add-real-spec =

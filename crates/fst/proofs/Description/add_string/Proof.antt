@@ -1,18 +1,15 @@
 -- `fst::Description::add_string` meets its contract.
 -- Assumes nothing.
-use mathlib.Core.Path.{_≡_, refl, sym, ap, _∙_}
-use mathlib.Core.List.{List}
-use Prim.Native.Nat.{ℕ, _+_, _*_, _≤_, _<_}
-use native.Mathlib.Omega.{arith}
+use mathlib.Core.Path.{_≡_, sym, ap, _∙_}
 use denote.Ref.{now}
-use lib.ListN.{length, set}
+use lib.ListN.{length}
 use Rattle.fst.specs.declared.Added.{Added}
-use Rattle.fst.specs.Record.{Lent, isBad}
-use Rattle.fst.specs.Change.{leftBy, text, real}
+use Rattle.fst.specs.Record.{Lent}
+use Rattle.fst.specs.Change.{leftBy, text}
 use Rattle.value.specs.declared.StatesAnswer.the-variants as answer
 use Rattle.value.specs.Answer.{leastStates}
-use Rattle.fst.proofs.Adding.{standing}
-use Rattle.fst.proofs.AddingStrings.{string-four, string-five, string-six, string-levels}
+use Rattle.fst.proofs.Adding.{Suited, standing, six, admits}
+use Rattle.fst.proofs.AddingStrings.{string-four, string-five, string-suited, string-levels}
 use borrow.Author.Needs.{needs}
 use Rattle.fst.proofs.Description.add_string.Statement.{statement}
 use Rattle.fst.proofs.Description.add_string.Tie as tie
@@ -31,6 +28,9 @@ module _ (b : tie.After-is-below-last) where
 
   least : leastStates (now (start .args .value)) ≡ answer.Least (b .before .before .before .states .given .0 .0)
   least = sym (b .before .before .before .before .before .from-ascii .ensures) ∙ b .before .before .before .states .given .1
+
+  suited : Suited (start .args .self) (lent start) (text (now (start .args .value)))
+  suited = string-suited (start .args .self) (lent start) (start .args .index) (now (start .args .value)) (start .args .width) (start .args .max-states) (start .pre .0) (start .pre .1) long _ least
 
 refused-requires : tie.Need-refused-requires
 refused-requires c κs = search needs
@@ -75,13 +75,14 @@ returns-3 c =
     let b = c .before .before in
     let x = start b in
     ap (λ (r : Added). leftBy r ((lent x) .bytes) ((lent x) .indices)) (c .refused3 .ensures)
-    ∙ string-six (x .args .self) (lent x) (x .args .index) (now (x .args .value)) (x .args .width) (x .args .max-states) (x .pre .0) (x .pre .1) (long b) _ (least b) (sym (c .before .if2 .taken) ∙ b .is-below-last .ensures)
+    ∙ six (x .args .self) (lent x) (x .args .index) (text (now (x .args .value))) (suited b) (sym (c .before .if2 .taken) ∙ b .is-below-last .ensures)
 
 add-levels-requires : tie.Need-add-levels-requires
 add-levels-requires c κs =
     let b = c .before .before .before in
     let x = start b in
-    string-levels (x .args .self) (lent x) (x .args .index) (now (x .args .value)) (x .args .width) (x .args .max-states) (x .pre .0) (x .pre .1) (long b) _ (least b) (sym (c .before .before .if2 .left) ∙ b .is-below-last .ensures)
+    string-levels (x .args .self) (lent x) (x .args .index) (now (x .args .value)) (x .args .width) (x .args .max-states) (x .pre .0) (x .pre .1) (long b) _ (least b)
+    (admits (x .args .self) (lent x) (x .args .index) (text (now (x .args .value))) (suited b) (sym (c .before .before .if2 .left) ∙ b .is-below-last .ensures))
 
 same-length-2 : tie.Need-same-length-2
 same-length-2 c = search needs

@@ -5,14 +5,14 @@ use native.Mathlib.Nat.{div-one}
 use lib.Bits.{bitAnd, and-mask}
 use Rattle.value.proofs.Slices.{part-nil, part-at}
 use Rattle.wavemem.proofs.Compare.{same-is, same-not, part-more}
-use mathlib.Core.Path.{_≡_, refl, sym, ap, ap₂, _∙_}
+use mathlib.Core.Path.{_≡_, sym, ap, ap₂, _∙_}
 use mathlib.Core.List.{List, [], _∷_, _++_}
 use Prim.Native.Nat.{ℕ, _-_, _+_, _^_, _/_, _%_, _≤_, zero-le}
 use native.Mathlib.Omega.{arith}
 use denote.Ref.{now}
-use lib.ListN.{length, getD, set, length-set}
-use Rattle.value.specs.Slice.{part, overlay}
-use Rattle.fst.proofs.Reals.{lowest, lowest-length, lowest-more, lowest-at, rest-more}
+use lib.ListN.{getD}
+use Rattle.value.specs.Slice.{part}
+use Rattle.fst.proofs.Reals.{lowest, lowest-more, lowest-at, rest-more}
 use Rattle.fst.proofs.real.real_equals.Statement.{statement}
 use Rattle.fst.proofs.real.real_equals.Tie as tie
 

@@ -5,12 +5,12 @@ use native.Mathlib.Nat.{div-one}
 use lib.Bits.{bitAnd, and-mask}
 use Rattle.value.proofs.Slices.{overlay-nil, overlay-store}
 use mathlib.Core.Path.{_≡_, refl, sym, ap, ap₂, _∙_}
-use mathlib.Core.List.{List, [], _∷_, _++_}
+use mathlib.Core.List.{List}
 use Prim.Native.Nat.{ℕ, _-_, _+_, _^_, _/_, _%_, _≤_, zero-le}
 use native.Mathlib.Omega.{arith}
 use denote.Ref.{now}
-use lib.ListN.{length, getD, set, length-set}
-use Rattle.value.specs.Slice.{part, overlay}
+use lib.ListN.{length, set, length-set}
+use Rattle.value.specs.Slice.{overlay}
 use Rattle.fst.proofs.Reals.{lowest, lowest-length, lowest-more, rest-more}
 use Rattle.fst.proofs.real.write_real.Statement.{statement}
 use Rattle.fst.proofs.real.write_real.Tie as tie
