@@ -1,20 +1,21 @@
 -- Fresh, and the room that entries need, from facts on numbers.
 -- Assumes nothing.
 use mathlib.Core.Path.{_≡_, refl, sym, ap, _∙_}
-use mathlib.Core.Bool.{Bool, true, false, not, cond, _&&_, and-false}
+use mathlib.Core.Bool.{Bool, true, false, not, cond, _&&_, _||_, and-false}
+use mathlib.Core.List.{List}
 use Prim.Native.Nat.{ℕ, zero, suc, _+_, _-_, _*_, _/_, _%_, _≤_, _<_}
 use native.Mathlib.Omega.{arith}
-use lib.Dec.{leb, eqb}
+use lib.Dec.{T, leb, ltb, eqb, leb→le}
 use lib.ListN.{length}
-use borrow.Author.Tests.{le-leb, lt-leb, lt-ltb, le-ltb}
+use borrow.Author.Tests.{le-leb, lt-leb, lt-ltb, le-ltb, not-false}
 use Rattle.value.specs.declared.States.{States}
 use Rattle.value.specs.declared.States.the-variants.{Two, Four, Nine}
-use Rattle.value.proofs.Tests.{by-le}
+use Rattle.value.proofs.Tests.{by-le, to-T, from-T, and-left, and-right}
 use Rattle.fst.specs.declared.Encoding.the-variants.{Event, BitVector}
 use Rattle.fst.specs.declared.Description.{Description}
 use Rattle.fst.specs.Refusal.{Reply, refused, given, tried}
 use Rattle.fst.specs.Entry.{entrySize}
-use Rattle.fst.specs.Record.{Lent, maximum, sizeOf, widthStands, fitsBytes, fits, isBad, empty, encodingFor, fresh}
+use Rattle.fst.specs.Record.{Lent, maximum, sizeOf, usedSize, widthStands, fitsBytes, fits, isBadBytes, isBad, empty, encodingFor, fresh}
 
 -- ---- Fresh
 
@@ -36,32 +37,35 @@ fresh-event (suc w) e = absurd (omega arith)
 
 -- ---- room
 
-module _ (count size bytes at indices from : ℕ) where
-  abbrev pub room : Bool
-  room = (leb count maximum && leb (at + count * size) bytes) && leb (from + count) indices
+module _ (count size bytes at : ℕ) where
+  abbrev room : Bool
+  room = leb count maximum && leb (at + count * size) bytes
 
   pub many : maximum < count → false ≡ room
   many h = rw (lt-leb count maximum h)
 
-  pub past-bytes : bytes < at + count * size → false ≡ room
-  past-bytes h = rw (lt-leb (at + count * size) bytes h, and-false (leb count maximum))
+  pub past-bytes : bytes < at → false ≡ room
+  past-bytes h = rw (lt-leb (at + count * size) bytes (omega arith), and-false (leb count maximum))
 
-  pub past-indices : indices < from + count → false ≡ room
-  past-indices h = rw (lt-leb (from + count) indices h, and-false (leb count maximum && leb (at + count * size) bytes))
+  pub roomy : count ≤ maximum → at ≤ bytes → leb (count * size) (bytes - at) ≡ room
+  roomy a b =
+      rw (le-leb count maximum a)
+      (by-le (at + count * size) bytes
+      (λ h. rw (le-leb (at + count * size) bytes h, le-leb (count * size) (bytes - at) (omega arith)))
+      (λ h. rw (lt-leb (at + count * size) bytes h, lt-leb (count * size) (bytes - at) (omega arith))))
 
-  pub roomy : count ≤ maximum → at + count * size ≤ bytes → from ≤ indices → leb count (indices - from) ≡ room
-  roomy a b e =
-      rw (le-leb count maximum a, le-leb (at + count * size) bytes b)
-      (by-le (from + count) indices
-      (λ h. rw (le-leb (from + count) indices h, le-leb count (indices - from) (omega arith)))
-      (λ h. rw (lt-leb (from + count) indices h, lt-leb count (indices - from) (omega arith))))
+-- ---- number 2, of the bytes
 
--- ---- number 2
+-- what holds where it isn't 2
+pub record Stands (d : Description) (start : ℕ) (bytes : List ℕ) : Type 0 where
+  pub width : widthStands (d .encoding) ≡ true
+  pub count : d .count ≤ maximum
+  pub room : start + usedSize d ≤ length bytes
 
-module _ (d : Description) (l : Lent) where
+module _ (d : Description) (start : ℕ) (bytes : List ℕ) where
   -- outside 1 to 4,096
-  pub bad-width : (w : ℕ) (M : States) → d .encoding ≡ BitVector w M → (1 ≤ w → w ≤ 4096 → ⊥) → true ≡ isBad d l
-  unfolding isBad widthStands
+  pub bad-width : (w : ℕ) (M : States) → d .encoding ≡ BitVector w M → (1 ≤ w → w ≤ 4096 → ⊥) → true ≡ isBadBytes d start bytes
+  unfolding isBadBytes widthStands
   bad-width w M e h =
       rw e
       (by-le 1 w
@@ -70,9 +74,55 @@ module _ (d : Description) (l : Lent) where
 
   -- a width that stands, or none, and no room
   pub bad-room : (size : ℕ) (r : Bool) → sizeOf (d .encoding) ≡ size → widthStands (d .encoding) ≡ true
-      → r ≡ room (d .count) size (length (l .bytes)) (l .byteStart) (length (l .indices)) (l .indexStart) → not r ≡ isBad d l
-  unfolding isBad fits fitsBytes
+      → r ≡ room (d .count) size (length bytes) start → not r ≡ isBadBytes d start bytes
+  unfolding isBadBytes fitsBytes
   bad-room size r e w h = rw (w, e, h)
+
+  pub stands : isBadBytes d start bytes ≡ false → Stands d start bytes
+  unfolding isBadBytes fitsBytes
+  stands h =
+      let w = widthStands (d .encoding) in
+      let x = leb (d .count) maximum in
+      let y = leb (start + usedSize d) (length bytes) in
+      let t : T (w && (x && y)) = to-T (w && (x && y)) (not-false (w && (x && y)) h) in
+      let u : T (x && y) = and-right w (x && y) t in
+      record {
+        width = from-T w (and-left w (x && y) t);
+        count = leb→le (d .count) maximum (and-left x y u);
+        room = leb→le (start + usedSize d) (length bytes) (and-right x y u);
+      }
+
+-- ---- number 2, of both slices
+
+module _ (d : Description) (l : Lent) where
+  -- the width, the bytes and the indices
+  bad-by : isBad d l ≡ (isBadBytes d (l .byteStart) (l .bytes) || not (leb (l .indexStart + d .count) (length (l .indices))))
+  unfolding isBad fits isBadBytes
+  bad-by =
+      go (widthStands (d .encoding)) (fitsBytes d (l .byteStart) (l .bytes)) (leb (l .indexStart + d .count) (length (l .indices)))
+    where
+      go : (a b c : Bool) → not (a && (b && c)) ≡ not (a && b) || not c
+      go true true c = refl
+      go true false c = refl
+      go false b c = refl
+
+  pub bad-bytes : isBadBytes d (l .byteStart) (l .bytes) ≡ true → true ≡ isBad d l
+  bad-bytes h = sym (bad-by ∙ ap (λ (b : Bool). b || not (leb (l .indexStart + d .count) (length (l .indices)))) h)
+
+  module _ (h : isBadBytes d (l .byteStart) (l .bytes) ≡ false) where
+    by-indices : isBad d l ≡ not (leb (l .indexStart + d .count) (length (l .indices)))
+    by-indices = bad-by ∙ ap (λ (b : Bool). b || not (leb (l .indexStart + d .count) (length (l .indices)))) h
+
+    pub past-indices : length (l .indices) < l .indexStart → true ≡ isBad d l
+    past-indices k = sym (by-indices ∙ ap not (lt-leb (l .indexStart + d .count) (length (l .indices)) (omega arith)))
+
+    pub few-indices : l .indexStart ≤ length (l .indices) → ltb (length (l .indices) - l .indexStart) (d .count) ≡ isBad d l
+    few-indices k =
+        by-le (l .indexStart + d .count) (length (l .indices))
+        (λ a. le-ltb (length (l .indices) - l .indexStart) (d .count) (omega arith)
+        ∙ sym (by-indices ∙ ap not (le-leb (l .indexStart + d .count) (length (l .indices)) a)))
+        (λ a. lt-ltb (length (l .indices) - l .indexStart) (d .count) (omega arith)
+        ∙ sym (by-indices ∙ ap not (lt-leb (l .indexStart + d .count) (length (l .indices)) a)))
 
 pub width-stands : (w : ℕ) (M : States) → 1 ≤ w → w ≤ 4096 → widthStands (BitVector w M) ≡ true
 unfolding widthStands

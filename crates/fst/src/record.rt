@@ -1,11 +1,10 @@
 // Fresh records, and what a description asks of the slices that it is lent with.
 ghost use mathlib.Core.Path.{_≡_};
-ghost use mathlib.Core.Bool.{_&&_, not};
+ghost use mathlib.Core.Bool.{_&&_};
 ghost use Prim.Native.Nat.{_+_, _*_, _≤_};
 ghost use lib.Dec.{leb};
-ghost use lib.ListN.{length};
 ghost use Rattle.fst.specs.Refusal.{madeOf};
-ghost use Rattle.fst.specs.Record.{maximum, sizeOf, widthStands, fits, isBad, fresh, freshReal};
+ghost use Rattle.fst.specs.Record.{maximum, isBadBytes, isBad, fresh, freshReal};
 use crate::Description;
 use crate::Encoding;
 use crate::Made;
@@ -47,35 +46,43 @@ pub fn fresh_real() -> Description
     }
 }
 
-// Whether `count` entries of `size` bytes stand within the maximum and, from their starts, within slices of these lengths.
-pub fn has_room(
-    count: u32,
-    size: usize,
-    bytes: usize,
-    byte_start: usize,
-    indices: usize,
-    index_start: usize,
-) -> bool
+// Whether `count` entries of `size` bytes stand within the maximum and, from a start, within so many bytes.
+fn has_room(count: u32, size: usize, bytes: usize, byte_start: usize) -> bool
     requires { ⌜ size ≤ 4096 ⌝ }
-    ensures { λ r. ⌜ r ≡ (leb count maximum && leb («byte_start» + count * size) bytes) && leb («index_start» + count) indices ⌝ }
+    ensures { λ r. ⌜ r ≡ leb count maximum && leb («byte_start» + count * size) bytes ⌝ }
 {
     if MAXIMUM < count {
         return false;
     }
-    let n = count as usize;
     if bytes < byte_start {
         return false;
     }
-    if bytes - byte_start < n * size {
-        return false;
-    }
-    if indices < index_start {
-        return false;
-    }
-    n <= indices - index_start
+    count as usize * size <= bytes - byte_start
 }
 
-// Number 2: whether a description asks for more than it is lent, or for what no record has.
+// Number 2 of the calls that are lent no indices: whether a description asks for more bytes than it is lent, or for what no record has.
+pub fn is_bad_bytes(description: Description, bytes: &[u8], byte_start: usize) -> bool
+    ensures { λ r. ⌜ r ≡ isBadBytes description «byte_start» (now (bytes .entry)) ⌝ }
+{
+    let count = description.count;
+    let encoding = description.encoding;
+    match encoding {
+        Encoding::Event => !has_room(count, 0, bytes.len(), byte_start),
+        Encoding::Real => !has_room(count, 8, bytes.len(), byte_start),
+        Encoding::BitVector { width, max_states } => {
+            if width < 1 {
+                return true;
+            }
+            if MAX_WIDTH < width {
+                return true;
+            }
+            let size = entry_size(max_states, width);
+            !has_room(count, size, bytes.len(), byte_start)
+        }
+    }
+}
+
+// Number 2: the same, or more indices than are lent.
 pub fn is_bad(
     description: Description,
     bytes: &[u8],
@@ -85,41 +92,11 @@ pub fn is_bad(
 ) -> bool
     ensures { λ r. ⌜ r ≡ isBad description (record { bytes = now (bytes .entry); byteStart = «byte_start»; indices = now (indices .entry); indexStart = «index_start» }) ⌝ }
 {
-    let count = description.count;
-    let encoding = description.encoding;
-    match encoding {
-        Encoding::Event => !has_room(
-            count,
-            0,
-            bytes.len(),
-            byte_start,
-            indices.len(),
-            index_start,
-        ),
-        Encoding::Real => !has_room(
-            count,
-            8,
-            bytes.len(),
-            byte_start,
-            indices.len(),
-            index_start,
-        ),
-        Encoding::BitVector { width, max_states } => {
-            if width < 1 {
-                return true;
-            }
-            if MAX_WIDTH < width {
-                return true;
-            }
-            let size = entry_size(max_states, width);
-            !has_room(
-                count,
-                size,
-                bytes.len(),
-                byte_start,
-                indices.len(),
-                index_start,
-            )
-        }
+    if is_bad_bytes(description, bytes, byte_start) {
+        return true;
     }
+    if indices.len() < index_start {
+        return true;
+    }
+    indices.len() - index_start < description.count as usize
 }

@@ -2,7 +2,10 @@
 use fst::Refusal;
 use value::States;
 
+pub mod compare;
+pub mod decode;
 pub mod offset;
+pub mod read;
 
 pub enum Kind {
     Event,
@@ -14,6 +17,12 @@ pub enum Kind {
 pub enum EntryAnswer {
     Entry { kind: Kind, states: States },
     Refused(Refusal),
+}
+
+// An entry's own set, unless its mark is 3 or above the largest set's.
+pub enum OwnStates {
+    Own(States),
+    Bad,
 }
 
 // The answer of Compare.

@@ -1,100 +1,49 @@
 -- `fst::record::is_bad` meets its contract.
 -- Assumes nothing.
-use mathlib.Core.Path.{_≡_, sym, ap, _∙_}
-use native.Mathlib.Omega.{arith}
+use mathlib.Core.Path.{_≡_, sym, _∙_}
 use denote.Ref.{now}
-use Rattle.fst.specs.Record.{Lent, sizeOf, widthStands}
-use Rattle.fst.proofs.Rooms.{bad-width, bad-room, width-stands, size-small}
+use Rattle.fst.specs.Record.{Lent}
+use Rattle.fst.proofs.Rooms.{bad-bytes, past-indices, few-indices}
 use borrow.Author.Needs.{needs}
 use Rattle.fst.proofs.record.is_bad.Statement.{statement}
 use Rattle.fst.proofs.record.is_bad.Tie as tie
 use Rattle.fst.proofs.record.is_bad.Reads as reads
 use Rattle.fst.proofs.record.is_bad.Lts as lts
-use Rattle.fst.proofs.entry.entry_size.Reads as entry-size-reads
-use Rattle.fst.proofs.record.has_room.Reads as has-room-reads
+use Rattle.fst.proofs.record.is_bad_bytes.Reads as is-bad-bytes-reads
 
--- src/record.rt:94:13
-enum-told : tie.Need-enum-told
-enum-told c = search needs
+-- src/record.rt:95:8
+is-bad-bytes-requires : tie.Need-is-bad-bytes-requires
+is-bad-bytes-requires c κs = search needs
 
--- src/record.rt:91:29
-has-room-requires : tie.Need-has-room-requires
-has-room-requires c κs = search needs
-
--- src/record.rt:102:13
-enum-told-2 : tie.Need-enum-told-2
-enum-told-2 c = search needs
-
--- src/record.rt:99:28
-has-room-requires-2 : tie.Need-has-room-requires-2
-has-room-requires-2 c κs = search needs
-
--- src/record.rt:107:31
-enum-known-encoding : tie.Need-enum-known-encoding
-enum-known-encoding c = search needs
-
--- src/record.rt:109:17
+-- src/record.rt:96:9
 returns : tie.Need-returns
 returns c =
-    let a = c .before .before .before .before .before .before .args in
+    let a = c .before .before .before .before .args in
     let l : Lent = record { bytes = now (a .bytes); byteStart = a .byte-start; indices = now (a .indices); indexStart = a .index-start } in
-    bad-width (a .description) l _ _ (c .before .before .encoding .given .1) (λ h k. omega arith)
+    bad-bytes (a .description) l (sym (c .before .is-bad-bytes .ensures) ∙ c .if1 .taken)
 
--- src/record.rt:112:17
+-- src/record.rt:99:9
 returns-2 : tie.Need-returns-2
 returns-2 c =
-    let a = c .before .before .before .before .before .before .before .args in
+    let a = c .before .before .before .before .before .args in
     let l : Lent = record { bytes = now (a .bytes); byteStart = a .byte-start; indices = now (a .indices); indexStart = a .index-start } in
-    bad-width (a .description) l _ _ (c .before .before .before .encoding .given .1) (λ h k. omega arith)
+    past-indices (a .description) l (sym (c .before .before .is-bad-bytes .ensures) ∙ c .before .if1 .left) (c .if2 .taken)
 
--- src/record.rt:114:17
-entry-size-requires : tie.Need-entry-size-requires
-entry-size-requires c κs = search needs
+-- src/record.rt:101:5
+sub-result : tie.Need-sub-result
+sub-result c = search needs
 
--- src/record.rt:115:14
-has-room-requires-3 : tie.Need-has-room-requires-3
-has-room-requires-3 c κs = let s = size-small _ (c .before .before .before .before .encoding .given .0 .1 .0) (c .before .if2 .left) in omega (arith, c .entry-size .ensures)
+-- src/record.rt:101:35
+cast-result : tie.Need-cast-result
+cast-result c = search needs
 
--- src/record.rt:79:1
+-- src/record.rt:86:1
 returns-3 : tie.Need-returns-3
-unfolding widthStands
 returns-3 c =
-    let a = c .before .before .before .before .before .args in
+    let a = c .before .before .before .before .before .before .args in
     let l : Lent = record { bytes = now (a .bytes); byteStart = a .byte-start; indices = now (a .indices); indexStart = a .index-start } in
-    let e = c .before .enum-told .given .1 in
-    bad-room (a .description) l 0 (c .has-room .result) (ap sizeOf e) (ap widthStands e) (c .has-room .ensures)
-
--- src/record.rt:79:1
-returns-4 : tie.Need-returns-4
-unfolding widthStands
-returns-4 c =
-    let a = c .before .before .before .before .before .args in
-    let l : Lent = record { bytes = now (a .bytes); byteStart = a .byte-start; indices = now (a .indices); indexStart = a .index-start } in
-    let e = c .before .enum-told2 .given .1 in
-    bad-room (a .description) l 8 (c .has-room2 .result) (ap sizeOf e) (ap widthStands e) (c .has-room2 .ensures)
-
--- src/record.rt:79:1
-returns-5 : tie.Need-returns-5
-returns-5 c =
-    let a = c .before .before .before .before .before .before .before .before .before .args in
-    let l : Lent = record { bytes = now (a .bytes); byteStart = a .byte-start; indices = now (a .indices); indexStart = a .index-start } in
-    let e = c .before .before .before .before .before .encoding .given .1 in
-    bad-room (a .description) l (c .before .entry-size .result) (c .has-room3 .result) (ap sizeOf e ∙ sym (c .before .entry-size .ensures))
-    (ap widthStands e ∙ width-stands _ _ (c .before .before .before .if1 .left) (c .before .before .if2 .left)) (c .has-room3 .ensures)
+    few-indices (a .description) l (sym (c .before .before .before .is-bad-bytes .ensures) ∙ c .before .before .if1 .left) (c .before .if2 .left)
 
 pub is-bad-spec : {M : Type 1} → statement M
 is-bad-spec =
-    tie.close
-    (tie.spec
-    enum-told
-    has-room-requires
-    enum-told-2
-    has-room-requires-2
-    enum-known-encoding
-    returns
-    returns-2
-    entry-size-requires
-    has-room-requires-3
-    returns-3
-    returns-4
-    returns-5)
+    tie.close (tie.spec is-bad-bytes-requires returns returns-2 sub-result cast-result returns-3)

@@ -1,0 +1,383 @@
+-- Comparing entries, from what the steps of a comparison say.
+-- Assumes nothing.
+use mathlib.Core.Path.{_≡_, refl, sym, ap, ap₂, _∙_, subst}
+use mathlib.Core.Bool.{Bool, true, false, cond, _&&_}
+use mathlib.Core.List.{List, [], _∷_, _++_, reverse, reverse-cons}
+use mathlib.Core.Logic.{_⊎_, inl, inr, ⊎-elim}
+use Prim.Native.Nat.{ℕ, zero, suc, _+_, _-_, _*_, _^_, _%_, _≤_, _<_}
+use native.Mathlib.Nat.{suc-mul, pow-suc, pow-le-pow-right, lt-of-lt-of-le, mul-le-mul-right}
+use native.Mathlib.Numerals.{add-one}
+use native.Mathlib.Omega.{arith}
+use denote.Enum.Declared.{tagOf}
+use types.Run.{OneOf}
+use lib.Dec.{T, eqb, ltb}
+use borrow.Author.Tests.{eq-eqb, ne-eqb}
+use lib.Bits.{bitOr, or-shifted}
+use lib.Pow.{shl-exact}
+use lib.ListN.{length, getD, take, drop, length-map, drop-of-length-le}
+use lib.Seq.{take-suc, take-all, drop-cons}
+use Rattle.value.specs.declared.States.{States}
+use Rattle.value.specs.Digits.{number as digitsNumber}
+use Rattle.value.specs.Slice.{part, same, any}
+use Rattle.value.specs.Level.{markOf, lenOf, setAt, letterOf, hasNoCode, textOf}
+use Rattle.value.proofs.Digits.{number-snoc}
+use Rattle.value.proofs.Levels.{mark-inj, text-inj, all-below}
+use Rattle.value.proofs.Slices.{part-length, part-at, same-sound, same-refl, same-by}
+use Rattle.value.proofs.Tests.{to-T, from-T, both-ways}
+use Rattle.fst.specs.declared.Encoding.{Encoding}
+use Rattle.fst.specs.declared.Encoding.the-variants.{Event, Real, BitVector}
+use Rattle.fst.proofs.Encoding.{the-type}
+use Rattle.fst.specs.declared.Description.{Description}
+use Rattle.fst.specs.declared.Refusal.{Refusal}
+use Rattle.fst.specs.declared.Refusal.the-variants as refusal
+use Rattle.fst.specs.Refusal.{Reply, refused, given, Test, _⇐_, tried, number}
+use Rattle.fst.specs.Record.{Lent, maximum, sizeOf, usedSize, keptIn, isBad}
+use Rattle.fst.proofs.Records.{Fits, fits-room, not-bad}
+use Rattle.signal.specs.declared.EqualAnswer.{EqualAnswer}
+use Rattle.signal.specs.declared.EqualAnswer.the-variants as answer
+use Rattle.signal.proofs.EqualAnswer.{the-type as equal-type}
+use Rattle.signal.specs.Compare.{sameValue, agree, walked, compareRecords, equalOf}
+use Rattle.signal.specs.declared.OwnStates.the-variants as own
+use Rattle.signal.specs.Decode.{Indexed, entryAt, entriesFrom, markIn, setIn, levelPart, levelsIn, hasBadMark, hasBadCode, textIn}
+use Rattle.signal.specs.Parts.{ownStates, codesAt, Whole, Inside, badNumber, Sound, pairOf}
+use Rattle.signal.proofs.Decoding.{codes-length}
+use Rattle.signal.proofs.Reading.{Owned, owned, bad-told, entry-within}
+
+-- ---- a real's bits
+
+pub bits-start : (v : List ℕ) → length v ≡ 8 → 0 ≡ digitsNumber 256 (reverse (drop 8 v))
+unfolding digitsNumber
+bits-start v h = ap (λ (l : List ℕ). digitsNumber 256 (reverse l)) (sym (drop-of-length-le v {i = 8} (omega arith)))
+
+-- one byte more, below those that stand there
+pub bits-more : (v : List ℕ) (i bits byte : ℕ) → length v ≡ 8 → i ≤ 8 → 0 < i → bits ≡ digitsNumber 256 (reverse (drop i v)) → bits < 256 ^ (8 - i)
+    → byte ≡ getD v (i - 1) 0 → byte < 256
+    → (bitOr (bits * 2 ^ 8 % 2 ^ 64) byte ≡ digitsNumber 256 (reverse (drop (i - 1) v))) × (bitOr (bits * 2 ^ 8 % 2 ^ 64) byte < 256 ^ (8 - (i - 1)))
+bits-more v i bits byte l a p e b g u = go (i - 1) (omega arith)
+  where
+    small : (n : ℕ) → i ≡ suc n → bits < 2 ^ 56
+    small n q = lt-of-lt-of-le b (pow-le-pow-right {n = 256} (omega arith) {i = 8 - i} {j = 7} (omega arith))
+
+    or : (n : ℕ) → i ≡ suc n → bitOr (bits * 2 ^ 8 % 2 ^ 64) byte ≡ bits * 256 + byte
+    or n q = ap (λ (x : ℕ). bitOr x byte) (shl-exact {a = bits} 56 8 64 (small n q) (omega arith)) ∙ or-shifted bits 8 byte u
+
+    next : (n : ℕ) → i ≡ suc n → 8 - n ≡ suc (8 - i)
+    next n q = omega arith
+
+    go : (n : ℕ) → i ≡ suc n → (bitOr (bits * 2 ^ 8 % 2 ^ 64) byte ≡ digitsNumber 256 (reverse (drop n v))) × (bitOr (bits * 2 ^ 8 % 2 ^ 64) byte < 256 ^ (8 - n))
+    go n q = (
+      or n q ∙ ap₂ (λ (x y : ℕ). x * 256 + y) (e ∙ ap (λ (x : ℕ). digitsNumber 256 (reverse (drop x v))) q) (g ∙ ap (λ (x : ℕ). getD v x 0) (omega arith))
+          ∙ sym (number-snoc 256 (reverse (drop (suc n) v)) (getD v n 0)) ∙ ap (digitsNumber 256) (sym (reverse-cons (getD v n 0) (drop (suc n) v)))
+          ∙ ap (λ (r : List ℕ). digitsNumber 256 (reverse r)) (sym (drop-cons v n 0 (omega arith))),
+      rw (or n q, next n q, pow-suc) (omega (arith, mul-le-mul-right 256 b)),
+    )
+
+-- ---- a loop over two lists
+
+module _ (xs ys : List ℕ) where
+  pub alike-none : take 0 xs ≡ take 0 ys
+  alike-none = refl
+
+  pub alike-not : (i a b : ℕ) → a ≡ getD xs i 0 → b ≡ getD ys i 0 → (a ≡ b → ⊥) → false ≡ same xs ys
+  alike-not i a b p q n = both-ways false (same xs ys) (λ t. absurd t) (λ t. absurd (n (p ∙ ap (λ (l : List ℕ). getD l i 0) (same-sound xs ys t) ∙ sym q)))
+
+  pub alike-more : (i a b : ℕ) → i < length xs → i < length ys → a ≡ getD xs i 0 → b ≡ getD ys i 0 → a ≡ b → take i xs ≡ take i ys → take (i + 1) xs ≡ take (i + 1) ys
+  alike-more i a b h k p q e t =
+      rw (add-one, take-suc xs i 0 h, take-suc ys i 0 k) (ap₂ (λ (l : List ℕ) (x : ℕ). l ++ (x ∷ [])) t (sym p ∙ e ∙ q))
+
+  pub alike-all : (i : ℕ) → length xs ≤ i → length ys ≤ i → take i xs ≡ take i ys → true ≡ same xs ys
+  alike-all i h k t =
+      let e : xs ≡ ys = sym (take-all i xs h) ∙ t ∙ take-all i ys k in
+      sym (from-T (same xs ys) (rw e (same-refl ys)))
+
+-- ---- 9 and 10 of an entry
+
+module _ (e : Encoding) (v : List ℕ) where
+  -- only bit vectors have marks and codes
+  pub bad-none : OneOf (0 ∷ 1 ∷ []) (tagOf the-type e) → 0 ≡ badNumber e v
+  unfolding badNumber hasBadMark levelsIn any
+  bad-none o = go e o
+    where
+      go : (e : Encoding) → OneOf (0 ∷ 1 ∷ []) (tagOf the-type e) → 0 ≡ badNumber e v
+      go Event o = refl
+      go Real o = refl
+      go (BitVector w M) o = absurd (⊎-elim (λ z. omega arith) (λ z. omega arith) o)
+
+  module _ (w : ℕ) (M : States) (q : e ≡ BitVector w M) where
+    pub bad-mark : ownStates M v ≡ own.Bad → 9 ≡ badNumber e v
+    unfolding badNumber
+    bad-mark h = rw (q, bad-told w M v h)
+
+    module _ (S : States) (o : Owned w M v S) (levels : List ℕ) (p : levels ≡ levelPart (BitVector w M) v) where
+      codes-are : hasNoCode (codesAt w S levels) ≡ hasBadCode (BitVector w M) v
+      codes-are = ap hasNoCode (ap (codesAt w S) p ∙ o .codes)
+
+      pub bad-code : hasNoCode (codesAt w S levels) ≡ true → 10 ≡ badNumber e v
+      unfolding badNumber
+      bad-code h = rw (q, o .sound, sym codes-are ∙ h)
+
+      pub bad-no-code : hasNoCode (codesAt w S levels) ≡ false → 0 ≡ badNumber e v
+      unfolding badNumber
+      bad-no-code h = rw (q, o .sound, sym codes-are ∙ h)
+
+-- ---- two sound entries
+
+pub sound-vector : {e : Encoding} {w : ℕ} {M : States} {v : List ℕ} → e ≡ BitVector w M → Sound e v → Sound (BitVector w M) v
+sound-vector q h = rw q at h
+
+module _ (w : ℕ) (M : States) (v : List ℕ) (h : Sound (BitVector w M) v) where
+  pub sound-owned : (S : States) → S ≡ setAt (markIn M v) → Owned w M v S
+  unfolding ownStates hasBadMark
+  sound-owned S e = owned w M v (h .whole) S (rw (h .mark, e))
+
+module _ (w : ℕ) (M N : States) (v u : List ℕ) (S R : States) (o : Owned w M v S) (q : Owned w N u R) (x y : List ℕ)
+    (a : x ≡ levelPart (BitVector w M) v) (b : y ≡ levelPart (BitVector w N) u) where
+  codes-l : codesAt w S x ≡ levelsIn (BitVector w M) v
+  codes-l = ap (codesAt w S) a ∙ o .codes
+
+  codes-r : codesAt w R y ≡ levelsIn (BitVector w N) u
+  codes-r = ap (codesAt w R) b ∙ q .codes
+
+  -- equal bytes under equal sets
+  pub bytes-alike : markOf S ≡ markOf R → same x y ≡ true → true ≡ same (textIn (BitVector w M) v) (textIn (BitVector w N) u)
+  bytes-alike m t =
+      let e : levelsIn (BitVector w M) v ≡ levelsIn (BitVector w N) u =
+      sym codes-l ∙ ap₂ (codesAt w) (mark-inj S R m) (same-sound x y (to-T (same x y) t)) ∙ codes-r in
+      sym (from-T (same (textIn (BitVector w M) v) (textIn (BitVector w N) u)) (rw e (same-refl (textIn (BitVector w N) u))))
+
+  pub same-length : markOf S ≡ markOf R → length x ≡ length y
+  same-length m = ap length a ∙ o .levels .long ∙ ap (lenOf w) (mark-inj S R m) ∙ sym (ap length b ∙ q .levels .long)
+
+  -- letters differ where codes do
+  pub codes-alike : Sound (BitVector w M) v → Sound (BitVector w N) u → (r : Bool) → r ≡ same (codesAt w S x) (codesAt w R y)
+      → r ≡ same (textIn (BitVector w M) v) (textIn (BitVector w N) u)
+  codes-alike k l r e =
+      let cs = levelsIn (BitVector w M) v in
+      let ds = levelsIn (BitVector w N) u in
+      e ∙ ap₂ same codes-l codes-r
+      ∙ same-by cs ds (textOf cs) (textOf ds) (ap textOf) (text-inj cs ds (all-below cs (k .code)) (all-below ds (l .code)))
+
+-- ---- entries of unlike kind or width
+
+module _ (e f : Encoding) (v u : List ℕ) where
+  pub unlike-event : e ≡ Event → OneOf (1 ∷ 2 ∷ []) (tagOf the-type f) → false ≡ sameValue e v f u
+  unfolding sameValue
+  unlike-event q o = rw q (go f o)
+    where
+      go : (f : Encoding) → OneOf (1 ∷ 2 ∷ []) (tagOf the-type f) → false ≡ sameValue Event v f u
+      go Event o = absurd (⊎-elim (λ z. omega arith) (λ z. omega arith) o)
+      go Real o = refl
+      go (BitVector w M) o = refl
+
+  pub unlike-real : e ≡ Real → OneOf (0 ∷ 2 ∷ []) (tagOf the-type f) → false ≡ sameValue e v f u
+  unfolding sameValue
+  unlike-real q o = rw q (go f o)
+    where
+      go : (f : Encoding) → OneOf (0 ∷ 2 ∷ []) (tagOf the-type f) → false ≡ sameValue Real v f u
+      go Event o = refl
+      go Real o = absurd (⊎-elim (λ z. omega arith) (λ z. omega arith) o)
+      go (BitVector w M) o = refl
+
+  module _ (w : ℕ) (M : States) (q : e ≡ BitVector w M) where
+    pub unlike-vector : OneOf (0 ∷ 1 ∷ []) (tagOf the-type f) → false ≡ sameValue e v f u
+    unfolding sameValue
+    unlike-vector o = rw q (go f o)
+      where
+        go : (f : Encoding) → OneOf (0 ∷ 1 ∷ []) (tagOf the-type f) → false ≡ sameValue (BitVector w M) v f u
+        go Event o = refl
+        go Real o = refl
+        go (BitVector x N) o = absurd (⊎-elim (λ z. omega arith) (λ z. omega arith) o)
+
+    text-length : (w : ℕ) (M : States) (v : List ℕ) → length (textIn (BitVector w M) v) ≡ w
+    unfolding levelsIn
+    text-length w M v = length-map (levelsIn (BitVector w M) v) letterOf ∙ codes-length w (setIn (BitVector w M) v) (levelPart (BitVector w M) v)
+
+    pub unlike-width : (x : ℕ) (N : States) → f ≡ BitVector x N → (w ≡ x → ⊥) → false ≡ sameValue e v f u
+    unfolding sameValue
+    unlike-width x N p n =
+        rw (q, p)
+        (both-ways false (same (textIn (BitVector w M) v) (textIn (BitVector x N) u)) (λ t. absurd t)
+        (λ t. absurd (n (sym (text-length w M v) ∙ ap length (same-sound (textIn (BitVector w M) v) (textIn (BitVector x N) u) t) ∙ text-length x N u))))
+
+    pub like-vector : (x : ℕ) (N : States) → f ≡ BitVector x N → w ≡ x → (r : Bool) → r ≡ same (textIn (BitVector w M) v) (textIn (BitVector w N) u) → r ≡ sameValue e v f u
+    unfolding sameValue
+    like-vector x N p n r h = rw (q, p, ← n) h
+
+-- ---- a pair
+
+number-some : (r : Refusal) → 0 < number r
+number-some refusal.WidthTooLarge = omega arith
+number-some refusal.BadRecord = omega arith
+number-some refusal.WrongKind = omega arith
+number-some refusal.WrongLength = omega arith
+number-some refusal.ForeignCharacter = omega arith
+number-some refusal.IndexBelowLast = omega arith
+number-some refusal.NoRoom = omega arith
+number-some refusal.NoSuchEntry = omega arith
+number-some refusal.BadMark = omega arith
+number-some refusal.BadCode = omega arith
+number-some refusal.IndexFalls = omega arith
+number-some refusal.BadRange = omega arith
+number-some refusal.DerivationFull = omega arith
+number-some refusal.BadDerivation = omega arith
+number-some refusal.LateInput = omega arith
+
+-- an entry that is neither 9 nor 10
+pub sound : (e : Encoding) (v : List ℕ) → Whole e v → 0 ≡ badNumber e v → Sound e v
+unfolding badNumber
+sound e v w h = go (hasBadMark e v) refl (hasBadCode e v) refl h
+  where
+    go : (a : Bool) → hasBadMark e v ≡ a → (b : Bool) → hasBadCode e v ≡ b → _≡_ {A = ℕ} 0 (cond a 9 (cond b 10 0)) → Sound e v
+    go true p b q h = absurd (omega arith)
+    go false p true q h = absurd (omega arith)
+    go false p false q h = record { whole = w; mark = p; code = q }
+
+-- 9 or 10 of an entry, before whatever is tried next
+first-bad : (e : Encoding) (v : List ℕ) (n : ℕ) → 0 < n → n ≡ badNumber e v → (tests : List Test) (r : Reply Bool)
+    → refused n ≡ tried (9 ⇐ hasBadMark e v ∷ 10 ⇐ hasBadCode e v ∷ tests) r
+unfolding badNumber tried
+first-bad e v n l h tests r = go (hasBadMark e v) (hasBadCode e v) h
+  where
+    go : (a b : Bool) → n ≡ cond a 9 (cond b 10 0) → refused n ≡ tried (9 ⇐ a ∷ 10 ⇐ b ∷ tests) r
+    go true b h = ap refused h
+    go false true h = ap refused h
+    go false false h = absurd (omega arith)
+
+module _ (a b : Encoding) (x y : List ℕ) (i j : ℕ) where
+  pub first-refused : (r : Refusal) → number r ≡ badNumber a x → refused (number r) ≡ pairOf a x i b y j
+  unfolding pairOf
+  first-refused r h = first-bad a x (number r) (number-some r) h _ _
+
+  module _ (p : Sound a x) where
+    pub second-refused : (r : Refusal) → number r ≡ badNumber b y → refused (number r) ≡ pairOf a x i b y j
+    unfolding pairOf tried
+    second-refused r h = rw (p .mark, p .code) (first-bad b y (number r) (number-some r) h [] (given (eqb i j && sameValue a x b y)))
+
+    module _ (q : Sound b y) where
+      pub pair-apart : (i ≡ j → ⊥) → given false ≡ pairOf a x i b y j
+      unfolding pairOf tried
+      pair-apart n = rw (p .mark, p .code, q .mark, q .code, ne-eqb i j n)
+
+      pub pair-told : i ≡ j → (r : Bool) → r ≡ sameValue a x b y → given r ≡ pairOf a x i b y j
+      unfolding pairOf tried
+      pair-told n r h = rw (p .mark, p .code, q .mark, q .code, eq-eqb i j n, h)
+
+-- ---- the walk over the pairs
+
+-- what a pair leaves to reply
+unfoldable follow : Reply Bool → Reply Bool → Reply Bool
+follow (refused n) rest = refused n
+follow (given true) rest = rest
+follow (given false) rest = given false
+
+walked-step : (p q : Indexed) (l m : List Indexed)
+    → walked (p ∷ l) (q ∷ m) ≡ follow (pairOf (p .encoding) (p .bytes) (p .index) (q .encoding) (q .bytes) (q .index)) (walked l m)
+unfolding walked pairOf tried follow
+walked-step p q l m = go (hasBadMark (p .encoding) (p .bytes)) (hasBadCode (p .encoding) (p .bytes)) (hasBadMark (q .encoding) (q .bytes)) (hasBadCode (q .encoding) (q .bytes)) (agree p q)
+  where
+    go : (a b c d e : Bool)
+        → tried (9 ⇐ a ∷ 10 ⇐ b ∷ 9 ⇐ c ∷ 10 ⇐ d ∷ []) (cond e (walked l m) (given false))
+        ≡ follow (tried (9 ⇐ a ∷ 10 ⇐ b ∷ 9 ⇐ c ∷ 10 ⇐ d ∷ []) (given e)) (walked l m)
+    go true b c d e = refl
+    go false true c d e = refl
+    go false false true d e = refl
+    go false false false true e = refl
+    go false false false false true = refl
+    go false false false false false = refl
+
+-- a record's entries from number k on
+unfoldable pub rest : Description → Lent → ℕ → List Indexed
+rest d l k = entriesFrom k (keptIn d l) (drop k ((keptIn d l) .indices))
+
+abbrev entryNumber : Description → Lent → ℕ → Indexed
+entryNumber d l k = record { index = getD (l .indices) (l .indexStart + k) 0; encoding = d .encoding; bytes = entryAt d (l .byteStart) (l .bytes) k }
+
+module _ (d : Description) (l : Lent) (h : isBad d l ≡ false) where
+  stood : Fits d l
+  stood = fits-room d l (not-bad d l h .1)
+
+  pub kept-few : d .count ≤ maximum
+  kept-few = stood .count
+
+  kept-indices : length (part (l .indexStart) (d .count) (l .indices)) ≡ d .count
+  kept-indices = part-length (l .indices) (l .indexStart) (d .count) (stood .indices)
+
+  module _ (k : ℕ) (p : k < d .count) where
+    next-size : k * sizeOf (d .encoding) + sizeOf (d .encoding) ≤ usedSize d
+    next-size = subst (λ (n : ℕ). n ≤ usedSize d) (suc-mul k (sizeOf (d .encoding))) (mul-le-mul-right (sizeOf (d .encoding)) p)
+
+    pub kept-inside : Inside d (l .byteStart) (l .bytes) k
+    kept-inside = omega (arith, next-size, stood .bytes)
+
+    pub kept-whole : Whole (d .encoding) (entryAt d (l .byteStart) (l .bytes) k)
+    unfolding entryAt
+    kept-whole =
+        let i = kept-inside in
+        record { width = not-bad d l h .0; long = part-length (l .bytes) _ _ (omega arith) }
+
+    pub kept-index : l .indexStart + k < length (l .indices)
+    kept-index = omega (arith, stood .indices)
+
+    rest-more : rest d l k ≡ entryNumber d l k ∷ rest d l (k + 1)
+    unfolding rest keptIn entriesFrom
+    rest-more =
+        let is = part (l .indexStart) (d .count) (l .indices) in
+        let e : getD is k 0 ≡ getD (l .indices) (l .indexStart + k) 0 = part-at (l .indices) (l .indexStart) (d .count) k 0 p in
+        rw (drop-cons is k 0 (rw kept-indices p), e, entry-within d (l .bytes) (l .byteStart) k p, add-one)
+
+  rest-end : (k : ℕ) → d .count ≤ k → rest d l k ≡ []
+  unfolding rest keptIn entriesFrom
+  rest-end k p = rw (drop-of-length-le (part (l .indexStart) (d .count) (l .indices)) {i = k} (rw kept-indices p))
+
+module _ (d : Description) (l : Lent) (e : Description) (m : Lent) where
+  pub first-record : isBad d l ≡ true → refused 2 ≡ compareRecords d l e m
+  unfolding compareRecords tried
+  first-record h = rw h
+
+  pub second-record : isBad d l ≡ false → isBad e m ≡ true → refused 2 ≡ compareRecords d l e m
+  unfolding compareRecords tried
+  second-record h k = rw (h, k)
+
+  module _ (h : isBad d l ≡ false) (g : isBad e m ≡ false) where
+    pub walk-starts : compareRecords d l e m ≡ walked (rest d l 0) (rest e m 0)
+    unfolding compareRecords tried rest
+    walk-starts = rw (h, g)
+
+    module _ (k : ℕ) (w : compareRecords d l e m ≡ walked (rest d l k) (rest e m k)) where
+      -- the pair of entries k, as it was compared
+      module _ (p : k < d .count) (q : k < e .count) (r : EqualAnswer) (x y : List ℕ) (i j : ℕ)
+          (a : x ≡ entryAt d (l .byteStart) (l .bytes) k) (b : y ≡ entryAt e (m .byteStart) (m .bytes) k)
+          (u : i ≡ getD (l .indices) (l .indexStart + k) 0) (v : j ≡ getD (m .indices) (m .indexStart + k) 0)
+          (t : equalOf r ≡ pairOf (d .encoding) x i (e .encoding) y j) where
+        pair : equalOf r ≡ pairOf (d .encoding) (entryAt d (l .byteStart) (l .bytes) k) (getD (l .indices) (l .indexStart + k) 0) (e .encoding) (entryAt e (m .byteStart) (m .bytes) k) (getD (m .indices) (m .indexStart + k) 0)
+        pair = rw (← a, ← b, ← u, ← v) t
+
+        step : compareRecords d l e m ≡ follow (equalOf r) (walked (rest d l (k + 1)) (rest e m (k + 1)))
+        step =
+            w ∙ ap₂ walked (rest-more d l h k p) (rest-more e m g k q) ∙ walked-step (entryNumber d l k) (entryNumber e m k) (rest d l (k + 1)) (rest e m (k + 1))
+            ∙ ap (λ (z : Reply Bool). follow z (walked (rest d l (k + 1)) (rest e m (k + 1)))) (sym pair)
+
+        pub walk-on : r ≡ answer.Equal → compareRecords d l e m ≡ walked (rest d l (k + 1)) (rest e m (k + 1))
+        unfolding follow
+        walk-on s = step ∙ ap (λ (z : EqualAnswer). follow (equalOf z) (walked (rest d l (k + 1)) (rest e m (k + 1)))) s
+
+        pub walk-ends : OneOf (1 ∷ 2 ∷ []) (tagOf equal-type r) → equalOf r ≡ compareRecords d l e m
+        unfolding follow
+        walk-ends o = sym (step ∙ go r o)
+          where
+            go : (r : EqualAnswer) → OneOf (1 ∷ 2 ∷ []) (tagOf equal-type r) → follow (equalOf r) (walked (rest d l (k + 1)) (rest e m (k + 1))) ≡ equalOf r
+            go answer.Equal o = absurd (⊎-elim (λ z. omega arith) (λ z. omega arith) o)
+            go answer.Unequal o = refl
+            go (answer.Refused n) o = refl
+
+      pub first-longer : k < d .count → e .count ≤ k → given false ≡ compareRecords d l e m
+      unfolding walked
+      first-longer p q = sym (w ∙ ap₂ walked (rest-more d l h k p) (rest-end e m g k q))
+
+      pub second-longer : d .count ≤ k → k < e .count → given false ≡ compareRecords d l e m
+      unfolding walked
+      second-longer p q = sym (w ∙ ap₂ walked (rest-end d l h k p) (rest-more e m g k q))
+
+      pub both-end : d .count ≤ k → e .count ≤ k → given true ≡ compareRecords d l e m
+      unfolding walked
+      both-end p q = sym (w ∙ ap₂ walked (rest-end d l h k p) (rest-end e m g k q))

@@ -1,0 +1,243 @@
+-- A record that was laid out is read back: each entry by its own set and its string; Compare says yes exactly for equal lists of index and
+-- value, and of two runs of one width exactly where their histories are equal.
+-- Assumes nothing.
+use mathlib.Core.Path.{_≡_, refl, sym, ap, ap₂, _∙_, subst}
+use mathlib.Core.Bool.{Bool, true, false, cond, _&&_}
+use mathlib.Core.List.{List, [], _∷_, _++_, map, append-assoc}
+use mathlib.Core.Logic.{_↔_}
+use Prim.Native.Nat.{ℕ, zero, suc, _+_, _*_, _≤_, _<_}
+use native.Mathlib.Nat.{le-of-suc-le-suc, zero-add}
+use native.Mathlib.Omega.{arith}
+use lib.Dec.{T, eqb, eqb→eq, eqb-refl}
+use lib.ListN.{length, getD, length-append, length-map, List·getD-map}
+use lib.Seq.{getD-at}
+use borrow.Author.Tests.{le-ltb}
+use Rattle.value.specs.declared.States.{States}
+use Rattle.value.specs.Slice.{part, same, overlay}
+use Rattle.value.specs.Level.{markOf, codesOf, textOf}
+use Rattle.value.proofs.Slices.{same-sound, same-refl}
+use Rattle.value.proofs.Tests.{to-T, from-T, and-left, and-right, and-both}
+use Rattle.fst.specs.declared.Encoding.{Encoding}
+use Rattle.fst.specs.declared.Encoding.the-variants.{BitVector}
+use Rattle.fst.specs.declared.Description.{Description}
+use Rattle.fst.specs.Refusal.{Reply, refused, given, _⇐_, tried, Outcome}
+use Rattle.fst.specs.Entry.{entrySize, entryOf}
+use Rattle.fst.specs.Record.{Lent, Kept, usedSize, keptIn, isBad, isBadBytes}
+use Rattle.fst.specs.Runs.{Pair, Step, indexOf, entriesOf, laidOut, stepOf, largestOf, historyLaidOut, Call, Run, freshKept, after, fed, historyOf}
+use Rattle.fst.proofs.Joined.{Every, length-snoc}
+use Rattle.fst.proofs.Laid.{entryFor, Sound}
+use Rattle.fst.proofs.Laid as laid
+use Rattle.fst.proofs.Entries.{laws}
+use Rattle.fst.proofs.Runs.{steps-sound}
+use Rattle.fst.proofs.Runs as runs
+use Rattle.fst.proofs.Demand3.{run-is-laid-out}
+use Rattle.signal.specs.Decode.{Indexed, entryAt, entriesFrom, entriesIn, setIn, hasBadMark, hasBadCode, textIn}
+use Rattle.signal.specs.Compare.{sameValue, agree, walked, compareRecords}
+use Rattle.signal.specs.Read.{readText}
+use Rattle.signal.specs.Parts.{textStored}
+use Rattle.signal.proofs.Reading.{entry-within, text-on}
+use Rattle.signal.proofs.EntryBack.{set-back, mark-sound, code-sound, text-back}
+
+-- ---- one entry
+
+every-at : {A : Type 0} (P : A → Type 0) (l : List A) → Every P l → (k : ℕ) (d : A) → k < length l → P (getD l k d)
+every-at P [] e k d h = absurd (omega arith)
+every-at P (x ∷ l) e zero d h = e .0
+every-at P (x ∷ l) e (suc k) d h = every-at P l (e .1) k d (le-of-suc-le-suc h)
+
+-- what an entry says of the step that it was laid out for
+pub record Tells (w : ℕ) (M : States) (v : List ℕ) (s : Step) : Type 0 where
+  pub mark : hasBadMark (BitVector w M) v ≡ false
+  pub set : setIn (BitVector w M) v ≡ s .set
+  pub code : hasBadCode (BitVector w M) v ≡ false
+  pub text : textIn (BitVector w M) v ≡ s .string
+
+-- ---- Compare of any two lists of entries
+
+-- neither 9 nor 10
+abbrev pub Fair : Indexed → Type 0
+Fair a = (hasBadMark (a .encoding) (a .bytes) ≡ false) × (hasBadCode (a .encoding) (a .bytes) ≡ false)
+
+-- as many entries, and each agrees in index and value
+unfoldable pub agreeing : List Indexed → List Indexed → Bool
+agreeing [] [] = true
+agreeing [] (b ∷ m) = false
+agreeing (a ∷ l) [] = false
+agreeing (a ∷ l) (b ∷ m) = agree a b && agreeing l m
+
+-- yes exactly where both lists of index and value agree
+pub yes-exactly : (l m : List Indexed) → Every Fair l → Every Fair m → walked l m ≡ given (agreeing l m)
+unfolding walked tried agreeing
+yes-exactly [] [] e f = refl
+yes-exactly [] (b ∷ m) e f = refl
+yes-exactly (a ∷ l) [] e f = refl
+yes-exactly (a ∷ l) (b ∷ m) e f = rw (e .0 .0, e .0 .1, f .0 .0, f .0 .1, yes-exactly l m (e .1) (f .1)) (go (agree a b))
+  where
+    go : (t : Bool) → cond t (given (agreeing l m)) (given false) ≡ given (t && agreeing l m)
+    go true = refl
+    go false = refl
+
+-- and a yes says so of any entries
+pub yes-agrees : (l m : List Indexed) → walked l m ≡ given true → T (agreeing l m)
+unfolding walked tried agreeing
+yes-agrees [] [] y = tt
+yes-agrees [] (b ∷ m) y = let z : _≡_ {A = ℕ} 0 1 = cc in absurd (omega arith)
+yes-agrees (a ∷ l) [] y = let z : _≡_ {A = ℕ} 0 1 = cc in absurd (omega arith)
+yes-agrees (a ∷ l) (b ∷ m) y =
+    go (hasBadMark (a .encoding) (a .bytes)) (hasBadCode (a .encoding) (a .bytes)) (hasBadMark (b .encoding) (b .bytes)) (hasBadCode (b .encoding) (b .bytes)) (agree a b) (λ z. yes-agrees l m z) y
+  where
+    go : (p q r s t : Bool) → (walked l m ≡ given true → T (agreeing l m)) → tried (9 ⇐ p ∷ 10 ⇐ q ∷ 9 ⇐ r ∷ 10 ⇐ s ∷ []) (cond t (walked l m) (given false)) ≡ given true → T (t && agreeing l m)
+    go true q r s t on y = let z : _≡_ {A = ℕ} 0 1 = cc in absurd (omega arith)
+    go false true r s t on y = let z : _≡_ {A = ℕ} 0 1 = cc in absurd (omega arith)
+    go false false true s t on y = let z : _≡_ {A = ℕ} 0 1 = cc in absurd (omega arith)
+    go false false false true t on y = let z : _≡_ {A = ℕ} 0 1 = cc in absurd (omega arith)
+    go false false false false true on y = on y
+    go false false false false false on y = let z : _≡_ {A = ℕ} 0 1 = cc in absurd (omega arith)
+
+given-inj : {p q : Bool} → given p ≡ given q → p ≡ q
+given-inj e = cc
+
+-- ---- steps that agree in index and string
+
+unfoldable pub sameSteps : List Step → List Step → Bool
+sameSteps [] [] = true
+sameSteps [] (t ∷ m) = false
+sameSteps (s ∷ l) [] = false
+sameSteps (s ∷ l) (t ∷ m) = (eqb (s .index) (t .index) && same (s .string) (t .string)) && sameSteps l m
+
+told : (h g : List Pair) → T (sameSteps (map stepOf h) (map stepOf g)) → h ≡ g
+unfolding sameSteps
+told [] [] y = refl
+told [] (q ∷ g) y = absurd y
+told (p ∷ h) [] y = absurd y
+told (p ∷ h) (q ∷ g) y =
+    let i = eqb (p .index) (q .index) in
+    let s = same (p .string) (q .string) in
+    let r = sameSteps (map stepOf h) (map stepOf g) in
+    let x = and-left (i && s) r y in
+    ap₂ (λ (z : Pair) (l : List Pair). z ∷ l)
+    (ap₂ (λ (n : ℕ) (l : List ℕ). record { index = n; string = l }) (eqb→eq (p .index) (q .index) (and-left i s x)) (same-sound (p .string) (q .string) (and-right i s x)))
+    (told h g (and-right (i && s) r y))
+
+itself : (l : List Step) → T (sameSteps l l)
+unfolding sameSteps
+itself [] = tt
+itself (s ∷ l) =
+    and-both (eqb (s .index) (s .index) && same (s .string) (s .string)) (sameSteps l l)
+    (and-both (eqb (s .index) (s .index)) (same (s .string) (s .string)) (eqb-refl (s .index)) (same-refl (s .string))) (itself l)
+
+-- ---- a list laid out
+
+module _ (w : ℕ) (pos : 1 ≤ w) where
+  pub entry-tells : (M : States) (s : Step) → Sound w M s → Tells w M (entryFor w M s) s
+  entry-tells M s h =
+      let cs = codesOf (s .string) in
+      record {
+        mark = mark-sound w pos M (s .set) cs (h .codes) (h .within);
+        set = set-back w pos M (s .set) cs (h .codes) (h .within);
+        code = code-sound w pos M (s .set) cs (h .codes) (h .within) (h .letters);
+        text = text-back w pos M (s .set) (s .string) (h .codes) (h .within) (h .letters);
+      }
+
+  -- entry k of a list laid out
+  entry-is : (M : States) (l : List Step) (k : ℕ) (d : Step) → k < length l
+      → entryAt ((laidOut w M l) .description) 0 ((laidOut w M l) .bytes) k ≡ entryFor w M (getD l k d)
+  unfolding entryAt laidOut
+  entry-is M l k d h =
+      ap (λ (n : ℕ). part n (entrySize w M) (entriesOf w M l)) (zero-add (k * entrySize w M)) ∙ laid.entry-at w (laws w pos) M l k d h
+
+  -- reading entry k of a list laid out gives the own set and the string of step k
+  pub read-back : (M : States) (l : List Step) → Every (Sound w M) l → (k : ℕ) (d : Step) → k < length l
+      → Tells w M (entryAt ((laidOut w M l) .description) 0 ((laidOut w M l) .bytes) k) (getD l k d)
+  read-back M l e k d h = rw (entry-is M l k d h) (entry-tells M (getD l k d) (every-at (Sound w M) l e k d h))
+
+  -- and so does Text, wherever the record stands in its slice
+  pub text-laid : (M : States) (l : List Step) → Every (Sound w M) l → (k : ℕ) (d : Step) → k < length l → (bytes : List ℕ) (start : ℕ) (out : List ℕ)
+      → let r = laidOut w M l in
+      part start (usedSize (r .description)) bytes ≡ r .bytes → isBadBytes (r .description) start bytes ≡ false → w ≤ length out
+      → _≡_ {A = Outcome (List ℕ)} (readText (r .description) bytes start k out) (record { refused = 0; left = overlay out 0 ((getD l k d) .string) })
+  unfolding laidOut textStored tried
+  text-laid M l e k d h bytes start out q b n =
+      let r = (laidOut w M l) .description in
+      let t = rw (← q, entry-within r bytes start k h) at (read-back M l e k d h) in
+      sym (text-on r bytes start k out b w M refl h)
+      ∙ rw (t .mark, t .code, le-ltb (length out) w n, t .text)
+
+  -- entry k of a run's record tells pair k of its history
+  pub read-back-run : (xs : List Call) → Run (freshKept w) xs → (k : ℕ) (p : Pair)
+      → let r = after (freshKept w) xs in
+      let h = historyOf (fed (freshKept w) xs) in
+      k < length h → Tells w (largestOf (map stepOf h)) (entryAt (r .description) 0 (r .bytes) k) (stepOf (getD h k p))
+  unfolding historyLaidOut
+  read-back-run xs r k p n =
+      let h = historyOf (fed (freshKept w) xs) in
+      let M = largestOf (map stepOf h) in
+      rw (run-is-laid-out w pos xs r, ← List·getD-map stepOf h k p)
+      (read-back M (map stepOf h) (steps-sound w M h (runs.spelt w (laws w pos) xs r) (omega arith)) k (stepOf p) (rw length-map n))
+
+  -- ---- Compare
+
+  abbrev shown : States → Step → Indexed
+  shown M s = record { index = s .index; encoding = BitVector w M; bytes = entryFor w M s }
+
+  entries-from : (M : States) (p l : List Step) → entriesFrom (length p) (laidOut w M (p ++ l)) (map indexOf l) ≡ map (shown M) l
+  unfolding entriesFrom laidOut
+  entries-from M p [] = refl
+  entries-from M p (s ∷ l) =
+      let e = append-assoc p (s ∷ []) l in
+      let n = length-snoc p s in
+      ap₂ (λ (v : List ℕ) (r : List Indexed). record { index = s .index; encoding = (laidOut w M (p ++ (s ∷ l))) .description .encoding; bytes = v } ∷ r)
+      (entry-is M (p ++ (s ∷ l)) (length p) s (before p) ∙ ap (entryFor w M) (getD-at p s l s (length p) refl))
+      (ap₂ (λ (k : ℕ) (r : List Step). entriesFrom k (laidOut w M r) (map indexOf l)) (sym n) (sym e) ∙ entries-from M (p ++ (s ∷ [])) l)
+    where
+      before : (p : List Step) → length p < length (p ++ (s ∷ l))
+      before p = omega (arith, length-append p (s ∷ l))
+
+  entries-are : (M : States) (l : List Step) → entriesIn (laidOut w M l) ≡ map (shown M) l
+  unfolding laidOut
+  entries-are M l = entries-from M [] l
+
+  agreeing-steps : (M N : States) (l m : List Step) → Every (Sound w M) l → Every (Sound w N) m → agreeing (map (shown M) l) (map (shown N) m) ≡ sameSteps l m
+  unfolding agreeing sameSteps sameValue
+  agreeing-steps M N [] [] e f = refl
+  agreeing-steps M N [] (t ∷ m) e f = refl
+  agreeing-steps M N (s ∷ l) [] e f = refl
+  agreeing-steps M N (s ∷ l) (t ∷ m) e f =
+      ap₂ (λ (b c : Bool). (eqb (s .index) (t .index) && b) && c)
+      (ap₂ same ((entry-tells M s (e .0)) .text) ((entry-tells N t (f .0)) .text))
+      (agreeing-steps M N l m (e .1) (f .1))
+
+  all-fair : (M : States) (l : List Step) → Every (Sound w M) l → Every Fair (map (shown M) l)
+  all-fair M [] e = tt
+  all-fair M (s ∷ l) e = (((entry-tells M s (e .0)) .mark, (entry-tells M s (e .0)) .code), all-fair M l (e .1))
+
+  -- two lists laid out at one width: yes exactly where index and string agree, whatever the sets
+  pub compare-laid : (M N : States) (l m : List Step) → Every (Sound w M) l → Every (Sound w N) m
+      → walked (entriesIn (laidOut w M l)) (entriesIn (laidOut w N m)) ≡ given (sameSteps l m)
+  compare-laid M N l m e f =
+      ap₂ walked (entries-are M l) (entries-are N m)
+      ∙ yes-exactly (map (shown M) l) (map (shown N) m) (all-fair M l e) (all-fair N m f)
+      ∙ ap given (agreeing-steps M N l m e f)
+
+  history-laid : (h g : List Pair) → Every (runs.Spelt w) h → Every (runs.Spelt w) g
+      → walked (entriesIn (historyLaidOut w h)) (entriesIn (historyLaidOut w g)) ≡ given (sameSteps (map stepOf h) (map stepOf g))
+  unfolding historyLaidOut
+  history-laid h g a b =
+      compare-laid (largestOf (map stepOf h)) (largestOf (map stepOf g)) (map stepOf h) (map stepOf g)
+      (steps-sound w (largestOf (map stepOf h)) h a (omega arith)) (steps-sound w (largestOf (map stepOf g)) g b (omega arith))
+
+  -- of two runs of one width Compare says yes exactly where their histories are equal, and else no
+  pub compare-runs : (xs ys : List Call) → Run (freshKept w) xs → Run (freshKept w) ys → (d e : Description) (l m : Lent) → isBad d l ≡ false → isBad e m ≡ false
+      → keptIn d l ≡ after (freshKept w) xs → keptIn e m ≡ after (freshKept w) ys
+      → (compareRecords d l e m ≡ given true) ↔ (historyOf (fed (freshKept w) xs) ≡ historyOf (fed (freshKept w) ys))
+  unfolding compareRecords tried
+  compare-runs xs ys r q d e l m a b s t =
+      let h = historyOf (fed (freshKept w) xs) in
+      let g = historyOf (fed (freshKept w) ys) in
+      let z : compareRecords d l e m ≡ given (sameSteps (map stepOf h) (map stepOf g)) =
+      rw (a, b)
+      (ap₂ (λ (x y : Kept). walked (entriesIn x) (entriesIn y)) (s ∙ run-is-laid-out w pos xs r) (t ∙ run-is-laid-out w pos ys q)
+      ∙ history-laid h g (runs.spelt w (laws w pos) xs r) (runs.spelt w (laws w pos) ys q)) in (
+        (λ y. told h g (to-T (sameSteps (map stepOf h) (map stepOf g)) (given-inj (sym z ∙ y)))),
+        (λ y. z ∙ ap given (from-T (sameSteps (map stepOf h) (map stepOf g)) (rw y (itself (map stepOf g))))),
+      )

@@ -1,0 +1,206 @@
+-- Reading an entry and its text, from what its decoding steps say.
+-- Assumes nothing.
+use mathlib.Core.Path.{_≡_, refl, sym, ap, _∙_, subst}
+use mathlib.Core.Bool.{Bool, true, false, cond}
+use mathlib.Core.List.{List, [], _∷_}
+use mathlib.Core.Logic.{⊎-elim}
+use Prim.Native.Nat.{ℕ, zero, suc, _+_, _-_, _*_, _≤_, _<_}
+use native.Mathlib.Nat.{mul-le-mul-right, suc-mul}
+use native.Mathlib.Omega.{arith}
+use denote.Enum.Declared.{tagOf}
+use types.Run.{OneOf}
+use lib.Dec.{T, ltb, leb, leb→le}
+use lib.ListN.{length, take, drop, length-drop}
+use borrow.Author.Tests.{ltb-true, ltb-false, lt-ltb, le-ltb, le-leb, lt-leb}
+use Rattle.value.specs.declared.States.{States}
+use Rattle.value.specs.Slice.{part, overlay}
+use Rattle.value.specs.Level.{markOf, lenOf, setAt, hasNoCode, textOf}
+use Rattle.value.proofs.Tests.{to-T, and-left, and-right}
+use Rattle.value.proofs.Levels.{mark-set, mark-small}
+use Rattle.value.proofs.Slices.{part-length}
+use Rattle.fst.specs.declared.Encoding.{Encoding}
+use Rattle.fst.specs.declared.Encoding.the-variants.{Event, Real, BitVector}
+use Rattle.fst.proofs.Encoding.{the-type}
+use Rattle.fst.specs.declared.Description.{Description}
+use Rattle.fst.specs.Refusal.{Reply, refused, given, Test, _⇐_, tried, Outcome, outcome}
+use Rattle.fst.specs.Entry.{entrySize}
+use Rattle.fst.specs.Record.{sizeOf, usedSize, widthStands, isBadBytes}
+use Rattle.fst.proofs.Sizes.{size-pos}
+use Rattle.fst.proofs.EntryParts.{len-fits}
+use Rattle.fst.proofs.LastEntry.{part-part}
+use Rattle.fst.proofs.Rooms.{Stands, stands}
+use Rattle.signal.specs.declared.OwnStates.{OwnStates}
+use Rattle.signal.specs.declared.OwnStates.the-variants as own
+use Rattle.signal.specs.declared.EntryAnswer.the-variants as answer
+use Rattle.signal.specs.Decode.{entryAt, markIn, setIn, levelPart, levelsIn, hasBadMark, hasBadCode, textIn}
+use Rattle.fst.specs.declared.Refusal.the-variants.{BadMark}
+use Rattle.signal.specs.Read.{Entry, kindOf, entryIn, readEntry, partOf, entryOf, hasNoText, readText}
+use Rattle.signal.specs.Parts.{ownStates, codesAt, Levels, Whole, Inside, answerIn, partIn, textStored}
+
+-- ---- one entry of a bit vector
+
+pub vector : {e : Encoding} {w : ℕ} {M : States} {v : List ℕ} → e ≡ BitVector w M → Whole e v → Whole (BitVector w M) v
+vector q h = rw q at h
+
+module _ (w : ℕ) (M : States) (v : List ℕ) where
+  pub wide : Whole (BitVector w M) v → (1 ≤ w) × (w ≤ 4096)
+  unfolding widthStands
+  wide h =
+      let t = to-T _ (h .width) in
+      (leb→le 1 w (and-left (leb 1 w) (leb w 4096) t), leb→le w 4096 (and-right (leb 1 w) (leb w 4096) t))
+
+  pub some : Whole (BitVector w M) v → 0 < length v
+  some h = rw (h .long) (size-pos w (wide h .0) M)
+
+  pub bad-told : ownStates M v ≡ own.Bad → hasBadMark (BitVector w M) v ≡ true
+  unfolding ownStates hasBadMark
+  bad-told e = go (ltb (markOf M) (markIn M v)) e
+    where
+      go : (b : Bool) → cond b own.Bad (own.Own (setAt (markIn M v))) ≡ own.Bad → b ≡ true
+      go true e = refl
+      go false e = let z : _≡_ {A = ℕ} 0 1 = cc in absurd (omega arith)
+
+  -- what is known of an entry whose own set is told
+  pub record Owned (S : States) : Type 0 where
+    pub sound : hasBadMark (BitVector w M) v ≡ false
+    pub set : setIn (BitVector w M) v ≡ S
+    pub within : lenOf w S ≤ length v
+    pub part : drop (length v - lenOf w S) v ≡ levelPart (BitVector w M) v
+    pub levels : Levels w S (levelPart (BitVector w M) v)
+    pub codes : codesAt w S (levelPart (BitVector w M) v) ≡ levelsIn (BitVector w M) v
+
+  own-told : (S : States) → ownStates M v ≡ own.Own S → (ltb (markOf M) (markIn M v) ≡ false) × (setAt (markIn M v) ≡ S)
+  unfolding ownStates
+  own-told S e = go (ltb (markOf M) (markIn M v)) e
+    where
+      go : (b : Bool) → cond b own.Bad (own.Own (setAt (markIn M v))) ≡ own.Own S → (b ≡ false) × (setAt (markIn M v) ≡ S)
+      go true e = let z : _≡_ {A = ℕ} 0 1 = cc in absurd (omega arith)
+      go false e = (refl, cc)
+
+  pub owned : Whole (BitVector w M) v → (S : States) → ownStates M v ≡ own.Own S → Owned S
+  unfolding hasBadMark setIn levelPart levelsIn
+  owned h S e =
+      let t = own-told S e in
+      let m : markIn M v ≤ markOf M = ltb-false _ _ (t .0) in
+      let k : markOf S ≡ markIn M v = ap markOf (sym (t .1)) ∙ mark-set (markIn M v) (omega (arith, mark-small M)) in
+      let f : lenOf w S ≤ entrySize w M = len-fits w S M (omega arith) in
+      let l = h .long in
+      record {
+        sound = t .0;
+        set = t .1;
+        within = omega arith;
+        part = rw (t .1, h .long);
+        levels = record { short = wide h .1; long = rw (t .1, length-drop) (omega arith) };
+        codes = rw (t .1);
+      }
+
+-- ---- Read
+
+-- an entry within a record's used part
+pub entry-within : (d : Description) (bytes : List ℕ) (start k : ℕ) → k < d .count → entryAt d 0 (part start (usedSize d) bytes) k ≡ entryAt d start bytes k
+unfolding entryAt
+entry-within d bytes start k h =
+    let z = sizeOf (d .encoding) in
+    let a : k * z + z ≤ usedSize d = subst (λ (n : ℕ). n ≤ usedSize d) (suc-mul k z) (mul-le-mul-right z h) in
+    part-part bytes start (usedSize d) (0 + k * z) z (omega arith) ∙ ap (λ (n : ℕ). part n z bytes) (omega arith)
+
+module _ (e : Encoding) (v : List ℕ) where
+  -- what is left to reply once 2 and 8 are tried
+  unfoldable pub readOn : Reply Entry
+  readOn = tried (9 ⇐ hasBadMark e v ∷ []) (given (entryIn e v))
+
+  pub answer-on : entryOf (answerIn e v) (partOf readOn) ≡ readOn
+  unfolding readOn tried answerIn
+  answer-on = go (hasBadMark e v)
+    where
+      go : (b : Bool) → entryOf (cond b (answer.Refused BadMark) (answer.Entry (kindOf e) (setIn e v))) (partOf (tried (9 ⇐ b ∷ []) (given (entryIn e v)))) ≡ tried (9 ⇐ b ∷ []) (given (entryIn e v))
+      go true = refl
+      go false = refl
+
+  pub part-on : partIn e v ≡ partOf readOn
+  unfolding readOn tried partIn
+  part-on = go (hasBadMark e v)
+    where
+      go : (b : Bool) → cond b [] (levelPart e v) ≡ partOf (tried (9 ⇐ b ∷ []) (given (entryIn e v)))
+      go true = refl
+      go false = refl
+
+module _ (d : Description) (bytes : List ℕ) (start k : ℕ) where
+  pub read-bad : isBadBytes d start bytes ≡ true → readEntry d bytes start k ≡ refused 2
+  unfolding readEntry tried
+  read-bad h = rw h
+
+  pub read-past : isBadBytes d start bytes ≡ false → d .count ≤ k → readEntry d bytes start k ≡ refused 8
+  unfolding readEntry tried
+  read-past h p = rw (h, le-leb (d .count) k p)
+
+  module _ (h : isBadBytes d start bytes ≡ false) (p : k < d .count) where
+    pub read-on : readEntry d bytes start k ≡ readOn (d .encoding) (entryAt d start bytes k)
+    unfolding readEntry tried readOn
+    read-on = rw (h, lt-leb (d .count) k p)
+
+    pub inside : Inside d start bytes k
+    inside =
+        let s = stands d start bytes h in
+        let z = sizeOf (d .encoding) in
+        let a : suc k * z ≤ d .count * z = mul-le-mul-right z p in
+        let b : suc k * z ≡ k * z + z = suc-mul k z in
+        omega (arith, s .room)
+
+    pub whole : Whole (d .encoding) (entryAt d start bytes k)
+    unfolding entryAt
+    whole =
+        let i = inside in
+        record { width = stands d start bytes h .width; long = part-length bytes _ _ (omega arith) }
+
+-- ---- Text
+
+-- neither of an encoding's first two variants has a text
+pub no-text : (e : Encoding) → OneOf (0 ∷ 1 ∷ []) (tagOf the-type e) → hasNoText e ≡ true
+unfolding hasNoText
+no-text Event o = refl
+no-text Real o = refl
+no-text (BitVector w M) o = absurd (⊎-elim (λ z. omega arith) (λ z. omega arith) o)
+
+abbrev Left : Type 0
+Left = Outcome (List ℕ)
+
+module _ (d : Description) (bytes : List ℕ) (start k : ℕ) (out : List ℕ) where
+  pub text-bad : isBadBytes d start bytes ≡ true → _≡_ {A = Left} (record { refused = 2; left = out }) (readText d bytes start k out)
+  unfolding readText tried
+  text-bad h = rw h
+
+  module _ (h : isBadBytes d start bytes ≡ false) where
+    pub text-none : hasNoText (d .encoding) ≡ true → _≡_ {A = Left} (record { refused = 3; left = out }) (readText d bytes start k out)
+    unfolding readText tried
+    text-none t = rw (h, t)
+
+    pub text-past : (w : ℕ) (M : States) → d .encoding ≡ BitVector w M → d .count ≤ k → _≡_ {A = Left} (record { refused = 8; left = out }) (readText d bytes start k out)
+    unfolding readText tried hasNoText
+    text-past w M e p = rw (h, e, le-leb (d .count) k p)
+
+    pub text-on : (w : ℕ) (M : States) → d .encoding ≡ BitVector w M → k < d .count → textStored w M (entryAt d start bytes k) out ≡ readText d bytes start k out
+    unfolding readText tried hasNoText textStored
+    text-on w M e p = rw (h, e, lt-leb (d .count) k p)
+
+module _ (w : ℕ) (M : States) (v out : List ℕ) where
+  pub stored-mark : ownStates M v ≡ own.Bad → _≡_ {A = Left} (record { refused = 9; left = out }) (textStored w M v out)
+  unfolding textStored tried
+  stored-mark e = rw (bad-told w M v e)
+
+  module _ (S : States) (o : Owned w M v S) (levels : List ℕ) (p : levels ≡ levelPart (BitVector w M) v) where
+    bad-codes : (b : Bool) → b ≡ hasNoCode (codesAt w S levels) → hasBadCode (BitVector w M) v ≡ b
+    bad-codes b e = ap hasNoCode (sym (o .codes) ∙ ap (codesAt w S) (sym p)) ∙ sym e
+
+    pub stored-code : hasNoCode (codesAt w S levels) ≡ true → _≡_ {A = Left} (record { refused = 10; left = out }) (textStored w M v out)
+    unfolding textStored tried
+    stored-code e = rw (o .sound, bad-codes true (sym e))
+
+    pub stored-short : hasNoCode (codesAt w S levels) ≡ false → length out < w → _≡_ {A = Left} (record { refused = 7; left = out }) (textStored w M v out)
+    unfolding textStored tried
+    stored-short e l = rw (o .sound, bad-codes false (sym e), lt-ltb (length out) w l)
+
+    pub stored-all : hasNoCode (codesAt w S levels) ≡ false → w ≤ length out → (r : List ℕ) → r ≡ overlay out 0 (textOf (codesAt w S levels))
+        → _≡_ {A = Left} (record { refused = 0; left = r }) (textStored w M v out)
+    unfolding textStored tried
+    stored-all e l r q = rw (o .sound, bad-codes false (sym e), le-ltb (length out) w l, q, p, o .codes)

@@ -1,0 +1,100 @@
+-- `signal::compare::compare_pair` meets its contract.
+-- Assumes nothing.
+use mathlib.Core.Path.{_≡_, refl, sym, ap, ap₂, _∙_}
+use denote.Ref.{now}
+use Rattle.signal.proofs.Comparing.{sound, first-refused, second-refused, pair-apart, pair-told}
+use Prim.Native.Nat.{ℕ}
+use Rattle.signal.specs.Parts.{Sound}
+use mathlib.Core.List.{List}
+use native.Mathlib.Omega.{arith}
+use borrow.Author.Needs.{needs}
+use Rattle.fst.specs.Refusal.{numberOf, given, Reply}
+use mathlib.Core.Bool.{Bool}
+use Rattle.fst.specs.declared.Verdict.{Verdict}
+use Rattle.signal.proofs.compare.compare_pair.Statement.{statement}
+use Rattle.signal.proofs.compare.compare_pair.Tie as tie
+
+-- neither entry is 9 or 10
+first : (c : tie.After-enum-told) → Sound (c .before .before .before .before .before .args .a) (now (c .before .before .before .before .before .args .x))
+first c =
+    let t = c .before .before in
+    let s = t .before .before .before in
+    sound (s .args .a) (now (s .args .x)) (s .pre .0) (sym (ap numberOf (c .enum-told .given .1)) ∙ t .try-entry .ensures)
+
+second : (c : tie.After-enum-told2) → Sound (c .before .before .before .before .before .before .before .before .args .b) (now (c .before .before .before .before .before .before .before .before .args .y))
+second c =
+    let t = c .before .before in
+    let s = t .before .before .before .before .before .before in
+    sound (s .args .b) (now (s .args .y)) (s .pre .1) (sym (ap numberOf (c .enum-told2 .given .1)) ∙ t .try-entry2 .ensures)
+
+try-entry-requires : tie.Need-try-entry-requires
+try-entry-requires c κs = search needs
+
+enum-known-refusal : tie.Need-enum-known-refusal
+enum-known-refusal c = search needs
+
+returns : tie.Need-returns
+returns c =
+    let t = c .before .before .before in
+    let a = t .before .before .before .args in
+    first-refused (a .a) (a .b) (now (a .x)) (now (a .y)) (a .i) (a .j) (c .before .refusal .given .0 .0) (sym (ap numberOf (c .before .refusal .given .1)) ∙ t .try-entry .ensures)
+
+enum-told : tie.Need-enum-told
+enum-told c = search needs
+
+try-entry-requires-2 : tie.Need-try-entry-requires-2
+try-entry-requires-2 c κs = search needs
+
+enum-known-refusal-2 : tie.Need-enum-known-refusal-2
+enum-known-refusal-2 c = search needs
+
+returns-2 : tie.Need-returns-2
+returns-2 c =
+    let t = c .before .before .before in
+    let e = t .before in
+    let a = e .before .before .before .before .before .args in
+    second-refused (a .a) (a .b) (now (a .x)) (now (a .y)) (a .i) (a .j) (first e) (c .before .refusal2 .given .0 .0) (sym (ap numberOf (c .before .refusal2 .given .1)) ∙ t .try-entry2 .ensures)
+
+enum-told-2 : tie.Need-enum-told-2
+enum-told-2 c = search needs
+
+returns-3 : tie.Need-returns-3
+returns-3 c =
+    let e = c .before in
+    let f = e .before .before .before in
+    let a = f .before .before .before .before .before .args in
+    pair-apart (a .a) (a .b) (now (a .x)) (now (a .y)) (a .i) (a .j) (first f) (second e) (c .if1 .taken)
+
+same-value-requires : tie.Need-same-value-requires
+same-value-requires c κs = (first (c .before .before .before .before), second (c .before))
+
+returns-4 : tie.Need-returns-4
+returns-4 c =
+    let e = c .before .before .before in
+    let f = e .before .before .before in
+    let a = f .before .before .before .before .before .args in
+    sym (ap given (c .if2 .taken)) ∙ pair-told (a .a) (a .b) (now (a .x)) (now (a .y)) (a .i) (a .j) (first f) (second e) (c .before .before .if1 .left) _ (c .before .same-value .ensures)
+
+returns-5 : tie.Need-returns-5
+returns-5 c =
+    let e = c .before .before .before in
+    let f = e .before .before .before in
+    let a = f .before .before .before .before .before .args in
+    sym (ap given (c .if2 .left)) ∙ pair-told (a .a) (a .b) (now (a .x)) (now (a .y)) (a .i) (a .j) (first f) (second e) (c .before .before .if1 .left) _ (c .before .same-value .ensures)
+
+pub compare-pair-spec : {M : Type 1} → statement M
+compare-pair-spec =
+    tie.close
+    (tie.spec
+    try-entry-requires
+    enum-known-refusal
+    returns
+    enum-told
+    try-entry-requires-2
+    enum-known-refusal-2
+    returns-2
+    enum-told-2
+    returns-3
+    same-value-requires
+    returns-4
+    returns-5)

@@ -1,0 +1,71 @@
+-- `signal::compare::same_codes` meets its contract: the codes passed agree.
+-- Assumes nothing.
+use lib.ListN.{length, take}
+use Prim.Native.Nat.{ℕ, _-_, _≤_}
+use borrow.Author.Needs.{needs}
+use mathlib.Core.Path.{_≡_, refl, sym, ap, _∙_}
+use Rattle.signal.proofs.Comparing.{alike-none, alike-not, alike-more, alike-all}
+use Rattle.signal.specs.Parts.{codesAt}
+use mathlib.Core.List.{List}
+use native.Mathlib.Omega.{arith}
+use Rattle.signal.proofs.Decoding.{codes-length}
+use denote.Ref.{now}
+use Rattle.signal.proofs.compare.same_codes.Statement.{statement}
+use Rattle.signal.proofs.compare.same_codes.Tie as tie
+
+abbrev Inv-loop : tie.InvT-loop
+Inv-loop width states levels others other-levels i₀ i = (i ≤ width) × (take i (codesAt width states levels) ≡ take i (codesAt width others other-levels))
+
+abbrev μ-loop : tie.MeasureT-loop
+μ-loop width states levels others other-levels i₀ i = width - i
+
+loop-holds : tie.Need-loop-holds Inv-loop μ-loop
+loop-holds c =
+    let a = c .before .before .args in
+    (omega arith, alike-none (codesAt (a .width) (a .states) (now (a .levels))) (codesAt (a .width) (a .others) (now (a .other-levels))))
+
+code-at-requires : tie.Need-code-at-requires Inv-loop μ-loop
+code-at-requires c κs = (c .before .before .before .before .pre .0, c .loop-test .taken)
+
+code-at-requires-2 : tie.Need-code-at-requires-2 Inv-loop μ-loop
+code-at-requires-2 c κs = (c .before .before .before .before .before .pre .1, c .before .loop-test .taken)
+
+returns : tie.Need-returns Inv-loop μ-loop
+returns c =
+    let l = c .before .before .before .before in
+    let a = l .before .before .before .args in
+    alike-not (codesAt (a .width) (a .states) (now (a .levels))) (codesAt (a .width) (a .others) (now (a .other-levels))) (l .loop .i) _ _ (c .before .before .code-at .ensures) (c .before .code-at2 .ensures) (c .if1 .taken)
+
+add-i : tie.Need-add-i Inv-loop μ-loop
+add-i c = omega arith
+
+loop-less : tie.Need-loop-less Inv-loop μ-loop
+loop-less c = omega arith
+
+loop-again : tie.Need-loop-again Inv-loop μ-loop
+loop-again c =
+    let l = c .before .before .before .before in
+    let a = l .before .before .before .args in
+    let t = c .before .before .before .loop-test .taken in
+    (omega arith, alike-more (codesAt (a .width) (a .states) (now (a .levels))) (codesAt (a .width) (a .others) (now (a .other-levels))) (l .loop .i) _ _ (rw codes-length t) (rw codes-length t) (c .before .before .code-at .ensures) (c .before .code-at2 .ensures) (c .if1 .left) (l .loop .inv .1))
+
+returns-2 : tie.Need-returns-2 Inv-loop μ-loop
+returns-2 c =
+    let l = c .before in
+    let a = l .before .before .before .args in
+    alike-all (codesAt (a .width) (a .states) (now (a .levels))) (codesAt (a .width) (a .others) (now (a .other-levels))) (l .loop .i) (rw codes-length (c .loop-test .left)) (rw codes-length (c .loop-test .left)) (l .loop .inv .1)
+
+pub same-codes-spec : {M : Type 1} → statement M
+same-codes-spec =
+    tie.close
+    (tie.spec
+    Inv-loop
+    μ-loop
+    loop-holds
+    code-at-requires
+    code-at-requires-2
+    returns
+    add-i
+    loop-less
+    loop-again
+    returns-2)

@@ -1,0 +1,27 @@
+-- `signal::compare::same_real` meets its contract.
+-- Assumes nothing.
+use denote.Ref.{now}
+use borrow.Author.Needs.{needs}
+use mathlib.Core.Path.{_≡_, refl, sym, ap, ap₂, _∙_}
+use Prim.Native.Nat.{ℕ}
+use lib.Ieee.{eq, ofBits, binary64}
+use Rattle.signal.specs.Compare.{sameReal}
+use Rattle.signal.proofs.compare.same_real.Statement.{statement}
+use Rattle.signal.proofs.compare.same_real.Tie as tie
+
+real-bits-requires : tie.Need-real-bits-requires
+real-bits-requires c κs = c .before .before .pre .0
+
+real-bits-requires-2 : tie.Need-real-bits-requires-2
+real-bits-requires-2 c κs = c .before .before .before .pre .1
+
+same-bits-requires : tie.Need-same-bits-requires
+same-bits-requires c κs = search needs
+
+returns : tie.Need-returns
+unfolding sameReal
+returns c = c .same-bits .ensures ∙ ap₂ (λ (x y : ℕ). eq (ofBits binary64 x) (ofBits binary64 y)) (c .before .before .real-bits .ensures) (c .before .real-bits2 .ensures)
+
+pub same-real-spec : {M : Type 1} → statement M
+same-real-spec =
+    tie.close (tie.spec real-bits-requires real-bits-requires-2 same-bits-requires returns)

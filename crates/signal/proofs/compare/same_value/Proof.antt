@@ -1,0 +1,103 @@
+-- `signal::compare::same_value` meets its contract.
+-- Assumes nothing.
+use mathlib.Core.Path.{_≡_, refl, sym, ap, ap₂, _∙_}
+use Rattle.signal.proofs.Comparing.{sound-vector, unlike-event, unlike-real, unlike-vector, unlike-width, like-vector}
+use denote.Ref.{now}
+use Rattle.fst.specs.declared.Encoding.{Encoding}
+use Rattle.signal.specs.Compare.{sameValue}
+use mathlib.Core.List.{List}
+use native.Mathlib.Omega.{arith}
+use borrow.Author.Needs.{needs}
+use Rattle.signal.proofs.compare.same_value.Statement.{statement}
+use Rattle.signal.proofs.compare.same_value.Tie as tie
+
+enum-told : tie.Need-enum-told
+enum-told c = search needs
+
+enum-told-2 : tie.Need-enum-told-2
+enum-told-2 c = search needs
+
+returns : tie.Need-returns
+returns c =
+    let a = c .before .before .before .before .before .args in
+    unlike-event (a .a) (a .b) (now (a .x)) (now (a .y)) (c .before .enum-told .given .1) (c .match2 .keys2)
+
+enum-told-3 : tie.Need-enum-told-3
+enum-told-3 c = search needs
+
+enum-told-4 : tie.Need-enum-told-4
+enum-told-4 c = search needs
+
+returns-2 : tie.Need-returns-2
+returns-2 c =
+    let a = c .before .before .before .before .before .args in
+    unlike-real (a .a) (a .b) (now (a .x)) (now (a .y)) (c .before .enum-told3 .given .1) (c .match3 .keys2)
+
+same-real-requires : tie.Need-same-real-requires
+same-real-requires c κs = search needs
+
+enum-known-a : tie.Need-enum-known-a
+enum-known-a c = search needs
+
+enum-known-b : tie.Need-enum-known-b
+enum-known-b c = search needs
+
+returns-3 : tie.Need-returns-3
+returns-3 c =
+    let a = c .before .before .before .before .before .before .args in
+    unlike-vector (a .a) (a .b) (now (a .x)) (now (a .y)) _ _ (c .before .before .a .given .1) (c .match4 .keys2)
+
+returns-4 : tie.Need-returns-4
+returns-4 c =
+    let b = c .before .before in
+    let k = b .before .before .before in
+    let a = k .before .before .before .before .args in
+    unlike-width (a .a) (a .b) (now (a .x)) (now (a .y)) _ _ (k .a .given .1) _ _ (b .b .given .1) (c .if1 .taken)
+
+same-text-requires : tie.Need-same-text-requires
+same-text-requires c κs =
+    let b = c .before .before in
+    let k = b .before .before .before in
+    let s = k .before .before .before .before in
+    (sound-vector (k .a .given .1) (s .pre .0), rw (← c .if1 .left) at (sound-vector (b .b .given .1) (s .pre .1)))
+
+returns-5 : tie.Need-returns-5
+unfolding sameValue
+returns-5 c =
+    let t = c .before .before in
+    let a = t .before .before .before .before .args in
+    sym (ap₂ (λ (e f : Encoding). sameValue e (now (a .x)) f (now (a .y))) (t .enum-told .given .1) (c .enum-told2 .given .1))
+
+returns-6 : tie.Need-returns-6
+unfolding sameValue
+returns-6 c =
+    let t = c .before .before .before in
+    let a = t .before .before .before .before .args in
+    c .same-real .ensures ∙ sym (ap₂ (λ (e f : Encoding). sameValue e (now (a .x)) f (now (a .y))) (t .enum-told3 .given .1) (c .before .enum-told4 .given .1))
+
+returns-7 : tie.Need-returns-7
+returns-7 c =
+    let b = c .before .before .before in
+    let k = b .before .before .before in
+    let a = k .before .before .before .before .args in
+    like-vector (a .a) (a .b) (now (a .x)) (now (a .y)) _ _ (k .a .given .1) _ _ (b .b .given .1) (c .before .if1 .left) _ (c .same-text .ensures)
+
+pub same-value-spec : {M : Type 1} → statement M
+same-value-spec =
+    tie.close
+    (tie.spec
+    enum-told
+    enum-told-2
+    returns
+    enum-told-3
+    enum-told-4
+    returns-2
+    same-real-requires
+    enum-known-a
+    enum-known-b
+    returns-3
+    returns-4
+    same-text-requires
+    returns-5
+    returns-6
+    returns-7)

@@ -1,0 +1,82 @@
+-- `signal::compare::try_entry` meets its contract.
+-- Assumes nothing.
+use borrow.Author.Needs.{needs}
+use mathlib.Core.Path.{_≡_, refl, sym, ap, _∙_}
+use Rattle.signal.proofs.Reading.{vector, some, bad-told, Owned, owned}
+use mathlib.Core.List.{List}
+use Rattle.signal.proofs.Comparing.{bad-none, bad-mark, bad-code, bad-no-code}
+use native.Mathlib.Omega.{arith}
+use Rattle.fst.specs.declared.Encoding.{Encoding}
+use Rattle.signal.specs.Parts.{Levels, badNumber}
+use denote.Ref.{now}
+use Prim.Native.Nat.{ℕ}
+use Rattle.signal.proofs.compare.try_entry.Statement.{statement}
+use Rattle.signal.proofs.compare.try_entry.Tie as tie
+
+-- what is known of the entry once its own set is told
+own-part : (c : tie.After-known-told2)
+    → let e = c .before .before .before .before .before .encoding .given .0 in
+    Owned (e .0) (e .1 .0) (now (c .before .before .before .before .before .before .before .before .args .entry)) (c .before .states .given .0 .0)
+own-part c =
+    let b = c .before .before .before in
+    let k = b .before .before in
+    owned _ _ _ (vector (k .encoding .given .1) (k .before .before .before .pre)) _ (sym (b .own-states .ensures) ∙ c .before .states .given .1)
+
+enum-known-encoding : tie.Need-enum-known-encoding
+enum-known-encoding c = search needs
+
+returns : tie.Need-returns
+returns c =
+    let a = c .before .before .args in
+    bad-none (a .encoding) (now (a .entry)) (c .match .keys2)
+
+own-states-requires : tie.Need-own-states-requires
+own-states-requires c κs = some _ _ _ (vector (c .before .encoding .given .1) (c .before .before .before .before .pre))
+
+enum-known-states : tie.Need-enum-known-states
+enum-known-states c = search needs
+
+enum-told : tie.Need-enum-told
+enum-told c = search needs
+
+returns-2 : tie.Need-returns-2
+returns-2 c =
+    let b = c .before .before in
+    let k = b .before .before in
+    let a = k .before .before .before .args in
+    bad-mark (a .encoding) (now (a .entry)) _ _ (k .encoding .given .1) (sym (b .own-states .ensures) ∙ c .enum-told .given .1)
+
+level-part-requires : tie.Need-level-part-requires
+level-part-requires c κs = own-part c .within
+
+has-bad-code-requires : tie.Need-has-bad-code-requires
+has-bad-code-requires c κs = rw (c .level-part .ensures, own-part (c .before) .part) (own-part (c .before) .levels)
+
+returns-3 : tie.Need-returns-3
+returns-3 c =
+    let l = c .before .before in
+    let k = l .before .before .before .before .before .before in
+    let a = k .before .before .before .args in
+    bad-code (a .encoding) (now (a .entry)) _ _ (k .encoding .given .1) _ (own-part (l .before)) _ (l .level-part .ensures ∙ own-part (l .before) .part) (sym (c .before .has-bad-code .ensures) ∙ c .if1 .taken)
+
+returns-4 : tie.Need-returns-4
+returns-4 c =
+    let l = c .before .before in
+    let k = l .before .before .before .before .before .before in
+    let a = k .before .before .before .args in
+    bad-no-code (a .encoding) (now (a .entry)) _ _ (k .encoding .given .1) _ (own-part (l .before)) _ (l .level-part .ensures ∙ own-part (l .before) .part) (sym (c .before .has-bad-code .ensures) ∙ c .if1 .left)
+
+pub try-entry-spec : {M : Type 1} → statement M
+try-entry-spec =
+    tie.close
+    (tie.spec
+    enum-known-encoding
+    returns
+    own-states-requires
+    enum-known-states
+    enum-told
+    returns-2
+    level-part-requires
+    has-bad-code-requires
+    returns-3
+    returns-4)

@@ -1,0 +1,63 @@
+-- `signal::read::entry_at` meets its contract.
+-- Assumes nothing.
+use Rattle.value.specs.Slice.{part}
+use denote.Ref.{now}
+use lib.ListN.{length, take, drop}
+use native.Mathlib.Omega.{arith}
+use Prim.Native.Nat.{ℕ, _+_, _*_, _-_, _≤_}
+use mathlib.Core.List.{List}
+use borrow.Author.Needs.{needs}
+use mathlib.Core.Path.{_≡_, refl, sym, ap, _∙_}
+use Rattle.signal.specs.Decode.{entryAt}
+use Rattle.signal.proofs.read.entry_at.Statement.{statement}
+use Rattle.signal.proofs.read.entry_at.Tie as tie
+
+-- the entry lies within the bytes
+placed : (c : tie.After-size-of) → c .before .before .args .byte-start + (c .before .before .args .entry * c .size-of .result + c .size-of .result) ≤ length (now (c .before .before .args .bytes))
+placed c = rw (c .size-of .ensures) (c .before .before .pre)
+
+cut : (a n : ℕ) → a + n - a ≡ n
+cut a n = omega arith
+
+size-of-requires : tie.Need-size-of-requires
+size-of-requires c κs = search needs
+
+mul-at : tie.Need-mul-at
+mul-at c = omega (arith, placed c)
+
+add-at : tie.Need-add-at
+add-at c = omega (arith, placed c)
+
+add-result : tie.Need-add-result
+add-result c = omega (arith, placed c)
+
+sub-result : tie.Need-sub-result
+sub-result c = search needs
+
+part-result-start : tie.Need-part-result-start
+part-result-start c = search needs
+
+part-result-end : tie.Need-part-result-end
+part-result-end c = omega (arith, placed c)
+
+returns : tie.Need-returns
+unfolding entryAt part
+returns c =
+    let b = c .before in
+    let a = b .before .before .args in
+    let z = b .size-of .result in
+    let at = a .byte-start + a .entry * z in
+    ap (λ (n : ℕ). take n (drop at (now (a .bytes)))) (cut at z) ∙ ap (λ (n : ℕ). take n (drop (a .byte-start + a .entry * n) (now (a .bytes)))) (b .size-of .ensures)
+
+pub entry-at-spec : {M : Type 1} → statement M
+entry-at-spec =
+    tie.close
+    (tie.spec
+    size-of-requires
+    mul-at
+    add-at
+    add-result
+    sub-result
+    part-result-start
+    part-result-end
+    returns)

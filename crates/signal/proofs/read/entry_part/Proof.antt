@@ -1,0 +1,83 @@
+-- `signal::read::entry_part` meets its contract.
+-- Assumes nothing.
+use Rattle.signal.proofs.Reading.{read-bad, read-past, read-on, inside, whole, part-on, readOn}
+use mathlib.Core.Path.{_≡_, refl, sym, ap, _∙_}
+use Rattle.signal.specs.Decode.{entryAt}
+use denote.Ref.{now}
+use Rattle.fst.specs.Refusal.{Reply}
+use borrow.Author.Needs.{needs}
+use Rattle.signal.specs.Read.{partOf}
+use Rattle.signal.specs.Parts.{partIn}
+use Rattle.signal.proofs.read.entry_part.Statement.{statement}
+use Rattle.signal.proofs.read.entry_part.Tie as tie
+
+is-bad-bytes-requires : tie.Need-is-bad-bytes-requires
+is-bad-bytes-requires c κs = search needs
+
+sub-result : tie.Need-sub-result
+sub-result c = search needs
+
+part-result-start : tie.Need-part-result-start
+part-result-start c = search needs
+
+part-result-end : tie.Need-part-result-end
+part-result-end c = search needs
+
+returns : tie.Need-returns
+returns c =
+    let b = c .before .before in
+    let a = b .before .before .args in
+    sym (ap partOf (read-bad (a .description) (now (a .bytes)) (a .byte-start) (a .entry) (sym (b .is-bad-bytes .ensures) ∙ c .before .if1 .taken)))
+
+sub-result-2 : tie.Need-sub-result-2
+sub-result-2 c = search needs
+
+part-result-start-2 : tie.Need-part-result-start-2
+part-result-start-2 c = search needs
+
+part-result-end-2 : tie.Need-part-result-end-2
+part-result-end-2 c = search needs
+
+returns-2 : tie.Need-returns-2
+returns-2 c =
+    let b = c .before .before .before .before in
+    let a = b .before .before .args in
+    sym (ap partOf (read-past (a .description) (now (a .bytes)) (a .byte-start) (a .entry) (sym (b .is-bad-bytes .ensures) ∙ c .before .before .before .if1 .left) (c .before .if2 .taken)))
+
+entry-at-requires : tie.Need-entry-at-requires
+entry-at-requires c κs =
+    let b = c .before .before .before in
+    let a = b .before .before .args in
+    inside (a .description) (now (a .bytes)) (a .byte-start) (a .entry) (sym (b .is-bad-bytes .ensures) ∙ c .before .before .if1 .left) (c .if2 .left)
+
+part-in-requires : tie.Need-part-in-requires
+part-in-requires c κs =
+    let b = c .before .before .before .before in
+    let a = b .before .before .args in
+    rw (c .entry-at .ensures) (whole (a .description) (now (a .bytes)) (a .byte-start) (a .entry) (sym (b .is-bad-bytes .ensures) ∙ c .before .before .before .if1 .left) (c .before .if2 .left))
+
+returns-3 : tie.Need-returns-3
+returns-3 c =
+    let b = c .before .before .before .before .before in
+    let a = b .before .before .args in
+    let e = a .description .encoding in
+    let v = entryAt (a .description) (a .byte-start) (now (a .bytes)) (a .entry) in
+    c .part-in .ensures ∙ ap (partIn e) (c .before .entry-at .ensures) ∙ part-on e v
+    ∙ sym (ap partOf (read-on (a .description) (now (a .bytes)) (a .byte-start) (a .entry) (sym (b .is-bad-bytes .ensures) ∙ c .before .before .before .before .if1 .left) (c .before .before .if2 .left)))
+
+pub entry-part-spec : {M : Type 1} → statement M
+entry-part-spec =
+    tie.close
+    (tie.spec
+    is-bad-bytes-requires
+    sub-result
+    part-result-start
+    part-result-end
+    returns
+    sub-result-2
+    part-result-start-2
+    part-result-end-2
+    returns-2
+    entry-at-requires
+    part-in-requires
+    returns-3)

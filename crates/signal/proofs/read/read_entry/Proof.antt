@@ -1,0 +1,61 @@
+-- `signal::read::read_entry` meets its contract.
+-- Assumes nothing.
+use Rattle.signal.specs.Parts.{answerIn}
+use mathlib.Core.Path.{_≡_, refl, sym, ap, _∙_}
+use Rattle.signal.specs.Decode.{entryAt}
+use Rattle.signal.specs.Read.{Entry, entryOf, partOf}
+use Rattle.signal.specs.declared.EntryAnswer.{EntryAnswer}
+use denote.Ref.{now}
+use Rattle.signal.proofs.Reading.{read-bad, read-past, read-on, inside, whole, answer-on, readOn}
+use Rattle.fst.specs.Refusal.{Reply}
+use Rattle.signal.specs.declared.EntryAnswer.the-variants as answer
+use borrow.Author.Needs.{needs}
+use Rattle.signal.proofs.read.read_entry.Statement.{statement}
+use Rattle.signal.proofs.read.read_entry.Tie as tie
+
+is-bad-bytes-requires : tie.Need-is-bad-bytes-requires
+is-bad-bytes-requires c κs = search needs
+
+returns : tie.Need-returns
+returns c =
+    let a = c .before .before .before .args in
+    sym (read-bad (a .description) (now (a .bytes)) (a .byte-start) (a .entry) (sym (c .before .is-bad-bytes .ensures) ∙ c .if1 .taken))
+
+returns-2 : tie.Need-returns-2
+returns-2 c =
+    let b = c .before .before .before in
+    let a = b .before .before .args in
+    sym (read-past (a .description) (now (a .bytes)) (a .byte-start) (a .entry) (sym (b .is-bad-bytes .ensures) ∙ c .before .before .if1 .left) (c .if2 .taken))
+
+entry-at-requires : tie.Need-entry-at-requires
+entry-at-requires c κs =
+    let b = c .before .before .before in
+    let a = b .before .before .args in
+    inside (a .description) (now (a .bytes)) (a .byte-start) (a .entry) (sym (b .is-bad-bytes .ensures) ∙ c .before .before .if1 .left) (c .if2 .left)
+
+entry-answer-requires : tie.Need-entry-answer-requires
+entry-answer-requires c κs =
+    let b = c .before .before .before .before in
+    let a = b .before .before .args in
+    rw (c .entry-at .ensures) (whole (a .description) (now (a .bytes)) (a .byte-start) (a .entry) (sym (b .is-bad-bytes .ensures) ∙ c .before .before .before .if1 .left) (c .before .if2 .left))
+
+returns-3 : tie.Need-returns-3
+returns-3 c =
+    let b = c .before .before .before .before .before in
+    let a = b .before .before .args in
+    let e = a .description .encoding in
+    let v = entryAt (a .description) (a .byte-start) (now (a .bytes)) (a .entry) in
+    let q : c .entry-answer .result ≡ answerIn e v = c .entry-answer .ensures ∙ ap (answerIn e) (c .before .entry-at .ensures) in
+    rw (read-on (a .description) (now (a .bytes)) (a .byte-start) (a .entry) (sym (b .is-bad-bytes .ensures) ∙ c .before .before .before .before .if1 .left) (c .before .before .if2 .left))
+    (ap (λ (r : EntryAnswer). entryOf r (partOf (readOn e v))) q ∙ answer-on e v)
+
+pub read-entry-spec : {M : Type 1} → statement M
+read-entry-spec =
+    tie.close
+    (tie.spec
+    is-bad-bytes-requires
+    returns
+    returns-2
+    entry-at-requires
+    entry-answer-requires
+    returns-3)

@@ -1,0 +1,98 @@
+-- `signal::read::store_text` meets its contract.
+-- Assumes nothing.
+use Rattle.value.proofs.Slices.{overlay-length}
+use mathlib.Core.Path.{_≡_, refl, sym, ap, _∙_}
+use Rattle.signal.specs.Parts.{codesAt, Levels}
+use native.Mathlib.Omega.{arith}
+use lib.ListN.{length, length-map}
+use denote.Ref.{now}
+use Rattle.signal.proofs.Decoding.{codes-length}
+use Prim.Native.Nat.{ℕ, _-_, _≤_}
+use Rattle.signal.specs.Decode.{levelPart}
+use Rattle.value.specs.Level.{hasNoCode, textOf, letterOf}
+use Rattle.fst.specs.declared.Encoding.the-variants.{BitVector}
+use mathlib.Core.List.{List}
+use Rattle.value.specs.Slice.{overlay}
+use borrow.Author.Needs.{needs}
+use Rattle.signal.proofs.Reading.{some, Owned, owned, stored-mark, stored-code, stored-short, stored-all}
+use Rattle.signal.proofs.read.store_text.Statement.{statement}
+use Rattle.signal.proofs.read.store_text.Tie as tie
+
+-- what is known of the entry once its own set is told
+own-part : (c : tie.After-known-told)
+    → let a = c .before .before .before .before .before .before .args in
+    Owned (a .width) (a .max-states) (now (a .entry)) (c .before .states .given .0 .0)
+own-part c =
+    let b = c .before .before .before in
+    let s = b .before .before .before in
+    owned (s .args .width) (s .args .max-states) (now (s .args .entry)) (s .pre) _ (sym (b .own-states .ensures) ∙ c .before .states .given .1)
+
+held : (c : tie.After-level-part)
+    → let a = c .before .before .before .before .before .before .before .args in
+    Levels (a .width) (c .before .before .states .given .0 .0) (now (c .level-part .result))
+held c = rw (c .level-part .ensures, own-part (c .before) .part) (own-part (c .before) .levels)
+
+own-states-requires : tie.Need-own-states-requires
+own-states-requires c κs = some (c .before .before .args .width) (c .before .before .args .max-states) _ (c .before .before .pre)
+
+enum-known-states : tie.Need-enum-known-states
+enum-known-states c = search needs
+
+enum-told : tie.Need-enum-told
+enum-told c = search needs
+
+returns : tie.Need-returns
+returns c =
+    let b = c .before .before in
+    let a = b .before .before .before .args in
+    stored-mark (a .width) (a .max-states) (now (a .entry)) (now (a .out)) (sym (b .own-states .ensures) ∙ c .enum-told .given .1)
+
+level-part-requires : tie.Need-level-part-requires
+level-part-requires c κs = own-part c .within
+
+has-bad-code-requires : tie.Need-has-bad-code-requires
+has-bad-code-requires c κs = held c
+
+returns-2 : tie.Need-returns-2
+returns-2 c =
+    let l = c .before .before in
+    let a = l .before .before .before .before .before .before .before .args in
+    stored-code (a .width) (a .max-states) (now (a .entry)) (now (a .out)) _ (own-part (l .before)) _ (l .level-part .ensures ∙ own-part (l .before) .part)
+    (sym (c .before .has-bad-code .ensures) ∙ c .if1 .taken)
+
+returns-3 : tie.Need-returns-3
+returns-3 c =
+    let l = c .before .before .before in
+    let a = l .before .before .before .before .before .before .before .args in
+    stored-short (a .width) (a .max-states) (now (a .entry)) (now (a .out)) _ (own-part (l .before)) _ (l .level-part .ensures ∙ own-part (l .before) .part)
+    (sym (c .before .before .has-bad-code .ensures) ∙ c .before .if1 .left) (c .if2 .taken)
+
+write-text-requires : tie.Need-write-text-requires
+write-text-requires c κs = (held (c .before .before .before .before), c .before .if2 .left)
+
+same-length : tie.Need-same-length
+same-length c = search needs
+
+returns-4 : tie.Need-returns-4
+returns-4 c =
+    let l = c .before .before .before .before .before .before .before in
+    let a = l .before .before .before .before .before .before .before .args in
+    let e = c .before .before .before .before in
+    stored-all (a .width) (a .max-states) (now (a .entry)) (now (a .out)) _ (own-part (l .before)) _ (l .level-part .ensures ∙ own-part (l .before) .part)
+    (sym (e .before .before .has-bad-code .ensures) ∙ e .before .if1 .left) (e .if2 .left) _ (c .before .before .write-text .ensures)
+
+pub store-text-spec : {M : Type 1} → statement M
+store-text-spec =
+    tie.close
+    (tie.spec
+    own-states-requires
+    enum-known-states
+    enum-told
+    returns
+    level-part-requires
+    has-bad-code-requires
+    returns-2
+    returns-3
+    write-text-requires
+    same-length
+    returns-4)

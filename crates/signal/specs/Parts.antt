@@ -1,0 +1,87 @@
+-- The steps by which an entry is decoded, tried and compared, for the functions that share them.
+-- Assumes nothing.
+use Prim.Native.Nat.{ℕ, _+_, _*_, _^_, _≤_}
+use mathlib.Core.Path.{_≡_}
+use mathlib.Core.Bool.{Bool, true, false, cond, _&&_}
+use mathlib.Core.List.{List, [], _∷_}
+use lib.Dec.{ltb, eqb}
+use lib.ListN.{length}
+use Rattle.value.specs.declared.States.{States}
+use Rattle.value.specs.Digits.{number, digits}
+use Rattle.value.specs.Slice.{overlay}
+use Rattle.value.specs.Level.{markOf, bitsOf, lenOf, setAt}
+use Rattle.fst.specs.declared.Encoding.{Encoding}
+use Rattle.fst.specs.declared.Encoding.the-variants.{BitVector}
+use Rattle.fst.specs.declared.Refusal.the-variants.{BadMark}
+use Rattle.fst.specs.declared.Description.{Description}
+use Rattle.fst.specs.Refusal.{Reply, given, Test, _⇐_, tried, Outcome, outcome}
+use Rattle.fst.specs.Record.{sizeOf, widthStands}
+use Rattle.signal.specs.declared.OwnStates.{OwnStates}
+use Rattle.signal.specs.declared.OwnStates.the-variants as own
+use Rattle.signal.specs.declared.EntryAnswer.{EntryAnswer}
+use Rattle.signal.specs.declared.EntryAnswer.the-variants as answer
+use Rattle.signal.specs.Decode.{markIn, setIn, levelPart, hasBadMark, hasBadCode, textIn}
+use Rattle.signal.specs.Read.{kindOf}
+use Rattle.signal.specs.Compare.{sameValue}
+
+-- ---- one entry
+
+-- an entry's own set, or none where its mark is bad
+unfoldable pub ownStates : States → List ℕ → OwnStates
+ownStates M v = cond (ltb (markOf M) (markIn M v)) own.Bad (own.Own (setAt (markIn M v)))
+
+-- the codes of w levels of a set in the bytes that hold them
+abbrev pub codesAt : ℕ → States → List ℕ → List ℕ
+codesAt w S levels = digits (2 ^ bitsOf S) w (number 256 levels)
+
+-- bytes that hold w levels of a set
+pub record Levels (w : ℕ) (S : States) (levels : List ℕ) : Type 0 where
+  pub short : w ≤ 4096
+  pub long : length levels ≡ lenOf w S
+
+-- the bytes of one entry
+pub record Whole (e : Encoding) (v : List ℕ) : Type 0 where
+  pub width : widthStands e ≡ true
+  pub long : length v ≡ sizeOf e
+
+-- entry k lies within the bytes
+abbrev pub Inside : Description → ℕ → List ℕ → ℕ → Type 0
+Inside d start bytes k = start + (k * sizeOf (d .encoding) + sizeOf (d .encoding)) ≤ length bytes
+
+-- ---- Read and Text, once 2, 3 and 8 are tried
+
+unfoldable pub answerIn : Encoding → List ℕ → EntryAnswer
+answerIn e v = cond (hasBadMark e v) (answer.Refused BadMark) (answer.Entry (kindOf e) (setIn e v))
+
+unfoldable pub partIn : Encoding → List ℕ → List ℕ
+partIn e v = cond (hasBadMark e v) [] (levelPart e v)
+
+unfoldable pub textStored : ℕ → States → List ℕ → List ℕ → Outcome (List ℕ)
+textStored w M v out =
+    outcome out
+    (tried (9 ⇐ hasBadMark (BitVector w M) v ∷ 10 ⇐ hasBadCode (BitVector w M) v ∷ 7 ⇐ ltb (length out) w ∷ [])
+    (given (overlay out 0 (textIn (BitVector w M) v))))
+
+-- ---- Compare
+
+-- 9 or 10 of an entry, and 0 for neither
+unfoldable pub badNumber : Encoding → List ℕ → ℕ
+badNumber e v = cond (hasBadMark e v) 9 (cond (hasBadCode e v) 10 0)
+
+-- an entry that is neither
+pub record Sound (e : Encoding) (v : List ℕ) : Type 0 where
+  pub whole : Whole e v
+  pub mark : hasBadMark e v ≡ false
+  pub code : hasBadCode e v ≡ false
+
+-- a pair of entries with their time indices: "the first record's entry is tried for 9 and 10, then the second's, and only then are they
+-- compared"
+unfoldable pub pairOf : Encoding → List ℕ → ℕ → Encoding → List ℕ → ℕ → Reply Bool
+pairOf a x i b y j =
+    tried
+    (9 ⇐ hasBadMark a x
+    ∷ 10 ⇐ hasBadCode a x
+    ∷ 9 ⇐ hasBadMark b y
+    ∷ 10 ⇐ hasBadCode b y
+    ∷ [])
+    (given (eqb i j && sameValue a x b y))
