@@ -22,13 +22,13 @@ use Rattle.wavemem.specs.Packed.{Codes}
 use Rattle.fst.specs.declared.Encoding.{Encoding}
 use Rattle.fst.specs.declared.Encoding.the-variants.{BitVector}
 use Rattle.fst.specs.declared.Description.{Description}
-use Rattle.fst.specs.Entry.{entrySize, entryOf, widenAll}
-use Rattle.fst.specs.Writable.{Writable}
-use Rattle.fst.specs.Expand.{Widenable}
+use Rattle.layout.specs.Entry.{entrySize, entryOf, widenAll}
+use Rattle.layout.specs.Writable.{Writable}
+use Rattle.layout.specs.Expand.{Widenable}
 use Rattle.fst.specs.Record.{Lent, Kept, keptIn, widthStands, isBad}
 use Rattle.fst.specs.Change.{text, isOtherKind, isOtherLength, isForeign, repeats, appended, changed, withChange, addChange}
 use Rattle.fst.specs.Adding.{Admitted, Levels, Comparable}
-use Rattle.fst.proofs.Sizes.{widen-all-length}
+use Rattle.layout.proofs.Sizes.{widen-all-length}
 use Rattle.fst.proofs.Records.{not-bad}
 use Rattle.fst.proofs.Adding.{standing, width-known, width-any, refusedWith, acceptedWith, Suited, four, five, seven, accepted, indicesKept, stored-same, stored-more}
 

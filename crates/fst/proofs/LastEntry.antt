@@ -12,9 +12,9 @@ use Rattle.value.specs.declared.States.{States}
 use Rattle.value.specs.Slice.{part, overlay, same}
 use Rattle.value.specs.Level.{markOf}
 use Rattle.value.proofs.Slices.{part-length, part-all, part-overlay}
-use Rattle.fst.specs.Entry.{entrySize, widenEntry, widenAll}
+use Rattle.layout.specs.Entry.{entrySize, widenEntry, widenAll}
 use Rattle.fst.specs.Change.{repeats}
-use Rattle.fst.proofs.Sizes.{widen-length}
+use Rattle.layout.proofs.Sizes.{widen-length}
 
 -- a part of a part
 pub part-part : (l : List ℕ) (start n at m : ℕ) → at + m ≤ n → part at m (part start n l) ≡ part (start + at) m l

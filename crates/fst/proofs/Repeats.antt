@@ -13,10 +13,10 @@ use Rattle.fst.specs.declared.Encoding.{Encoding}
 use Rattle.fst.specs.declared.Encoding.the-variants.{Event, Real, BitVector}
 use Rattle.fst.specs.declared.Description.{Description}
 use Rattle.fst.specs.Refusal.{given, _⇐_, tried, outcome}
-use Rattle.fst.specs.Entry.{entrySize, entryOf}
+use Rattle.layout.specs.Entry.{entrySize, entryOf}
 use Rattle.fst.specs.Record.{Lent, Kept, sizeOf, usedSize, keptIn, fits, isBad}
 use Rattle.fst.specs.Change.{Change, text, real, isOtherKind, isOtherLength, isForeign, isBelowLast, repeats, appended, changed, withChange, refusals, Recorder, stored, addChange}
-use Rattle.fst.proofs.Sizes.{widen-all-same}
+use Rattle.layout.proofs.Sizes.{widen-all-same}
 use Rattle.fst.proofs.Refusals.{passes}
 use Rattle.fst.proofs.Records.{Fits, fits-room, not-bad}
 

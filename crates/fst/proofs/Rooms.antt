@@ -14,7 +14,7 @@ use Rattle.value.proofs.Tests.{by-le, to-T, from-T, and-left, and-right}
 use Rattle.fst.specs.declared.Encoding.the-variants.{Event, BitVector}
 use Rattle.fst.specs.declared.Description.{Description}
 use Rattle.fst.specs.Refusal.{Reply, refused, given, tried}
-use Rattle.fst.specs.Entry.{entrySize}
+use Rattle.layout.specs.Entry.{entrySize}
 use Rattle.fst.specs.Record.{Lent, maximum, sizeOf, usedSize, widthStands, fitsBytes, fits, isBadBytes, isBad, empty, encodingFor, fresh}
 
 -- ---- Fresh

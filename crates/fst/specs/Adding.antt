@@ -10,7 +10,7 @@ use Rattle.value.specs.Level.{foldAll, codesOf, leastOf, markOf}
 use Rattle.wavemem.specs.Packed.{Codes}
 use Rattle.fst.specs.declared.Encoding.the-variants.{BitVector}
 use Rattle.fst.specs.declared.Description.{Description}
-use Rattle.fst.specs.Entry.{entrySize}
+use Rattle.layout.specs.Entry.{entrySize}
 use Rattle.fst.specs.Record.{Lent, maximum, keptIn, isBad}
 use Rattle.fst.specs.Change.{Change, text, isOtherKind, isOtherLength, isForeign, isBelowLast}
 

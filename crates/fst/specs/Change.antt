@@ -14,7 +14,7 @@ use Rattle.fst.specs.declared.Encoding.the-variants.{Event, Real, BitVec
 use Rattle.fst.specs.declared.Description.{Description}
 use Rattle.fst.specs.declared.Added.{Added}
 use Rattle.fst.specs.Refusal.{numberOf, Test, _⇐_, given, tried, Outcome, outcome}
-use Rattle.fst.specs.Entry.{entryOf, widenAll}
+use Rattle.layout.specs.Entry.{entryOf, widenAll}
 use Rattle.fst.specs.Record.{Lent, Kept, sizeOf, keptIn, fits, isBad}
 
 -- a change: a string's bytes, or a real's 64 bits

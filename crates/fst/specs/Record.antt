@@ -12,7 +12,7 @@ use Rattle.fst.specs.declared.Encoding.{Encoding}
 use Rattle.fst.specs.declared.Encoding.the-variants.{Event, Real, BitVector}
 use Rattle.fst.specs.declared.Description.{Description}
 use Rattle.fst.specs.Refusal.{Reply, given, _⇐_, tried}
-use Rattle.fst.specs.Entry.{entrySize}
+use Rattle.layout.specs.Entry.{entrySize}
 
 -- "At most 1,048,576 entries"; the widths are "1 to 4,096"
 abbrev pub maximum : ℕ

@@ -3,10 +3,7 @@ ghost use mathlib.Core.Path.{_≡_};
 ghost use Rattle.fst.specs.Refusal.{number, numberOf};
 use value::States;
 
-pub mod bytes;
 pub mod change;
-pub mod entry;
-pub mod expand;
 pub mod real;
 pub mod record;
 

@@ -9,7 +9,7 @@ use crate::Description;
 use crate::Encoding;
 use crate::Made;
 use crate::Refusal;
-use crate::entry::entry_size;
+use layout::entry::entry_size;
 use value::States;
 
 pub const MAXIMUM: u32 = 1048576;

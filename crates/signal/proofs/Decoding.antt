@@ -1,29 +1,27 @@
 -- An entry of a bit vector decoded step by step: its own set, the bytes of its levels, its codes.
 -- Assumes nothing.
-use mathlib.Core.Path.{_≡_, refl, sym, ap, _∙_, subst}
-use mathlib.Core.Bool.{Bool, true, false, cond}
-use mathlib.Core.List.{List, [], _∷_, _++_, map, map-append}
+use mathlib.Core.Path.{_≡_, refl, sym, ap, _∙_}
+use mathlib.Core.Bool.{true, false}
+use mathlib.Core.List.{List, [], _∷_, _++_, map-append}
 use Prim.Native.Nat.{ℕ, zero, suc, _+_, _-_, _*_, _^_, _≤_, _<_}
-use native.Mathlib.Nat.{mul-le-mul-right, suc-mul, pow-le-pow-right, lt-of-lt-of-le}
+use native.Mathlib.Nat.{mul-le-mul-right, suc-mul}
 use native.Mathlib.Numerals.{add-one}
 use native.Mathlib.Omega.{arith}
-use lib.Dec.{ltb, leb}
-use lib.ListN.{length, take, drop, getD, set, length-map, length-take}
-use lib.Seq.{take-suc, take-all}
-use borrow.Author.Tests.{lt-ltb, le-ltb, ltb-false, le-leb, lt-leb}
+use lib.ListN.{length, take, getD, set, length-map, length-take}
+use lib.Seq.{take-suc}
+use borrow.Author.Tests.{lt-ltb, le-ltb, le-leb, lt-leb}
 use Rattle.value.specs.declared.States.{States}
 use Rattle.value.specs.declared.States.the-variants.{Two, Four, Nine}
-use Rattle.value.specs.Digits.{number, digits}
+use Rattle.value.specs.Digits.{number}
 use Rattle.value.specs.Slice.{any, overlay}
-use Rattle.value.specs.Level.{markOf, bitsOf, lenOf, setAt, letterOf, isNoCode, hasNoCode, textOf}
+use Rattle.value.specs.Level.{markOf, bitsOf, setAt, letterOf, isNoCode, hasNoCode, textOf}
 use Rattle.value.specs.Answer.{levelAt, LevelIn}
-use Rattle.value.proofs.Digits.{Below, digits-length, digits-at, digits-below, below-at}
-use Rattle.value.proofs.Levels.{bits-pos, len-room, none-foreign}
+use Rattle.value.proofs.Digits.{Below, digits-length, digits-at, digits-below}
+use Rattle.value.proofs.Levels.{len-room, none-foreign}
 use Rattle.value.proofs.Tests.{or-both}
 use Rattle.value.proofs.Slices.{any-at, any-snoc, overlay-store}
-use Rattle.fst.specs.declared.Encoding.the-variants.{BitVector}
 use Rattle.signal.specs.declared.OwnStates.the-variants as own
-use Rattle.signal.specs.Decode.{markIn, hasBadMark}
+use Rattle.signal.specs.Decode.{markIn}
 use Rattle.signal.specs.Parts.{ownStates, codesAt, Levels}
 
 -- the set of a mark that is neither 0 nor 1

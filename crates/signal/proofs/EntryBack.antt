@@ -1,10 +1,10 @@
 -- An entry that was laid out is read back: its own set, its codes, its text.
 -- Assumes nothing.
-use mathlib.Core.Path.{_≡_, refl, sym, ap, ap₂, _∙_, subst}
-use mathlib.Core.Bool.{Bool, true, false}
-use mathlib.Core.List.{List, [], _∷_, _++_}
-use Prim.Native.Nat.{ℕ, zero, suc, _+_, _-_, _*_, _/_, _%_, _^_, _≤_, _<_}
-use native.Mathlib.Nat.{mul-comm, mul-assoc, add-comm, add-assoc, zero-mul, zero-add, mul-le-mul-left, lt-of-lt-of-le, div-lt-iff-lt-mul, div-add-mod'}
+use mathlib.Core.Path.{_≡_, sym, ap, ap₂, _∙_}
+use mathlib.Core.Bool.{false}
+use mathlib.Core.List.{List}
+use Prim.Native.Nat.{ℕ, suc, _+_, _-_, _*_, _/_, _%_, _^_, _≤_, _<_}
+use native.Mathlib.Nat.{mul-comm, mul-assoc, add-comm, zero-mul, zero-add, mul-le-mul-left, lt-of-lt-of-le, div-lt-iff-lt-mul, div-add-mod'}
 use native.Mathlib.Omega.{arith}
 use lib.ListN.{length, getD, take, drop, length-drop, take-append-drop}
 use lib.Pow.{pow-add, pow-mono}
@@ -12,16 +12,16 @@ use borrow.Author.Tests.{le-ltb}
 use Rattle.value.specs.declared.States.{States}
 use Rattle.value.specs.declared.States.the-variants.{Two, Four, Nine}
 use Rattle.value.specs.Digits.{number, digits}
-use Rattle.value.specs.Level.{markOf, bitsOf, lenOf, setAt, codesOf, hasNoCode}
-use Rattle.value.proofs.Digits.{Below, pow-pow, base-pos, number-lt, number-append, number-digits, digits-number, digits-high, digits-length}
+use Rattle.value.specs.Level.{markOf, bitsOf, lenOf, setAt, codesOf}
+use Rattle.value.proofs.Digits.{Below, pow-pow, base-pos, number-lt, number-append, number-digits, digits-number, digits-high}
 use Rattle.value.proofs.Tests.{by-le}
 use Rattle.value.proofs.Levels.{bits-up, mark-small, set-mark, len-room, none-foreign, text-codes}
 use Rattle.fst.specs.declared.Encoding.the-variants.{BitVector}
-use Rattle.fst.specs.Entry.{entrySize, entryOf}
-use Rattle.fst.proofs.EntryLaws.{Codes}
-use Rattle.fst.proofs.Sizes.{Marked, size-pos, mark-bits}
-use Rattle.fst.proofs.Entries.{marked-digits, sized}
-use Rattle.fst.proofs.EntryParts.{len-fits}
+use Rattle.layout.specs.Entry.{entrySize, entryOf}
+use Rattle.layout.proofs.EntryLaws.{Codes}
+use Rattle.layout.proofs.Sizes.{Marked, size-pos, mark-bits}
+use Rattle.layout.proofs.Entries.{marked-digits, sized}
+use Rattle.layout.proofs.EntryParts.{len-fits}
 use Rattle.signal.specs.Decode.{markIn, setIn, levelPart, levelsIn, hasBadMark, hasBadCode, textIn}
 
 -- a power of two as a multiple of w levels of b bits

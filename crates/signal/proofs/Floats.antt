@@ -4,16 +4,15 @@ use mathlib.Core.Path.{_≡_, refl, sym, ap, ap₂, _∙_, subst}
 use mathlib.Core.Bool.{Bool, true, false, not, cond, _&&_, _||_, Bool·beq}
 use mathlib.Core.Logic.{_⊎_, inl, inr, ⊎-elim}
 use Prim.Native.Nat.{ℕ, zero, suc, _+_, _-_, _*_, _/_, _%_, _^_, _≤_, _<_}
-use native.Mathlib.Nat.{mul-div-mul-right, mul-right-comm, mul-assoc, mul-comm, zero-mul, zero-div, mul-pos, lt-irrefl, zero-lt-suc, mod-self}
+use native.Mathlib.Nat.{mul-div-mul-right, mul-right-comm, mul-comm, zero-mul, zero-div, mul-pos, lt-irrefl, zero-lt-suc}
 use native.Mathlib.Omega.{arith}
-use lib.Dec.{T, eqb, leb, ltb}
+use lib.Dec.{eqb, leb}
 use lib.IntN.{ℤ}
-use lib.Pow.{pow-pos}
-use lib.Ieee.{Float, nan, inf, fin, Format, binary64, prec, low, up, down, size, hid, ones, top, level, eq, ne, isNan, ofFields, ofBits, nanBits, toBits, odd, span, climb}
+use lib.Ieee.{Float, nan, inf, fin, Format, binary64, prec, low, up, down, size, hid, top, eq, ne, isNan, ofFields, ofBits, toBits, odd, span, climb}
 use lib.Ieee.Bits.{toBits-ofBits, nanBits-is, nanBits-above}
 use lib.Ieee.Fits.{down-pos}
 use lib.Ieee.Compare.{differs-from-itself}
-use borrow.Author.Tests.{eqb-true, lt-ltb, le-ltb, not-true}
+use borrow.Author.Tests.{eqb-true, lt-ltb, le-ltb}
 use Rattle.value.proofs.Tests.{to-T, from-T, and-left, and-right}
 
 -- ---- a NaN differs

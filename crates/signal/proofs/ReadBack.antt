@@ -1,11 +1,11 @@
 -- A record that was laid out is read back: each entry by its own set and its string; Compare says yes exactly for equal lists of index and
 -- value, and of two runs of one width exactly where their histories are equal.
 -- Assumes nothing.
-use mathlib.Core.Path.{_≡_, refl, sym, ap, ap₂, _∙_, subst}
+use mathlib.Core.Path.{_≡_, refl, sym, ap, ap₂, _∙_}
 use mathlib.Core.Bool.{Bool, true, false, cond, _&&_}
 use mathlib.Core.List.{List, [], _∷_, _++_, map, append-assoc}
 use mathlib.Core.Logic.{_↔_}
-use Prim.Native.Nat.{ℕ, zero, suc, _+_, _*_, _≤_, _<_}
+use Prim.Native.Nat.{ℕ, zero, suc, _*_, _≤_, _<_}
 use native.Mathlib.Nat.{le-of-suc-le-suc, zero-add}
 use native.Mathlib.Omega.{arith}
 use lib.Dec.{T, eqb, eqb→eq, eqb-refl}
@@ -14,23 +14,22 @@ use lib.Seq.{getD-at}
 use borrow.Author.Tests.{le-ltb}
 use Rattle.value.specs.declared.States.{States}
 use Rattle.value.specs.Slice.{part, same, overlay}
-use Rattle.value.specs.Level.{markOf, codesOf, textOf}
+use Rattle.value.specs.Level.{codesOf}
 use Rattle.value.proofs.Slices.{same-sound, same-refl}
 use Rattle.value.proofs.Tests.{to-T, from-T, and-left, and-right, and-both}
-use Rattle.fst.specs.declared.Encoding.{Encoding}
 use Rattle.fst.specs.declared.Encoding.the-variants.{BitVector}
 use Rattle.fst.specs.declared.Description.{Description}
-use Rattle.fst.specs.Refusal.{Reply, refused, given, _⇐_, tried, Outcome}
-use Rattle.fst.specs.Entry.{entrySize, entryOf}
+use Rattle.fst.specs.Refusal.{refused, given, _⇐_, tried, Outcome}
+use Rattle.layout.specs.Entry.{entrySize}
 use Rattle.fst.specs.Record.{Lent, Kept, usedSize, keptIn, isBad, isBadBytes}
-use Rattle.fst.specs.Runs.{Pair, Step, indexOf, entriesOf, laidOut, stepOf, largestOf, historyLaidOut, Call, Run, freshKept, after, fed, historyOf}
-use Rattle.fst.proofs.Joined.{Every, length-snoc}
-use Rattle.fst.proofs.Laid.{entryFor, Sound}
-use Rattle.fst.proofs.Laid as laid
-use Rattle.fst.proofs.Entries.{laws}
-use Rattle.fst.proofs.Runs.{steps-sound}
-use Rattle.fst.proofs.Runs as runs
-use Rattle.fst.proofs.Demand3.{run-is-laid-out}
+use Rattle.runs.specs.Runs.{Pair, Step, indexOf, entriesOf, laidOut, stepOf, largestOf, historyLaidOut, Call, Run, freshKept, after, fed, historyOf}
+use Rattle.runs.proofs.Joined.{Every, length-snoc}
+use Rattle.runs.proofs.Laid.{entryFor, Sound}
+use Rattle.runs.proofs.Laid as laid
+use Rattle.layout.proofs.Entries.{laws}
+use Rattle.runs.proofs.Runs.{steps-sound}
+use Rattle.runs.proofs.Runs as runs
+use Rattle.runs.proofs.Demand3.{run-is-laid-out}
 use Rattle.signal.specs.Decode.{Indexed, entryAt, entriesFrom, entriesIn, setIn, hasBadMark, hasBadCode, textIn}
 use Rattle.signal.specs.Compare.{sameValue, agree, walked, compareRecords}
 use Rattle.signal.specs.Read.{readText}

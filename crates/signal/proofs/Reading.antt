@@ -4,14 +4,14 @@ use mathlib.Core.Path.{_≡_, refl, sym, ap, _∙_, subst}
 use mathlib.Core.Bool.{Bool, true, false, cond}
 use mathlib.Core.List.{List, [], _∷_}
 use mathlib.Core.Logic.{⊎-elim}
-use Prim.Native.Nat.{ℕ, zero, suc, _+_, _-_, _*_, _≤_, _<_}
+use Prim.Native.Nat.{ℕ, suc, _+_, _-_, _*_, _≤_, _<_}
 use native.Mathlib.Nat.{mul-le-mul-right, suc-mul}
 use native.Mathlib.Omega.{arith}
 use denote.Enum.Declared.{tagOf}
 use types.Run.{OneOf}
-use lib.Dec.{T, ltb, leb, leb→le}
-use lib.ListN.{length, take, drop, length-drop}
-use borrow.Author.Tests.{ltb-true, ltb-false, lt-ltb, le-ltb, le-leb, lt-leb}
+use lib.Dec.{ltb, leb, leb→le}
+use lib.ListN.{length, drop, length-drop}
+use borrow.Author.Tests.{ltb-false, lt-ltb, le-ltb, le-leb, lt-leb}
 use Rattle.value.specs.declared.States.{States}
 use Rattle.value.specs.Slice.{part, overlay}
 use Rattle.value.specs.Level.{markOf, lenOf, setAt, hasNoCode, textOf}
@@ -22,17 +22,16 @@ use Rattle.fst.specs.declared.Encoding.{Encoding}
 use Rattle.fst.specs.declared.Encoding.the-variants.{Event, Real, BitVector}
 use Rattle.fst.proofs.Encoding.{the-type}
 use Rattle.fst.specs.declared.Description.{Description}
-use Rattle.fst.specs.Refusal.{Reply, refused, given, Test, _⇐_, tried, Outcome, outcome}
-use Rattle.fst.specs.Entry.{entrySize}
+use Rattle.fst.specs.Refusal.{Reply, refused, given, _⇐_, tried, Outcome}
+use Rattle.layout.specs.Entry.{entrySize}
 use Rattle.fst.specs.Record.{sizeOf, usedSize, widthStands, isBadBytes}
-use Rattle.fst.proofs.Sizes.{size-pos}
-use Rattle.fst.proofs.EntryParts.{len-fits}
+use Rattle.layout.proofs.Sizes.{size-pos}
+use Rattle.layout.proofs.EntryParts.{len-fits}
 use Rattle.fst.proofs.LastEntry.{part-part}
-use Rattle.fst.proofs.Rooms.{Stands, stands}
-use Rattle.signal.specs.declared.OwnStates.{OwnStates}
+use Rattle.fst.proofs.Rooms.{stands}
 use Rattle.signal.specs.declared.OwnStates.the-variants as own
 use Rattle.signal.specs.declared.EntryAnswer.the-variants as answer
-use Rattle.signal.specs.Decode.{entryAt, markIn, setIn, levelPart, levelsIn, hasBadMark, hasBadCode, textIn}
+use Rattle.signal.specs.Decode.{entryAt, markIn, setIn, levelPart, levelsIn, hasBadMark, hasBadCode}
 use Rattle.fst.specs.declared.Refusal.the-variants.{BadMark}
 use Rattle.signal.specs.Read.{Entry, kindOf, entryIn, readEntry, partOf, entryOf, hasNoText, readText}
 use Rattle.signal.specs.Parts.{ownStates, codesAt, Levels, Whole, Inside, answerIn, partIn, textStored}

@@ -18,7 +18,7 @@ use Rattle.fst.specs.declared.Encoding.{Encoding}
 use Rattle.fst.specs.declared.Encoding.the-variants.{Event, Real, BitVector}
 use Rattle.fst.specs.declared.Description.{Description}
 use Rattle.fst.specs.Refusal.{Reply, refused, given, tried, Outcome}
-use Rattle.fst.specs.Entry.{entrySize}
+use Rattle.layout.specs.Entry.{entrySize}
 use Rattle.fst.specs.Record.{Lent, Kept, keptIn, widthStands, fitsBytes, fits, isBadBytes, isBad}
 use Rattle.fst.proofs.Rows.{around, lentBy, kept}
 use Rattle.signal.specs.declared.Kind.the-variants as kind

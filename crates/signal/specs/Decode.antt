@@ -13,7 +13,7 @@ use Rattle.value.specs.Level.{markOf, bitsOf, lenOf, setAt, hasNoCode, textOf}
 use Rattle.fst.specs.declared.Encoding.{Encoding}
 use Rattle.fst.specs.declared.Encoding.the-variants.{Event, Real, BitVector}
 use Rattle.fst.specs.declared.Description.{Description}
-use Rattle.fst.specs.Entry.{entrySize}
+use Rattle.layout.specs.Entry.{entrySize}
 use Rattle.fst.specs.Record.{Kept, sizeOf}
 
 -- the bytes of entry k of a record that starts at a place

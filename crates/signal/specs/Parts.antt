@@ -14,7 +14,7 @@ use Rattle.fst.specs.declared.Encoding.{Encoding}
 use Rattle.fst.specs.declared.Encoding.the-variants.{BitVector}
 use Rattle.fst.specs.declared.Refusal.the-variants.{BadMark}
 use Rattle.fst.specs.declared.Description.{Description}
-use Rattle.fst.specs.Refusal.{Reply, given, Test, _⇐_, tried, Outcome, outcome}
+use Rattle.fst.specs.Refusal.{Reply, given, _⇐_, tried, Outcome, outcome}
 use Rattle.fst.specs.Record.{sizeOf, widthStands}
 use Rattle.signal.specs.declared.OwnStates.{OwnStates}
 use Rattle.signal.specs.declared.OwnStates.the-variants as own

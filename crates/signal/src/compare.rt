@@ -2,15 +2,14 @@
 ghost use mathlib.Core.Path.{_≡_};
 ghost use mathlib.Core.Bool.{false};
 ghost use mathlib.Core.List.{reverse};
-ghost use Prim.Native.Nat.{ℕ, _+_, _≤_, _<_, _*_};
+ghost use Prim.Native.Nat.{_+_, _<_};
 ghost use lib.ListN.{length, getD};
 ghost use lib.Ieee.{eq, ofBits, binary64};
 ghost use Rattle.value.specs.Digits.{number};
 ghost use Rattle.value.specs.Slice.{same};
-ghost use Rattle.value.specs.Level.{textOf, hasNoCode};
 ghost use Rattle.fst.specs.declared.Encoding.the-variants.{BitVector};
 ghost use Rattle.fst.specs.Refusal.{numberOf};
-ghost use Rattle.signal.specs.Decode.{hasBadMark, hasBadCode, textIn};
+ghost use Rattle.signal.specs.Decode.{textIn};
 ghost use Rattle.signal.specs.Compare.{sameReal, sameValue, compareRecords, equalOf};
 ghost use Rattle.signal.specs.Parts.{Levels, Whole, codesAt, badNumber, Sound, pairOf};
 use crate::EqualAnswer;

@@ -19,8 +19,8 @@ use fst::Description;
 use fst::Encoding;
 use fst::Refusal;
 use fst::Verdict;
-use fst::entry::entry_size;
 use fst::record::is_bad_bytes;
+use layout::entry::entry_size;
 use value::States;
 
 // How many bytes an entry takes.

@@ -11,10 +11,10 @@ use Rattle.value.specs.Level.{placeIn, codeOf, letterOf, fold, setOf, leastOf}
 use Rattle.fst.specs.declared.Encoding.the-variants.{Event, BitVector}
 use Rattle.fst.specs.declared.Description.{Description}
 use Rattle.fst.specs.Refusal.{Reply, refused, given, tried, Outcome}
-use Rattle.fst.specs.Entry.{entrySize, entryOf, widenEntry, widenAll}
+use Rattle.layout.specs.Entry.{entrySize, entryOf, widenEntry, widenAll}
 use Rattle.fst.specs.Record.{Kept, keptIn, widthStands, fitsBytes, fits, isBad, fresh}
 use Rattle.fst.specs.Change.{isOtherKind, isOtherLength, isForeign, isBelowLast, repeats, appended, changed, refusals, Recorder, stored, addChange}
-use Rattle.fst.specs.Runs.{endsLike, joined, entriesOf, laidOut}
+use Rattle.runs.specs.Runs.{endsLike, joined, entriesOf, laidOut}
 use Rattle.fst.proofs.Rows as written
 use Rattle.fst.proofs.Rows.{around, lentBy, kept, row, accepted}
 use Rattle.signal.specs.Decode.{entryAt, entriesFrom, markIn, setIn, levelPart, levelsIn, hasBadMark}

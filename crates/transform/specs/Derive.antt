@@ -15,7 +15,7 @@ use Rattle.fst.specs.declared.Encoding.the-variants.{Event, Real, BitVector}
 use Rattle.fst.specs.declared.Description.{Description}
 use Rattle.fst.specs.Refusal.{Reply, refused, given, Test, _⇐_, tried}
 use Rattle.fst.specs.Record.{Lent, Kept, largestIn, keptIn, fits, isBad}
-use Rattle.fst.specs.Runs.{Step, joined, laidOut}
+use Rattle.runs.specs.Runs.{Step, joined, laidOut}
 use Rattle.signal.specs.Decode.{Indexed, entriesIn, levelsIn, hasBadMark}
 use Rattle.signal.specs.Read.{hasNoText, widthOf}
 use Rattle.signal.specs.Offset.{falls}

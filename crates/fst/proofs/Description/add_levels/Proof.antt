@@ -15,8 +15,8 @@ use Rattle.value.specs.Slice.{overlay}
 use Rattle.value.specs.Level.{join}
 use Rattle.fst.specs.declared.Encoding.the-variants.{BitVector}
 use Rattle.fst.specs.declared.Description.{Description}
-use Rattle.fst.specs.Entry.{entrySize}
-use Rattle.fst.specs.Writable.{entryFrom}
+use Rattle.layout.specs.Entry.{entrySize}
+use Rattle.layout.specs.Writable.{entryFrom}
 use Rattle.fst.proofs.Adding.{standing}
 use Rattle.fst.proofs.AddingStrings.{wide, comparable, widenable, roomier, writable, levels-full, levels-stay, levels-grow}
 use borrow.Author.Needs.{needs}

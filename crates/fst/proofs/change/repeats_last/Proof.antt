@@ -8,9 +8,9 @@ use native.Mathlib.Omega.{arith}
 use denote.Ref.{now}
 use lib.ListN.{length}
 use Rattle.value.specs.Slice.{part, same}
-use Rattle.fst.specs.Entry.{entrySize, widenEntry}
-use Rattle.fst.specs.Writable.{entryFrom}
-use Rattle.fst.proofs.Sizes.{widen-same}
+use Rattle.layout.specs.Entry.{entrySize, widenEntry}
+use Rattle.layout.specs.Writable.{entryFrom}
+use Rattle.layout.proofs.Sizes.{widen-same}
 use Rattle.fst.proofs.LastEntry.{last-place, none-repeated, repeats-widened}
 use borrow.Author.Needs.{needs}
 use Rattle.fst.proofs.change.repeats_last.Statement.{statement}

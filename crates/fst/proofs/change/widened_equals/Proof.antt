@@ -9,8 +9,8 @@ use denote.Ref.{now}
 use lib.ListN.{length, replicate}
 use Rattle.value.specs.Slice.{part, overlay, same}
 use Rattle.value.proofs.Slices.{part-length}
-use Rattle.fst.specs.Entry.{entrySize}
-use Rattle.fst.specs.Writable.{entryFrom}
+use Rattle.layout.specs.Entry.{entrySize}
+use Rattle.layout.specs.Writable.{entryFrom}
 use Rattle.fst.proofs.Rooms.{size-small}
 use Rattle.fst.proofs.LastEntry.{copy-widened}
 use borrow.Author.Needs.{needs}

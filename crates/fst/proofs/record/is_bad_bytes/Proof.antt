@@ -10,7 +10,7 @@ use Rattle.fst.proofs.record.is_bad_bytes.Statement.{statement}
 use Rattle.fst.proofs.record.is_bad_bytes.Tie as tie
 use Rattle.fst.proofs.record.is_bad_bytes.Reads as reads
 use Rattle.fst.proofs.record.is_bad_bytes.Lts as lts
-use Rattle.fst.proofs.entry.entry_size.Reads as entry-size-reads
+use Rattle.layout.proofs.entry.entry_size.Reads as entry-size-reads
 use Rattle.fst.proofs.record.has_room.Reads as has-room-reads
 
 -- src/record.rt:70:48

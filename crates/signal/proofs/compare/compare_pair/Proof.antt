@@ -1,16 +1,11 @@
 -- `signal::compare::compare_pair` meets its contract.
 -- Assumes nothing.
-use mathlib.Core.Path.{_≡_, refl, sym, ap, ap₂, _∙_}
+use mathlib.Core.Path.{sym, ap, _∙_}
 use denote.Ref.{now}
 use Rattle.signal.proofs.Comparing.{sound, first-refused, second-refused, pair-apart, pair-told}
-use Prim.Native.Nat.{ℕ}
 use Rattle.signal.specs.Parts.{Sound}
-use mathlib.Core.List.{List}
-use native.Mathlib.Omega.{arith}
 use borrow.Author.Needs.{needs}
-use Rattle.fst.specs.Refusal.{numberOf, given, Reply}
-use mathlib.Core.Bool.{Bool}
-use Rattle.fst.specs.declared.Verdict.{Verdict}
+use Rattle.fst.specs.Refusal.{numberOf, given}
 use Rattle.signal.proofs.compare.compare_pair.Statement.{statement}
 use Rattle.signal.proofs.compare.compare_pair.Tie as tie
 

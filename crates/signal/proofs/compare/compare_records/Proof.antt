@@ -2,14 +2,13 @@
 -- Assumes nothing.
 use Rattle.signal.proofs.Comparing.{rest, kept-few, kept-inside, kept-whole, kept-index, first-record, second-record, walk-starts, walk-on, walk-ends, first-longer, second-longer, both-end}
 use lib.ListN.{length}
-use mathlib.Core.List.{List}
-use mathlib.Core.Bool.{true, false}
+use mathlib.Core.Bool.{false}
 use denote.Ref.{now}
-use mathlib.Core.Path.{_≡_, refl, sym, ap, ap₂, _∙_}
+use mathlib.Core.Path.{_≡_, sym, _∙_}
 use native.Mathlib.Omega.{arith}
 use Rattle.fst.specs.Record.{Lent, isBad}
 use Rattle.signal.specs.Compare.{walked, compareRecords}
-use Prim.Native.Nat.{ℕ, _+_, _-_, _≤_, _<_}
+use Prim.Native.Nat.{_+_, _-_, _≤_, _<_}
 use borrow.Author.Needs.{needs}
 use Rattle.signal.proofs.compare.compare_records.Statement.{statement}
 use Rattle.signal.proofs.compare.compare_records.Tie as tie

@@ -2,12 +2,10 @@
 -- Assumes nothing.
 use lib.ListN.{length, take}
 use denote.Ref.{now}
-use borrow.Author.Needs.{needs}
-use mathlib.Core.Path.{_≡_, refl, sym, ap, ap₂, _∙_}
-use mathlib.Core.List.{List}
+use mathlib.Core.Path.{_≡_, refl}
 use native.Mathlib.Omega.{arith}
 use Rattle.signal.proofs.Comparing.{alike-none, alike-not, alike-more, alike-all}
-use Prim.Native.Nat.{ℕ, _-_, _≤_}
+use Prim.Native.Nat.{_-_, _≤_}
 use Rattle.signal.proofs.compare.equal_bytes.Statement.{statement}
 use Rattle.signal.proofs.compare.equal_bytes.Tie as tie
 

@@ -3,12 +3,11 @@
 use Rattle.value.specs.Digits.{number}
 use mathlib.Core.List.{reverse}
 use borrow.Author.Needs.{needs}
-use mathlib.Core.Path.{_≡_, refl, sym, ap, _∙_}
-use mathlib.Core.List.{List}
-use Prim.Native.Nat.{ℕ, _+_, _-_, _*_, _^_, _≤_, _<_}
+use mathlib.Core.Path.{_≡_}
+use Prim.Native.Nat.{_-_, _^_, _≤_, _<_}
 use native.Mathlib.Omega.{arith}
 use Rattle.signal.proofs.Comparing.{bits-start, bits-more}
-use lib.ListN.{length, drop}
+use lib.ListN.{drop}
 use denote.Ref.{now}
 use Rattle.signal.proofs.compare.real_bits.Statement.{statement}
 use Rattle.signal.proofs.compare.real_bits.Tie as tie

@@ -2,13 +2,9 @@
 -- Assumes nothing.
 use Rattle.signal.proofs.Floats.{first-nan, second-nan, equal-bits, both-zeros, unequal-bits}
 use borrow.Author.Needs.{needs}
-use mathlib.Core.Path.{_≡_, refl, sym, ap, _∙_}
+use mathlib.Core.Path.{_∙_}
 use borrow.Author.Tests.{eq-eqb, ne-eqb}
-use mathlib.Core.List.{List}
-use Prim.Native.Nat.{ℕ, _%_}
-use native.Mathlib.Omega.{arith}
-use denote.Ref.{now}
-use mathlib.Core.Bool.{true, false}
+use Prim.Native.Nat.{_%_}
 use Rattle.value.proofs.Tests.{by-eq}
 use Rattle.signal.proofs.compare.same_bits.Statement.{statement}
 use Rattle.signal.proofs.compare.same_bits.Tie as tie

@@ -1,12 +1,10 @@
 -- `signal::compare::same_codes` meets its contract: the codes passed agree.
 -- Assumes nothing.
-use lib.ListN.{length, take}
-use Prim.Native.Nat.{ℕ, _-_, _≤_}
-use borrow.Author.Needs.{needs}
-use mathlib.Core.Path.{_≡_, refl, sym, ap, _∙_}
+use lib.ListN.{take}
+use Prim.Native.Nat.{_-_, _≤_}
+use mathlib.Core.Path.{_≡_}
 use Rattle.signal.proofs.Comparing.{alike-none, alike-not, alike-more, alike-all}
 use Rattle.signal.specs.Parts.{codesAt}
-use mathlib.Core.List.{List}
 use native.Mathlib.Omega.{arith}
 use Rattle.signal.proofs.Decoding.{codes-length}
 use denote.Ref.{now}

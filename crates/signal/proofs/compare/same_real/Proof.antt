@@ -1,8 +1,7 @@
 -- `signal::compare::same_real` meets its contract.
 -- Assumes nothing.
-use denote.Ref.{now}
 use borrow.Author.Needs.{needs}
-use mathlib.Core.Path.{_≡_, refl, sym, ap, ap₂, _∙_}
+use mathlib.Core.Path.{ap₂, _∙_}
 use Prim.Native.Nat.{ℕ}
 use lib.Ieee.{eq, ofBits, binary64}
 use Rattle.signal.specs.Compare.{sameReal}

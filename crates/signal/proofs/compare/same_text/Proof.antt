@@ -1,10 +1,9 @@
 -- `signal::compare::same_text` meets its contract.
 -- Assumes nothing.
-use mathlib.Core.Path.{_≡_, refl, sym, ap, ap₂, _∙_}
+use mathlib.Core.Path.{_≡_, sym, ap, _∙_}
 use Rattle.signal.specs.Decode.{levelPart}
 use denote.Ref.{now}
 use Rattle.signal.proofs.Reading.{some, Owned}
-use Rattle.signal.specs.Parts.{Levels}
 use Rattle.signal.proofs.Comparing.{sound-owned, bytes-alike, same-length, codes-alike}
 use borrow.Author.Needs.{needs}
 use Rattle.value.specs.Level.{setAt, markOf}

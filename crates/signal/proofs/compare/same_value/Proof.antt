@@ -1,12 +1,10 @@
 -- `signal::compare::same_value` meets its contract.
 -- Assumes nothing.
-use mathlib.Core.Path.{_≡_, refl, sym, ap, ap₂, _∙_}
+use mathlib.Core.Path.{sym, ap₂, _∙_}
 use Rattle.signal.proofs.Comparing.{sound-vector, unlike-event, unlike-real, unlike-vector, unlike-width, like-vector}
 use denote.Ref.{now}
 use Rattle.fst.specs.declared.Encoding.{Encoding}
 use Rattle.signal.specs.Compare.{sameValue}
-use mathlib.Core.List.{List}
-use native.Mathlib.Omega.{arith}
 use borrow.Author.Needs.{needs}
 use Rattle.signal.proofs.compare.same_value.Statement.{statement}
 use Rattle.signal.proofs.compare.same_value.Tie as tie

@@ -1,15 +1,10 @@
 -- `signal::compare::try_entry` meets its contract.
 -- Assumes nothing.
 use borrow.Author.Needs.{needs}
-use mathlib.Core.Path.{_≡_, refl, sym, ap, _∙_}
-use Rattle.signal.proofs.Reading.{vector, some, bad-told, Owned, owned}
-use mathlib.Core.List.{List}
+use mathlib.Core.Path.{sym, _∙_}
+use Rattle.signal.proofs.Reading.{vector, some, Owned, owned}
 use Rattle.signal.proofs.Comparing.{bad-none, bad-mark, bad-code, bad-no-code}
-use native.Mathlib.Omega.{arith}
-use Rattle.fst.specs.declared.Encoding.{Encoding}
-use Rattle.signal.specs.Parts.{Levels, badNumber}
 use denote.Ref.{now}
-use Prim.Native.Nat.{ℕ}
 use Rattle.signal.proofs.compare.try_entry.Statement.{statement}
 use Rattle.signal.proofs.compare.try_entry.Tie as tie
 

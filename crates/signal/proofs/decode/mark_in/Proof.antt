@@ -2,9 +2,7 @@
 -- Assumes nothing.
 use borrow.Author.Needs.{needs}
 use denote.Ref.{now}
-use mathlib.Core.Path.{_≡_, refl, sym, ap}
-use mathlib.Core.List.{List}
-use Prim.Native.Nat.{ℕ}
+use mathlib.Core.Path.{sym, ap}
 use Rattle.value.specs.declared.States.{States}
 use Rattle.signal.specs.Decode.{markIn}
 use Rattle.signal.proofs.decode.mark_in.Statement.{statement}

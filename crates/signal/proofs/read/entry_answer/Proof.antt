@@ -1,13 +1,12 @@
 -- `signal::read::entry_answer` meets its contract.
 -- Assumes nothing.
-use Rattle.signal.specs.Decode.{hasBadMark, setIn, levelPart}
+use Rattle.signal.specs.Decode.{hasBadMark, setIn}
 use denote.Ref.{now}
 use Rattle.signal.proofs.Reading.{vector, some, bad-told, owned}
-use mathlib.Core.List.{List}
-use Rattle.signal.specs.Parts.{Whole, answerIn}
+use Rattle.signal.specs.Parts.{answerIn}
 use borrow.Author.Needs.{needs}
 use Rattle.fst.specs.declared.Encoding.{Encoding}
-use mathlib.Core.Path.{_≡_, refl, sym, ap, _∙_}
+use mathlib.Core.Path.{sym, ap, _∙_}
 use Rattle.signal.proofs.read.entry_answer.Statement.{statement}
 use Rattle.signal.proofs.read.entry_answer.Tie as tie
 

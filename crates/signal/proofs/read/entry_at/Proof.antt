@@ -5,9 +5,8 @@ use denote.Ref.{now}
 use lib.ListN.{length, take, drop}
 use native.Mathlib.Omega.{arith}
 use Prim.Native.Nat.{ℕ, _+_, _*_, _-_, _≤_}
-use mathlib.Core.List.{List}
 use borrow.Author.Needs.{needs}
-use mathlib.Core.Path.{_≡_, refl, sym, ap, _∙_}
+use mathlib.Core.Path.{_≡_, ap, _∙_}
 use Rattle.signal.specs.Decode.{entryAt}
 use Rattle.signal.proofs.read.entry_at.Statement.{statement}
 use Rattle.signal.proofs.read.entry_at.Tie as tie

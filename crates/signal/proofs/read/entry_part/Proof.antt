@@ -1,10 +1,9 @@
 -- `signal::read::entry_part` meets its contract.
 -- Assumes nothing.
-use Rattle.signal.proofs.Reading.{read-bad, read-past, read-on, inside, whole, part-on, readOn}
-use mathlib.Core.Path.{_≡_, refl, sym, ap, _∙_}
+use Rattle.signal.proofs.Reading.{read-bad, read-past, read-on, inside, whole, part-on}
+use mathlib.Core.Path.{sym, ap, _∙_}
 use Rattle.signal.specs.Decode.{entryAt}
 use denote.Ref.{now}
-use Rattle.fst.specs.Refusal.{Reply}
 use borrow.Author.Needs.{needs}
 use Rattle.signal.specs.Read.{partOf}
 use Rattle.signal.specs.Parts.{partIn}

@@ -1,13 +1,12 @@
 -- `signal::read::part_in` meets its contract.
 -- Assumes nothing.
-use Rattle.signal.specs.Decode.{hasBadMark, setIn, levelPart}
+use Rattle.signal.specs.Decode.{hasBadMark, levelPart}
 use denote.Ref.{now}
 use Rattle.signal.proofs.Reading.{vector, some, bad-told, Owned, owned}
-use mathlib.Core.List.{List}
 use borrow.Author.Needs.{needs}
-use Rattle.signal.specs.Parts.{Whole, partIn}
+use Rattle.signal.specs.Parts.{partIn}
 use Rattle.fst.specs.declared.Encoding.{Encoding}
-use mathlib.Core.Path.{_≡_, refl, sym, ap, _∙_}
+use mathlib.Core.Path.{sym, ap, _∙_}
 use Rattle.signal.proofs.read.part_in.Statement.{statement}
 use Rattle.signal.proofs.read.part_in.Tie as tie
 

@@ -1,14 +1,12 @@
 -- `signal::read::read_entry` meets its contract.
 -- Assumes nothing.
 use Rattle.signal.specs.Parts.{answerIn}
-use mathlib.Core.Path.{_≡_, refl, sym, ap, _∙_}
+use mathlib.Core.Path.{_≡_, sym, ap, _∙_}
 use Rattle.signal.specs.Decode.{entryAt}
-use Rattle.signal.specs.Read.{Entry, entryOf, partOf}
+use Rattle.signal.specs.Read.{entryOf, partOf}
 use Rattle.signal.specs.declared.EntryAnswer.{EntryAnswer}
 use denote.Ref.{now}
 use Rattle.signal.proofs.Reading.{read-bad, read-past, read-on, inside, whole, answer-on, readOn}
-use Rattle.fst.specs.Refusal.{Reply}
-use Rattle.signal.specs.declared.EntryAnswer.the-variants as answer
 use borrow.Author.Needs.{needs}
 use Rattle.signal.proofs.read.read_entry.Statement.{statement}
 use Rattle.signal.proofs.read.read_entry.Tie as tie

@@ -1,13 +1,10 @@
 -- `signal::read::read_text` meets its contract.
 -- Assumes nothing.
-use mathlib.Core.Path.{_≡_, refl, sym, ap, _∙_}
-use Rattle.signal.specs.Decode.{entryAt}
+use mathlib.Core.Path.{sym, ap, _∙_}
 use Rattle.signal.specs.Parts.{textStored}
 use denote.Ref.{now}
 use Rattle.signal.proofs.Reading.{vector, inside, whole, no-text, text-bad, text-none, text-past, text-on}
 use Prim.Native.Nat.{ℕ}
-use Rattle.fst.specs.Refusal.{Reply}
-use Rattle.fst.specs.declared.Encoding.the-variants.{BitVector}
 use mathlib.Core.List.{List}
 use borrow.Author.Needs.{needs}
 use Rattle.signal.proofs.read.read_text.Statement.{statement}

@@ -1,9 +1,8 @@
 -- `signal::read::size_of` meets its contract.
 -- Assumes nothing.
-use denote.Ref.{now}
 use borrow.Author.Needs.{needs}
 use Rattle.fst.specs.Record.{sizeOf}
-use mathlib.Core.Path.{_≡_, refl, sym, ap, _∙_}
+use mathlib.Core.Path.{sym, ap, _∙_}
 use Rattle.signal.proofs.read.size_of.Statement.{statement}
 use Rattle.signal.proofs.read.size_of.Tie as tie
 

@@ -1,18 +1,8 @@
 -- `signal::read::store_text` meets its contract.
 -- Assumes nothing.
-use Rattle.value.proofs.Slices.{overlay-length}
-use mathlib.Core.Path.{_≡_, refl, sym, ap, _∙_}
-use Rattle.signal.specs.Parts.{codesAt, Levels}
-use native.Mathlib.Omega.{arith}
-use lib.ListN.{length, length-map}
+use mathlib.Core.Path.{sym, _∙_}
+use Rattle.signal.specs.Parts.{Levels}
 use denote.Ref.{now}
-use Rattle.signal.proofs.Decoding.{codes-length}
-use Prim.Native.Nat.{ℕ, _-_, _≤_}
-use Rattle.signal.specs.Decode.{levelPart}
-use Rattle.value.specs.Level.{hasNoCode, textOf, letterOf}
-use Rattle.fst.specs.declared.Encoding.the-variants.{BitVector}
-use mathlib.Core.List.{List}
-use Rattle.value.specs.Slice.{overlay}
 use borrow.Author.Needs.{needs}
 use Rattle.signal.proofs.Reading.{some, Owned, owned, stored-mark, stored-code, stored-short, stored-all}
 use Rattle.signal.proofs.read.store_text.Statement.{statement}

@@ -1,0 +1,6 @@
+pub mod EntryLaws
+pub mod Sizes
+pub mod Entries
+pub mod EntryParts
+pub mod EntryWriting
+pub mod Expanding

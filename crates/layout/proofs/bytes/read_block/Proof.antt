@@ -1,0 +1,68 @@
+-- `layout::bytes::read_block` meets its contract. Assumes nothing.
+use mathlib.Core.Path.{_≡_, sym, ap, _∙_}
+use mathlib.Core.List.{List}
+use Prim.Native.Nat.{ℕ, _-_, _+_, _≤_, zero-le}
+use native.Mathlib.Omega.{arith}
+use denote.Ref.{now}
+use lib.ListN.{set, getD, replicate}
+use Rattle.value.specs.Slice.{part, overlay}
+use Rattle.value.proofs.Slices.{part-nil, part-length, overlay-nil}
+use Rattle.value.proofs.Backward.{copied-more, overlay-whole}
+use Rattle.layout.proofs.bytes.read_block.Statement.{statement}
+use Rattle.layout.proofs.bytes.read_block.Tie as tie
+
+abbrev Inv-loop : tie.InvT-loop
+Inv-loop «data» p block₀ i₀ block i = (i ≤ 8) × (block ≡ overlay (replicate 8 0) 0 (part p i «data»))
+
+abbrev μ-loop : tie.MeasureT-loop
+μ-loop «data» p block₀ i₀ block i = 8 - i
+
+loop-holds : tie.Need-loop-holds Inv-loop μ-loop
+loop-holds c = (zero-le, sym (rw (part-nil, overlay-nil)))
+
+add-block : tie.Need-add-block Inv-loop μ-loop
+add-block c = omega arith
+
+shared-slice-read-block : tie.Need-shared-slice-read-block Inv-loop μ-loop
+shared-slice-read-block c = omega arith
+
+array-write-block : tie.Need-array-write-block Inv-loop μ-loop
+array-write-block c = omega arith
+
+add-i : tie.Need-add-i Inv-loop μ-loop
+add-i c = omega arith
+
+loop-less : tie.Need-loop-less Inv-loop μ-loop
+loop-less c = omega arith
+
+loop-again : tie.Need-loop-again Inv-loop μ-loop
+loop-again c =
+    let a = c .before .before in
+    let x = a .before .args in
+    let d = now (x .«data») in (
+      omega arith,
+      ap (λ (l : List ℕ). set l (a .loop .i) (getD d (x .p + a .loop .i) 0)) (a .loop .inv .1)
+          ∙ ap (λ (k : ℕ). set (overlay (replicate 8 0) 0 (part (x .p) (a .loop .i) d)) k (getD d (x .p + a .loop .i) 0)) (omega arith)
+          ∙ copied-more (replicate 8 0) d 0 (x .p) (a .loop .i) 0 (omega arith) (omega arith),
+    )
+
+returns : tie.Need-returns Inv-loop μ-loop
+returns c =
+    let x = c .before .before .args in
+    let e : c .before .loop .i ≡ 8 = omega arith in
+    c .before .loop .inv .1 ∙ rw e (overlay-whole (replicate 8 0) (part (x .p) 8 (now (x .«data»))) (part-length _ _ _ (c .before .before .pre)))
+
+pub read-block-spec : {M : Type 1} → statement M
+read-block-spec =
+    tie.close
+    (tie.spec
+    Inv-loop
+    μ-loop
+    loop-holds
+    add-block
+    shared-slice-read-block
+    array-write-block
+    add-i
+    loop-less
+    loop-again
+    returns)

@@ -1,0 +1,109 @@
+// Earlier entries laid out anew when the largest set rises: `expand_entries` of wellen's src/fst.rs, in place.
+ghost use mathlib.Core.Path.{_≡_};
+ghost use Prim.Native.Nat.{_*_};
+ghost use lib.ListN.{length};
+ghost use Rattle.value.specs.Slice.{part, overlay};
+ghost use Rattle.layout.specs.Entry.{entrySize, widenAll};
+ghost use Rattle.layout.specs.Expand.{markBits, levelBits, wideningOf, moved, Movable, Widenable};
+use crate::bytes::move_up;
+use crate::entry::entry_size;
+use crate::entry::get_len_and_meta;
+use crate::entry::push_zeros;
+use value::States;
+
+const META_MASK: u8 = 192;
+
+const LEVEL_MASK: u8 = 63;
+
+// What the sets and the width say of each entry's move: its sizes, its level bytes, and the bits of a mark in its first byte and of
+// levels in its first level byte.
+pub struct Widening {
+    pub from_size: usize,
+    pub to_size: usize,
+    pub len: usize,
+    pub mark_bits: u8,
+    pub level_bits: u8,
+}
+
+// Under Two no mark is stored.
+fn mark_bits(states: States) -> u8
+    ensures { λ r. ⌜ r ≡ markBits states ⌝ }
+{
+    match states {
+        States::Two => 0,
+        States::Four => META_MASK,
+        States::Nine => META_MASK,
+    }
+}
+
+// A mark shares the first level byte where there is no meta byte.
+fn level_bits(states: States, has_meta: bool) -> u8
+    ensures { λ r. ⌜ r ≡ levelBits «has_meta» states ⌝ }
+{
+    if has_meta {
+        return 255;
+    }
+    match states {
+        States::Two => 255,
+        States::Four => LEVEL_MASK,
+        States::Nine => LEVEL_MASK,
+    }
+}
+
+fn get_widening(from: States, to: States, bits: u32) -> Widening
+    ensures { λ r. ⌜ r ≡ wideningOf bits from to ⌝ }
+{
+    let old = get_len_and_meta(from, bits);
+    let from_size = entry_size(from, bits);
+    let to_size = entry_size(to, bits);
+    let mark = mark_bits(from);
+    let level = level_bits(from, old.has_meta);
+    Widening {
+        from_size,
+        to_size,
+        len: old.len,
+        mark_bits: mark,
+        level_bits: level,
+    }
+}
+
+// Lays the entry at p out at q, from its last byte to its first. Where they overlap, what is written has been read.
+fn expand_entry(widening: Widening, data: &mut [u8], p: usize, q: usize)
+    requires { ⌜ Movable widening p q (length (now «data»)) ⌝ }
+    ensures { λ _. ⌜ now («data» .exit) ≡ overlay (now («data» .entry)) q (moved widening (part p (widening .«from_size») (now («data» .entry)))) ⌝ }
+{
+    let first = p + (widening.from_size - widening.len);
+    let at = q + (widening.to_size - widening.len);
+    let mark = data[p] & widening.mark_bits;
+    let level = data[first] & widening.level_bits;
+    move_up(data, first, at, widening.len);
+    data[at] = level;
+    push_zeros(data, q + 1, widening.to_size - 1 - widening.len);
+    data[q] = mark;
+}
+
+// From the last entry to the first: no entry is written over before it is moved.
+pub fn expand_entries(
+    from: States,
+    to: States,
+    data: &mut [u8],
+    start: usize,
+    entries: usize,
+    bits: u32,
+)
+    requires { ⌜ Widenable from to start entries bits (length (now «data»)) ⌝ }
+    ensures { λ _. ⌜ now («data» .exit) ≡ overlay (now («data» .entry)) start (widenAll bits from to entries (part start (entries * entrySize bits from) (now («data» .entry)))) ⌝ }
+{
+    let widening = get_widening(from, to, bits);
+    let from_size = widening.from_size;
+    let to_size = widening.to_size;
+    if from_size == to_size {
+        return;
+    }
+    let mut done = 0;
+    while done < entries {
+        done += 1;
+        let k = entries - done;
+        expand_entry(widening, data, start + k * from_size, start + k * to_size);
+    }
+}

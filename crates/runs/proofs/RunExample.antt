@@ -1,0 +1,48 @@
+-- A run is there: four calls over slices of different lengths, starts and other contents; one is refused, one a repeat with no room.
+-- Assumes nothing.
+use mathlib.Core.Path.{_≡_, refl}
+use mathlib.Core.Bool.{Bool, true, false}
+use Prim.Native.Nat.{ℕ}
+use Prim.Native.String.{String}
+use mathlib.Core.List.{List, [], _∷_, map}
+use Rattle.value.specs.Text.{chars}
+use Rattle.value.specs.declared.States.the-variants.{Nine}
+use Rattle.value.specs.Digits.{number, digits}
+use Rattle.value.specs.Slice.{part, overlay, same, any}
+use Rattle.value.specs.Level.{placeIn, codeOf, fold, setOf, leastOf}
+use Rattle.fst.specs.declared.Encoding.the-variants.{BitVector}
+use Rattle.fst.specs.Refusal.{tried}
+use Rattle.layout.specs.Entry.{entrySize, entryOf, markByte, unmarked, levelBytes, widenEntry, widenAll}
+use Rattle.fst.specs.Record.{keptIn, widthStands, fitsBytes, fits, isBad}
+use Rattle.fst.specs.Change.{text, isOtherKind, isOtherLength, isForeign, isBelowLast, repeats, appended, changed, refusals, stored, addChange}
+use Rattle.runs.specs.Runs.{Call, leaves, Run, freshKept, after, Fed, fed, endsLike, joined, historyOf}
+
+abbrev call : List ℕ → ℕ → List ℕ → ℕ → ℕ → String → Call
+call bytes byteStart indices indexStart i s =
+    record {
+      lent = record { bytes = bytes; byteStart = byteStart; indices = indices; indexStart = indexStart };
+      index = i;
+      change = text (chars s);
+    }
+
+abbrev calls′ : List Call
+calls′ =
+    call (9 ∷ 9 ∷ 9 ∷ []) 1 (5 ∷ 5 ∷ 5 ∷ 5 ∷ []) 2 4 "x"
+    ∷ call (0x42 ∷ []) 0 (1 ∷ 4 ∷ []) 1 3 "0"
+    ∷ call (7 ∷ 7 ∷ 0x42 ∷ []) 2 (4 ∷ []) 0 9 "X"
+    ∷ call (0x42 ∷ 0 ∷ []) 0 (4 ∷ 0 ∷ []) 0 9 "h"
+    ∷ []
+
+abbrev accepted : Fed → Bool
+accepted f = f .accepted
+
+pub there : Run (freshKept 1) calls′
+unfolding Run leaves number digits part overlay same any placeIn codeOf fold setOf leastOf tried entrySize entryOf markByte unmarked levelBytes widenEntry widenAll keptIn widthStands fitsBytes fits isBad isOtherKind isOtherLength isForeign isBelowLast repeats appended changed refusals stored addChange
+there = (refl, (refl, (refl, (refl, tt))))
+
+pub ends : (map accepted (fed (freshKept 1) calls′) ≡ true ∷ false ∷ true ∷ true ∷ [])
+    × (historyOf (fed (freshKept 1) calls′) ≡ record { index = 4; string = chars "x" } ∷ record { index = 9; string = chars "h" } ∷ [])
+    × (after (freshKept 1) calls′
+    ≡ record { description = record { encoding = BitVector 1 Nine; count = 2 }; bytes = 0x42 ∷ 0x84 ∷ []; indices = 4 ∷ 9 ∷ [] })
+unfolding after fed endsLike joined leaves number digits part overlay same any placeIn codeOf fold setOf leastOf tried entrySize entryOf markByte unmarked levelBytes widenEntry widenAll keptIn widthStands fitsBytes fits isBad isOtherKind isOtherLength isForeign isBelowLast repeats appended changed refusals stored addChange
+ends = (refl, refl, refl)

@@ -1,0 +1,246 @@
+-- After every run the record is its history laid out, and two records are equal just where their histories are. The laws of an entry are a
+-- parameter.
+-- Assumes nothing.
+use mathlib.Core.Path.{_≡_, refl, sym, ap, _∙_, subst}
+use mathlib.Core.Logic.{_↔_}
+use Prim.Native.Nat.{ℕ, suc, _≤_}
+use native.Mathlib.Omega.{arith}
+use mathlib.Core.Bool.{Bool, true, false, cond, true≢false}
+use mathlib.Core.List.{List, [], _∷_, _++_, map, foldl, map-append}
+use lib.Dec.{T, eqb}
+use lib.ListN.{length, length-map}
+use borrow.Author.Tests.{not-false, eqb-true}
+use Rattle.value.specs.declared.States.{States}
+use Rattle.value.specs.declared.States.the-variants.{Two}
+use Rattle.value.specs.Level.{fold, foldAll, codeOf, codesOf, markOf, join, leastOf}
+use Rattle.value.proofs.Digits.{Below}
+use Rattle.value.proofs.Tests.{to-T}
+use Rattle.value.proofs.Slices.{same-sound, same-by}
+use Rattle.value.proofs.Levels.{mark-inj, mark-join, all-below, under}
+use Rattle.fst.specs.declared.Description.{Description}
+use Rattle.fst.specs.Refusal.{Reply, refused, given, Outcome, outcome}
+use Rattle.layout.specs.Entry.{entryOf}
+use Rattle.fst.specs.Record.{Lent, Kept, keptIn}
+use Rattle.fst.specs.Change.{Change, text, real, isOtherKind, isOtherLength, isForeign, changed, withChange, refusals, Recorder, stored, addChange}
+use Rattle.runs.specs.Runs.{Call, called, leaves, Run, freshKept, after, Fed, isZero, fed, Pair, endsLike, joined, sameString, fedOne, historyOf, Step, entriesOf, laidOut, stepOf, largestOf, historyLaidOut, Same}
+use Rattle.layout.proofs.EntryLaws.{EntryLaws}
+use Rattle.fst.proofs.Refusals.{Passed, Result, through, stopped, result}
+use Rattle.fst.proofs.Records.{Fits, fits-room, not-bad, leftIn}
+use Rattle.runs.proofs.Joined.{Every, every-snoc, every-map, joined-map, joined-by}
+use Rattle.runs.proofs.Laid.{entryFor, sameEntry, Sound, entry-tells, equal-same, laid-same, laid-found, step-appended}
+
+-- ---- the largest set
+
+pub largest-head : (s : Step) (l : List Step) → markOf (s .set) ≤ markOf (largestOf (s ∷ l))
+unfolding largestOf
+largest-head s l = omega (arith, mark-join (s .set) (largestOf l))
+
+pub largest-tail : (s : Step) (l : List Step) → markOf (largestOf l) ≤ markOf (largestOf (s ∷ l))
+unfolding largestOf
+largest-tail s l = omega (arith, mark-join (s .set) (largestOf l))
+
+pub largest-snoc : (l : List Step) (s : Step) → largestOf (l ++ (s ∷ [])) ≡ join (largestOf l) (s .set)
+unfolding largestOf
+largest-snoc [] s = mark-inj (join (s .set) Two) (s .set) (omega (arith, mark-join (s .set) Two))
+largest-snoc (t ∷ l) s =
+    ap (join (t .set)) (largest-snoc l s)
+    ∙ mark-inj (join (t .set) (join (largestOf l) (s .set))) (join (join (t .set) (largestOf l)) (s .set))
+    (omega (
+      arith,
+      mark-join (t .set) (join (largestOf l) (s .set)),
+      mark-join (largestOf l) (s .set),
+      mark-join (join (t .set) (largestOf l)) (s .set),
+      mark-join (t .set) (largestOf l),
+    ))
+
+-- ---- a history
+
+abbrev pub leastSet : Pair → States
+leastSet p = leastOf (codesOf (p .string))
+
+abbrev pub largestSet : List Pair → States
+largestSet h = largestOf (map stepOf h)
+
+-- a string that repeats the last raises no set
+pub ends-within : (h : List Pair) (p : Pair) → T (endsLike sameString h p) → markOf (leastSet p) ≤ markOf (largestSet h)
+unfolding endsLike
+ends-within [] p t = absurd t
+ends-within (q ∷ []) p t =
+    subst (λ (x : List ℕ). markOf (leastOf (codesOf x)) ≤ markOf (largestSet (q ∷ []))) (same-sound (q .string) (p .string) t)
+    (largest-head (stepOf q) [])
+ends-within (q ∷ r ∷ h) p t = omega (arith, ends-within (r ∷ h) p t, largest-tail (stepOf q) (map stepOf (r ∷ h)))
+
+-- a pair's string is w levels in small letters
+pub record Spelt (w : ℕ) (p : Pair) : Type 0 where
+  pub long : length (codesOf (p .string)) ≡ w
+  pub letters : Below 9 (codesOf (p .string))
+
+pub spelt-sound : (w : ℕ) (M : States) (p : Pair) → Spelt w p → markOf (leastSet p) ≤ markOf M → Sound w M (stepOf p)
+spelt-sound w M p s h =
+    record { codes = record { long = s .long; below = under (codesOf (p .string)) (s .letters) }; letters = s .letters; within = h }
+
+pub all-sound : (w : ℕ) (M : States) (h : List Pair) → Every (Spelt w) h → markOf (largestSet h) ≤ markOf M
+    → Every (λ (p : Pair). Sound w M (stepOf p)) h
+all-sound w M [] g a = tt
+all-sound w M (p ∷ h) g a = (
+  spelt-sound w M p (g .0) (omega (arith, largest-head (stepOf p) (map stepOf h))),
+  all-sound w M h (g .1) (omega (arith, largest-tail (stepOf p) (map stepOf h))),
+)
+
+pub steps-sound : (w : ℕ) (M : States) (h : List Pair) → Every (Spelt w) h → markOf (largestSet h) ≤ markOf M → Every (Sound w M) (map stepOf h)
+steps-sound w M h g a =
+    every-map (λ (p : Pair). Sound w M (stepOf p)) (Sound w M) stepOf h (λ (p : Pair) (s : Sound w M (stepOf p)). s) (all-sound w M h g a)
+
+-- where a pair joins: the set that is then the largest
+pub joined-largest : (h : List Pair) (p : Pair) → join (largestSet h) (leastSet p) ≡ largestSet (joined sameString h p)
+unfolding joined
+joined-largest h p = go (endsLike sameString h p) refl
+  where
+    go : (b : Bool) → endsLike sameString h p ≡ b → join (largestSet h) (leastSet p) ≡ largestSet (cond b h (h ++ (p ∷ [])))
+    go true e =
+        mark-inj (join (largestSet h) (leastSet p)) (largestSet h)
+        (omega (arith, mark-join (largestSet h) (leastSet p), ends-within h p (to-T (endsLike sameString h p) e)))
+    go false e = sym (ap largestOf (map-append stepOf h (p ∷ [])) ∙ largest-snoc (map stepOf h) (stepOf p))
+
+joined-spelt : (w : ℕ) (h : List Pair) (p : Pair) → Every (Spelt w) h → Spelt w p → Every (Spelt w) (joined sameString h p)
+unfolding joined
+joined-spelt w h p g s = go (endsLike sameString h p)
+  where
+    go : (b : Bool) → Every (Spelt w) (cond b h (h ++ (p ∷ [])))
+    go true = g
+    go false = every-snoc (Spelt w) h p g s
+
+-- the steps of a history tell it
+abbrev pairOf : Step → Pair
+pairOf s = record { index = s .index; string = s .string }
+
+steps-tell : (h : List Pair) → map pairOf (map stepOf h) ≡ h
+steps-tell [] = refl
+steps-tell (p ∷ h) = ap (λ (l : List Pair). p ∷ l) (steps-tell h)
+
+-- ---- a call
+
+-- what a call feeds the history
+abbrev pub fedBy : Kept → Call → Fed
+fedBy k c = record { index = c .index; change = c .change; accepted = isZero ((called k c) .refused) }
+
+module _ (w : ℕ) (L : EntryLaws w) where
+  -- entries repeat just where strings do
+  joined-steps : (M : States) (h : List Pair) (p : Pair) → Every (Spelt w) h → Spelt w p
+      → markOf (largestSet h) ≤ markOf M → markOf (leastSet p) ≤ markOf M
+      → joined (sameEntry w M) (map stepOf h) (stepOf p) ≡ map stepOf (joined sameString h p)
+  joined-steps M h p g s a b =
+      joined-map stepOf (sameEntry w M) h p
+      ∙ ap (map stepOf)
+      (joined-by (λ (x y : Pair). sameEntry w M (stepOf x) (stepOf y)) sameString h p (all-sound w M h g a)
+      (λ (q : Pair) (sq : Sound w M (stepOf q)).
+      same-by (entryFor w M (stepOf q)) (entryFor w M (stepOf p)) (q .string) (p .string)
+      (λ e. (entry-tells w L M (stepOf q) (stepOf p) sq (spelt-sound w M p s b) e) .1)
+      (λ e. ap (λ (x : List ℕ). entryOf w M (leastOf (codesOf x)) (codesOf x)) e)))
+
+  -- a string joins the record as it joins the history
+  string-joins : (h : List Pair) → Every (Spelt w) h → (i : ℕ) (s : List ℕ)
+      → let p : Pair = record { index = i; string = foldAll s } in
+      Spelt w p → withChange (historyLaidOut w h) i (text s) ≡ historyLaidOut w (joined sameString h p)
+  unfolding historyLaidOut laidOut changed
+  string-joins h g i s sp =
+      let p : Pair = record { index = i; string = foldAll s } in
+      let M = largestSet h in
+      let to = join M (leastSet p) in
+      let up : markOf M ≤ markOf to = omega (arith, mark-join M (leastSet p)) in
+      let own : markOf (leastSet p) ≤ markOf to = omega (arith, mark-join M (leastSet p)) in
+      step-appended w L M to (map stepOf h) (steps-sound w M h g (omega arith)) up (stepOf p)
+      ∙ ap (laidOut w to) (joined-steps to h p g sp up own)
+      ∙ ap (λ (N : States). laidOut w N (map stepOf (joined sameString h p))) (joined-largest h p)
+
+  -- a reply and what the history makes of it agree
+  abbrev Agrees : List Pair → Lent → ℕ → Change → Outcome Recorder → Type 0
+  Agrees h l i ch o =
+      let f : Fed = record { index = i; change = ch; accepted = isZero (o .refused) } in
+      (leftIn l (o .left) ≡ historyLaidOut w (fedOne h f)) × Every (Spelt w) (fedOne h f)
+
+  refused-agrees : (h : List Pair) → Every (Spelt w) h → (l : Lent) (i : ℕ) (ch : Change)
+      → keptIn ((historyLaidOut w h) .description) l ≡ historyLaidOut w h → (n : ℕ)
+      → Agrees h l i ch (record { refused = suc n; left = record { description = (historyLaidOut w h) .description; bytes = l .bytes; indices = l .indices } })
+  refused-agrees h g l i (text s) held n = (held, g)
+  refused-agrees h g l i (real x) held n = (held, g)
+
+  given-agrees : (h : List Pair) → Every (Spelt w) h → (l : Lent) (i : ℕ) (ch : Change)
+      → let d = (historyLaidOut w h) .description in
+      keptIn d l ≡ historyLaidOut w h → Passed (refusals d l i ch)
+      → Agrees h l i ch (record { refused = 0; left = stored l (withChange (keptIn d l) i ch) })
+  unfolding refusals historyLaidOut laidOut isOtherKind isOtherLength isForeign
+  given-agrees h g l i (real x) held ps = absurd (true≢false (ps .1 .0))
+  given-agrees h g l i (text s) held ps =
+      let d = (historyLaidOut w h) .description in
+      let room : Fits d l = fits-room d l ((not-bad d l (ps .0)) .1) in
+      let p : Pair = record { index = i; string = foldAll s } in
+      let sp : Spelt w p = record {
+        long = length-map (foldAll s) codeOf ∙ length-map s fold ∙ eqb-true (length s) w (not-false (eqb (length s) w) (ps .1 .1 .0));
+        letters = all-below (codesOf (foldAll s)) (ps .1 .1 .1 .0);
+      } in
+      let h′ = joined sameString h p in (
+        ap (λ (k : Kept). leftIn l (stored l (withChange k i (text s)))) held
+            ∙ ap (λ (k : Kept). leftIn l (stored l k)) (string-joins h g i s sp)
+            ∙ laid-found w L (largestSet h′) (map stepOf h′) l (omega arith) (omega arith),
+        joined-spelt w h p g sp,
+      )
+
+  -- one call, from a record that is a history laid out
+  call-agrees : (h : List Pair) → Every (Spelt w) h → (l : Lent) (i : ℕ) (ch : Change)
+      → let d = (historyLaidOut w h) .description in
+      keptIn d l ≡ historyLaidOut w h → Agrees h l i ch (addChange d l i ch)
+  unfolding addChange refusals
+  call-agrees h g l i ch held = go (result (given (stored l (withChange (keptIn d l) i ch))) (refusals d l i ch) tt)
+    where
+      d : Description
+      d = (historyLaidOut w h) .description
+
+      old : Recorder
+      old = record { description = d; bytes = l .bytes; indices = l .indices }
+
+      go : Result (given (stored l (withChange (keptIn d l) i ch))) (refusals d l i ch) → Agrees h l i ch (addChange d l i ch)
+      go (through ps e) = subst (λ (r : Reply Recorder). Agrees h l i ch (outcome old r)) (sym e) (given-agrees h g l i ch held ps)
+      go (stopped n e) = subst (λ (r : Reply Recorder). Agrees h l i ch (outcome old r)) (sym e) (refused-agrees h g l i ch held n)
+
+  -- any calls, from a record that is a history laid out
+  layout-from : (h : List Pair) → Every (Spelt w) h → (k : Kept) → k ≡ historyLaidOut w h → (cs : List Call) → Run k cs
+      → (after k cs ≡ historyLaidOut w (foldl fedOne h (fed k cs))) × Every (Spelt w) (foldl fedOne h (fed k cs))
+  unfolding Run after fed leaves
+  layout-from h g k e [] r = (e, g)
+  layout-from h g k e (c ∷ cs) r =
+      let st = subst (λ (x : Kept). keptIn (x .description) (c .lent) ≡ x → Agrees h (c .lent) (c .index) (c .change) (called x c)) (sym e)
+      (call-agrees h g (c .lent) (c .index) (c .change)) (r .0) in
+      layout-from (fedOne h (fedBy k c)) (st .1) (leaves k c) (st .0) cs (r .1)
+
+  from-fresh : (cs : List Call) → Run (freshKept w) cs
+      → let h = historyOf (fed (freshKept w) cs) in
+      (after (freshKept w) cs ≡ historyLaidOut w h) × Every (Spelt w) h
+  unfolding historyLaidOut laidOut largestOf entriesOf
+  from-fresh cs r = layout-from [] tt (freshKept w) refl cs r
+
+  -- after every run the record is its history laid out
+  pub layout : (cs : List Call) → Run (freshKept w) cs → after (freshKept w) cs ≡ historyLaidOut w (historyOf (fed (freshKept w) cs))
+  layout cs r = (from-fresh cs r) .0
+
+  -- and each string of the history is w levels in small letters
+  pub spelt : (cs : List Call) → Run (freshKept w) cs → Every (Spelt w) (historyOf (fed (freshKept w) cs))
+  spelt cs r = (from-fresh cs r) .1
+
+  -- two histories laid out are equal records only where they are equal
+  history-same : (h g : List Pair) → Every (Spelt w) h → Every (Spelt w) g → Same (historyLaidOut w h) (historyLaidOut w g) → h ≡ g
+  unfolding historyLaidOut
+  history-same h g a b s =
+      sym (steps-tell h)
+      ∙ ap (map pairOf)
+      ((laid-same w L (largestSet h) (largestSet g) (map stepOf h) (map stepOf g)
+      (steps-sound w (largestSet h) h a (omega arith)) (steps-sound w (largestSet g) g b (omega arith)) s) .1)
+      ∙ steps-tell g
+
+  pub demand3 : (xs ys : List Call) → Run (freshKept w) xs → Run (freshKept w) ys
+      → Same (after (freshKept w) xs) (after (freshKept w) ys) ↔ (historyOf (fed (freshKept w) xs) ≡ historyOf (fed (freshKept w) ys))
+  demand3 xs ys r q = (
+    (λ s. history-same (historyOf (fed (freshKept w) xs)) (historyOf (fed (freshKept w) ys)) (spelt xs r) (spelt ys q)
+        (rw (← layout xs r, ← layout ys q) s)),
+    (λ e. equal-same (after (freshKept w) xs) (after (freshKept w) ys) (layout xs r ∙ ap (historyLaidOut w) e ∙ sym (layout ys q))),
+  )

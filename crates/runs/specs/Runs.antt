@@ -1,0 +1,140 @@
+-- Document 01, "Runs and histories, for demand 3".
+-- Assumes nothing.
+use Prim.Native.Nat.{ℕ, zero, suc}
+use mathlib.Core.Path.{_≡_}
+use mathlib.Core.Bool.{Bool, true, false, cond}
+use mathlib.Core.List.{List, [], _∷_, _++_, map, foldl}
+use lib.ListN.{length}
+use Rattle.value.specs.declared.States.{States}
+use Rattle.value.specs.declared.States.the-variants.{Two}
+use Rattle.value.specs.Slice.{same}
+use Rattle.value.specs.Level.{foldAll, codesOf, leastOf, join}
+use Rattle.fst.specs.declared.Encoding.the-variants.{BitVector}
+use Rattle.fst.specs.Refusal.{Outcome}
+use Rattle.layout.specs.Entry.{entryOf}
+use Rattle.fst.specs.Record.{Lent, Kept, largestIn, keptIn, empty}
+use Rattle.fst.specs.Change.{Change, text, real, Recorder, addChange}
+
+-- ---- a run
+
+-- one change of a run, with the slices lent for it
+pub record Call : Type 0 where
+  pub lent : Lent
+  pub index : ℕ
+  pub change : Change
+
+abbrev pub called : Kept → Call → Outcome Recorder
+called k c = addChange (k .description) (c .lent) (c .index) (c .change)
+
+-- the record that a call leaves in its slices
+unfoldable pub leaves : Kept → Call → Kept
+leaves k c =
+    let r = (called k c) .left in
+    keptIn (r .description)
+    (record { bytes = r .bytes; byteStart = c .lent .byteStart; indices = r .indices; indexStart = c .lent .indexStart })
+
+-- "Each change gets the description that the one before it handed back, .. and two lent slices that hold the used part as that call left it"
+unfoldable pub Run : Kept → List Call → Type 0
+Run k [] = Unit
+Run k (c ∷ cs) = (keptIn (k .description) (c .lent) ≡ k) × Run (leaves k c) cs
+
+-- "A run starts with the description that Fresh gives for a width of 1 to 4,096"
+abbrev pub freshKept : ℕ → Kept
+freshKept w = record { description = empty (BitVector w Two); bytes = []; indices = [] }
+
+-- the record after a run
+unfoldable pub after : Kept → List Call → Kept
+after k [] = k
+after k (c ∷ cs) = after (leaves k c) cs
+
+-- ---- its history
+
+-- "It is fed the index and the string or real of each change of the run, and whether the change was accepted"
+pub record Fed : Type 0 where
+  pub index : ℕ
+  pub change : Change
+  pub accepted : Bool
+
+abbrev pub isZero : ℕ → Bool
+isZero zero = true
+isZero (suc n) = false
+
+unfoldable pub fed : Kept → List Call → List Fed
+fed k [] = []
+fed k (c ∷ cs) =
+    record { index = c .index; change = c .change; accepted = isZero ((called k c) .refused) } ∷ fed (leaves k c) cs
+
+-- "the pair of index and string"
+pub record Pair : Type 0 where
+  pub index : ℕ
+  pub string : List ℕ
+
+-- does a list end in an element that is like x
+unfoldable pub endsLike : {A : Type 0} → (A → A → Bool) → List A → A → Bool
+endsLike like [] x = false
+endsLike like (p ∷ []) x = like p x
+endsLike like (p ∷ q ∷ l) x = endsLike like (q ∷ l) x
+
+-- "Where it equals the last .., nothing alters; else .. joins at the end"
+unfoldable pub joined : {A : Type 0} → (A → A → Bool) → List A → A → List A
+joined like l x = cond (endsLike like l x) l (l ++ (x ∷ []))
+
+abbrev pub sameString : Pair → Pair → Bool
+sameString p q = same (p .string) (q .string)
+
+-- "A refused change alters nothing. The string of an accepted change is folded to small letters." No real is accepted.
+abbrev pub fedOne : List Pair → Fed → List Pair
+fedOne h f = go (f .change) (f .accepted)
+  where
+    go : Change → Bool → List Pair
+    go (text s) true = joined sameString h (record { index = f .index; string = foldAll s })
+    go (text s) false = h
+    go (real x) accepted = h
+
+-- "A list of pairs, empty at first"
+abbrev pub historyOf : List Fed → List Pair
+historyOf fs = foldl fedOne [] fs
+
+-- ---- a list laid out
+
+-- an index, a string in small letters and its own set
+pub record Step : Type 0 where
+  pub index : ℕ
+  pub string : List ℕ
+  pub set : States
+
+abbrev pub indexOf : Step → ℕ
+indexOf s = s .index
+
+-- "the used bytes are the strings' entries in order under that set, each with its .. own set"
+unfoldable pub entriesOf : ℕ → States → List Step → List ℕ
+entriesOf w M [] = []
+entriesOf w M (s ∷ l) = entryOf w M (s .set) (codesOf (s .string)) ++ entriesOf w M l
+
+-- "The count is the number of pairs, the time indices are theirs in order"
+unfoldable pub laidOut : ℕ → States → List Step → Kept
+laidOut w M l =
+    record {
+      description = record { encoding = BitVector w M; count = length l };
+      bytes = entriesOf w M l;
+      indices = map indexOf l;
+    }
+
+-- "each with its string's least set as its own set"
+abbrev pub stepOf : Pair → Step
+stepOf p = record { index = p .index; string = p .string; set = leastOf (codesOf (p .string)) }
+
+-- "the largest set is the largest of the strings' least sets, or Two with no pair"
+unfoldable pub largestOf : List Step → States
+largestOf [] = Two
+largestOf (s ∷ l) = join (s .set) (largestOf l)
+
+-- "After every run the record is its history laid out"
+unfoldable pub historyLaidOut : ℕ → List Pair → Kept
+historyLaidOut w h = laidOut w (largestOf (map stepOf h)) (map stepOf h)
+
+-- "Two records are equal in the sense of demand 3 when their time indices, their used bytes and their largest sets are equal"
+pub record Same (k l : Kept) : Type 0 where
+  pub indices : k .indices ≡ l .indices
+  pub bytes : k .bytes ≡ l .bytes
+  pub largest : largestIn (k .description .encoding) ≡ largestIn (l .description .encoding)
