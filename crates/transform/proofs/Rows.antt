@@ -21,10 +21,9 @@ use Rattle.signal.specs.Decode.{entryAt, entriesFrom, markIn, setIn, levelPart,
 use Rattle.signal.specs.Read.{hasNoText}
 use Rattle.signal.specs.Offset.{falls}
 use Rattle.signal.proofs.Rows as sought
-use Rattle.transform.specs.declared.DerivedBitVecSignal.{DerivedBitVecSignal}
 use Rattle.transform.specs.declared.Input.{Input}
 use Rattle.transform.specs.declared.Inputs.{Inputs}
-use Rattle.transform.specs.Piece.{packedOf, extractOf, isBadPiece, isBadDerivation, adjoin, merging, left, pieceAdded, nameAdded, derivationWith, isBadRange, isOverfull, addPiece}
+use Rattle.transform.specs.Piece.{packedOf, extractOf, isBadPiece, isBadDerivation, adjoin, merging, pieceAdded, nameAdded, derivationWith, isBadRange, isOverfull, addPiece, emptyDerivation, sliceOf}
 use Rattle.transform.specs.Steps.{smallest, moved, momentsFrom, momentsOf}
 use Rattle.transform.specs.Derive.{picked, largestShown, derivedList, largestAmong, isUnfit, deriveRefusals, Derived, derive}
 
@@ -36,9 +35,6 @@ record Sliced : Type 0 where
   msb : ℕ
   lsb : ℕ
   makes : Kept
-
-noPiece : DerivedBitVecSignal
-noPiece = record { width = 0; «input_count» = 0; inputs = replicate 8 0; «piece_count» = 0; bits = replicate 64 0 }
 
 input : Recorder → Input
 input r = record { description = r .description; «byte_start» = (lentBy r) .byteStart; «index_start» = (lentBy r) .indexStart }
@@ -61,7 +57,7 @@ front k =
 Slices : Sliced → Type 0
 Slices s =
     let r = source (s .of) in
-    let d = addPiece noPiece left 7 (s .msb) (s .lsb) in
+    let d = sliceOf 7 (s .msb) (s .lsb) in
     written.Holds (s .of)
     × (d .refused ≡ 0)
     × (derive (d .left) (alone (input r)) (r .bytes) (r .indices) (replicate 5 0xDD) (replicate 5 90) ≡ front (s .makes))
@@ -81,7 +77,7 @@ twelfth =
     }
 
 twelfth-holds : Slices twelfth
-unfolding noPiece input alone source front Slices written.around written.lentBy written.Follows written.Holds written.played number digits part overlay same any sum placeIn codeOf letterOf fold setOf leastOf tried entrySize entryOf widenEntry widenAll keptIn widthStands fitsBytes fits isBad fresh isOtherKind isOtherLength isForeign isBelowLast repeats appended changed refusals stored addChange endsLike joined entriesOf laidOut entryAt entriesFrom markIn setIn levelPart levelsIn hasBadMark hasNoText falls packedOf extractOf isBadPiece isBadDerivation adjoin merging pieceAdded nameAdded derivationWith isBadRange isOverfull addPiece smallest moved momentsFrom momentsOf picked largestShown derivedList largestAmong isUnfit deriveRefusals derive
+unfolding input alone source front Slices written.around written.lentBy written.Follows written.Holds written.played number digits part overlay same any sum placeIn codeOf letterOf fold setOf leastOf tried entrySize entryOf widenEntry widenAll keptIn widthStands fitsBytes fits isBad fresh isOtherKind isOtherLength isForeign isBelowLast repeats appended changed refusals stored addChange endsLike joined entriesOf laidOut entryAt entriesFrom markIn setIn levelPart levelsIn hasBadMark hasNoText falls packedOf extractOf isBadPiece isBadDerivation adjoin merging pieceAdded nameAdded derivationWith isBadRange isOverfull addPiece emptyDerivation smallest moved momentsFrom momentsOf picked largestShown derivedList largestAmong isUnfit deriveRefusals derive
 twelfth-holds = ((refl, (refl, tt)), refl, refl)
 
 -- ---- the list

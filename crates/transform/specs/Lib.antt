@@ -1,3 +1,4 @@
 pub mod Piece
+pub mod Answer
 pub mod Steps
 pub mod Derive

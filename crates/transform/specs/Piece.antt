@@ -4,13 +4,14 @@ use Prim.Native.Nat.{ℕ, zero, suc, _+_, _-_, _*_, _^_, _/_, _%_}
 use mathlib.Core.Bool.{Bool, cond, not, _&&_, _||_}
 use mathlib.Core.List.{List, [], _∷_, _++_, map}
 use lib.Dec.{eqb, leb, ltb}
-use lib.ListN.{length, take}
+use lib.ListN.{length, take, replicate}
 use Rattle.value.specs.Slice.{overlay, any, sum}
 use Rattle.value.specs.Level.{placeIn}
-use Rattle.fst.specs.Refusal.{_⇐_, given, tried, Outcome, outcome}
+use Rattle.fst.specs.Refusal.{numberOf, _⇐_, refused, given, tried, Outcome, outcome}
 use Rattle.fst.specs.Record.{maxWidth}
 use Rattle.transform.specs.declared.Extract.{Extract}
 use Rattle.transform.specs.declared.DerivedBitVecSignal.{DerivedBitVecSignal}
+use Rattle.transform.specs.declared.Joined.{Joined}
 
 -- "At most 8 inputs .. and 64 pieces"
 abbrev pub maxInputs : ℕ
@@ -112,3 +113,25 @@ addPiece d side name msb lsb =
     ∷ 13 ⇐ isOverfull names pieces
     ∷ [])
     (given (derivationWith d names pieces)))
+
+-- what an answer of Add a piece leaves
+abbrev pub joinedOf : Joined → Outcome DerivedBitVecSignal
+joinedOf j = record { refused = numberOf (j .verdict); left = j .next }
+
+-- the derivation of no piece
+unfoldable pub emptyDerivation : DerivedBitVecSignal
+emptyDerivation =
+    record { width = 0; «input_count» = 0; inputs = replicate maxInputs 0; «piece_count» = 0; bits = replicate maxPieces 0 }
+
+-- Add a piece of all wires of an input; no wires add nothing, and 14 is tried all the same
+unfoldable pub addFull : DerivedBitVecSignal → Side → ℕ → ℕ → Outcome DerivedBitVecSignal
+addFull d side name zero = outcome d (tried (14 ⇐ isBadDerivation d ∷ []) (given d))
+addFull d side name (suc w) = addPiece d side name w 0
+
+-- a slice of an input by itself, and all wires of an input; an input of no wires has no bits msb to lsb, and is 12
+abbrev pub sliceOf : ℕ → ℕ → ℕ → Outcome DerivedBitVecSignal
+sliceOf name msb lsb = addPiece emptyDerivation left name msb lsb
+
+unfoldable pub identityOf : ℕ → ℕ → Outcome DerivedBitVecSignal
+identityOf name zero = outcome emptyDerivation (refused 12)
+identityOf name (suc w) = sliceOf name w 0

@@ -2,6 +2,9 @@
 use fst::Description;
 use fst::Verdict;
 
+pub mod derivation;
+pub mod piece;
+
 // One piece of a derivation: `width` wires of input number `signal` from bit `lsb` up.
 pub struct Extract {
     pub signal: u16,
@@ -22,6 +25,18 @@ pub struct DerivedBitVecSignal {
 pub struct Joined {
     pub verdict: Verdict,
     pub next: DerivedBitVecSignal,
+}
+
+// The number of an input by its name.
+pub enum InputNumber {
+    At(u16),
+    Missing,
+}
+
+// Where a piece joins a derivation: Left is the most significant side.
+pub enum Side {
+    Left,
+    Right,
 }
 
 // An input record by its description and where it starts in the two slices that all inputs share.

@@ -1,0 +1,22 @@
+-- `transform::DerivedBitVecSignal::new_slice` meets its contract.
+-- Assumes nothing.
+use mathlib.Core.Path.{ap, _∙_}
+use borrow.Author.Needs.{needs}
+use Rattle.transform.specs.Piece.{left, addPiece}
+use Rattle.transform.specs.declared.DerivedBitVecSignal.{DerivedBitVecSignal}
+use Rattle.transform.proofs.DerivedBitVecSignal.new_slice.Statement.{statement}
+use Rattle.transform.proofs.DerivedBitVecSignal.new_slice.Tie as tie
+
+empty-requires : tie.Need-empty-requires
+empty-requires c κs = search needs
+
+concat-left-requires : tie.Need-concat-left-requires
+concat-left-requires c κs = search needs
+
+returns : tie.Need-returns
+returns c =
+    let a = c .before .before .args in
+    c .concat-left .ensures ∙ ap (λ (d : DerivedBitVecSignal). addPiece d left (a .signal) (a .msb) (a .lsb)) (c .before .empty .ensures)
+
+pub new-slice-spec : {M : Type 1} → statement M
+new-slice-spec = tie.close (tie.spec empty-requires concat-left-requires returns)
