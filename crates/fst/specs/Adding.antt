@@ -1,4 +1,4 @@
--- What the inner functions of Add a change ask.
+-- Inner: what the functions of which Add a change is made ask.
 -- Assumes nothing.
 use Prim.Native.Nat.{ℕ, _+_, _*_, _≤_}
 use mathlib.Core.Path.{_≡_}

@@ -11,11 +11,11 @@ use lib.Pow.{pow-add, pow-mono}
 use lib.ListN.{length, drop, getD, replicate}
 use Rattle.value.specs.declared.States.{States}
 use Rattle.value.specs.declared.States.the-variants.{Two, Four, Nine}
-use Rattle.value.specs.Digits.{number, digits}
+use Rattle.value.specs.Digits.{number, digits, Below}
 use Rattle.value.specs.Level.{markOf, bitsOf, lenOf}
 use Rattle.value.proofs.Tests.{by-eq}
 use Rattle.value.proofs.Levels.{mark-inj, mark-small, bits-up, len-room}
-use Rattle.value.proofs.Digits.{Below, pow-pow, number-lt, number-inj, digits-length, base-pos, digits-below, digits-inj, digits-high, digits-zeros}
+use Rattle.value.proofs.Digits.{pow-pow, number-lt, number-inj, digits-length, base-pos, digits-below, digits-inj, digits-high, digits-zeros}
 use Rattle.layout.specs.Entry.{hasMeta, entrySize, entryOf, markByte, unmarked, levelBytes, widenEntry}
 use Rattle.layout.proofs.Sizes.{Marked, size-by, size-pos, len-pos, mark-bits, mark-room, widen-same, widen-moved}
 use Rattle.layout.proofs.EntryLaws.{Codes, EntryLaws}

@@ -6,7 +6,7 @@ use mathlib.Core.List.{List}
 use lib.ListN.{length}
 use Rattle.value.specs.declared.States.{States}
 use Rattle.value.specs.Level.{markOf, bitsOf}
-use Rattle.value.proofs.Digits.{Below}
+use Rattle.value.specs.Digits.{Below}
 use Rattle.layout.specs.Entry.{entrySize, entryOf, widenEntry}
 
 -- w codes, each of as many bits as a set has

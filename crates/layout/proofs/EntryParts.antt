@@ -10,9 +10,9 @@ use lib.ListN.{length, replicate}
 use lib.Pow.{pow-add, pow-mono}
 use Rattle.value.specs.declared.States.{States}
 use Rattle.value.specs.declared.States.the-variants.{Two, Four, Nine}
-use Rattle.value.specs.Digits.{number, digits}
+use Rattle.value.specs.Digits.{number, digits, Below}
 use Rattle.value.specs.Level.{markOf, bitsOf, lenOf}
-use Rattle.value.proofs.Digits.{Below, pow-pow, number-lt, digits-high, digits-zeros}
+use Rattle.value.proofs.Digits.{pow-pow, number-lt, digits-high, digits-zeros}
 use Rattle.value.proofs.Levels.{mark-small, len-bits, len-room, len-up}
 use Rattle.wavemem.specs.Packed.{packedWith}
 use Rattle.layout.specs.Entry.{entrySize, entryOf}

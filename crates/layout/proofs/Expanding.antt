@@ -14,7 +14,8 @@ use Rattle.value.specs.declared.States.{States}
 use Rattle.value.specs.declared.States.the-variants.{Two, Four, Nine}
 use Rattle.value.specs.Slice.{part, overlay}
 use Rattle.value.specs.Level.{markOf, lenOf}
-use Rattle.value.proofs.Digits.{Below, below-at, below-take, below-drop}
+use Rattle.value.specs.Digits.{Below}
+use Rattle.value.proofs.Digits.{below-at, below-take, below-drop}
 use Rattle.value.proofs.Slices.{part-length, part-at, overlay-nil}
 use Rattle.value.proofs.Backward.{part-cons, take-part, drop-part, part-before, overlay-front, store-front, store-first}
 use Rattle.layout.specs.declared.expand.Widening.{Widening}

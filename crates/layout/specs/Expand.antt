@@ -1,4 +1,4 @@
--- How widening moves one entry, by sizes and bits alone.
+-- Inner: how widening moves one entry, by sizes and bits alone.
 -- Assumes nothing.
 use Prim.Native.Nat.{ℕ, _+_, _-_, _*_, _≤_, _<_}
 use mathlib.Core.Bool.{Bool, cond}

@@ -1,4 +1,4 @@
--- What writing an entry and comparing one ask.
+-- Inner: what writing an entry and comparing one ask.
 -- Assumes nothing.
 use Prim.Native.Nat.{ℕ, _+_, _≤_}
 use mathlib.Core.List.{List}

@@ -11,7 +11,7 @@ use lib.Seq.{take-at, drop-at, drop-append-add}
 use Rattle.value.specs.declared.States.{States}
 use Rattle.value.specs.Level.{codesOf, markOf}
 use Rattle.value.specs.Slice.{same, part}
-use Rattle.value.proofs.Digits.{Below}
+use Rattle.value.specs.Digits.{Below}
 use Rattle.value.proofs.Levels.{codes-inj}
 use Rattle.value.proofs.Slices.{part-overlay}
 use Rattle.fst.specs.declared.Encoding.the-variants.{BitVector}

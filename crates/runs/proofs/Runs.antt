@@ -13,7 +13,7 @@ use borrow.Author.Tests.{not-false, eqb-true}
 use Rattle.value.specs.declared.States.{States}
 use Rattle.value.specs.declared.States.the-variants.{Two}
 use Rattle.value.specs.Level.{fold, foldAll, codeOf, codesOf, markOf, join, leastOf}
-use Rattle.value.proofs.Digits.{Below}
+use Rattle.value.specs.Digits.{Below}
 use Rattle.value.proofs.Tests.{to-T}
 use Rattle.value.proofs.Slices.{same-sound, same-by}
 use Rattle.value.proofs.Levels.{mark-inj, mark-join, all-below, under}

@@ -12,11 +12,11 @@ use lib.Seq.{take-suc}
 use borrow.Author.Tests.{lt-ltb, le-ltb, le-leb, lt-leb}
 use Rattle.value.specs.declared.States.{States}
 use Rattle.value.specs.declared.States.the-variants.{Two, Four, Nine}
-use Rattle.value.specs.Digits.{number}
+use Rattle.value.specs.Digits.{number, Below}
 use Rattle.value.specs.Slice.{any, overlay}
 use Rattle.value.specs.Level.{markOf, bitsOf, setAt, letterOf, isNoCode, hasNoCode, textOf}
 use Rattle.value.specs.Answer.{levelAt, LevelIn}
-use Rattle.value.proofs.Digits.{Below, digits-length, digits-at, digits-below}
+use Rattle.value.proofs.Digits.{digits-length, digits-at, digits-below}
 use Rattle.value.proofs.Levels.{len-room, none-foreign}
 use Rattle.value.proofs.Tests.{or-both}
 use Rattle.value.proofs.Slices.{any-at, any-snoc, overlay-store}

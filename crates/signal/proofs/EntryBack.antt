@@ -11,9 +11,9 @@ use lib.Pow.{pow-add, pow-mono}
 use borrow.Author.Tests.{le-ltb}
 use Rattle.value.specs.declared.States.{States}
 use Rattle.value.specs.declared.States.the-variants.{Two, Four, Nine}
-use Rattle.value.specs.Digits.{number, digits}
+use Rattle.value.specs.Digits.{number, digits, Below}
 use Rattle.value.specs.Level.{markOf, bitsOf, lenOf, setAt, codesOf}
-use Rattle.value.proofs.Digits.{Below, pow-pow, base-pos, number-lt, number-append, number-digits, digits-number, digits-high}
+use Rattle.value.proofs.Digits.{pow-pow, base-pos, number-lt, number-append, number-digits, digits-number, digits-high}
 use Rattle.value.proofs.Tests.{by-le}
 use Rattle.value.proofs.Levels.{bits-up, mark-small, set-mark, len-room, none-foreign, text-codes}
 use Rattle.fst.specs.declared.Encoding.the-variants.{BitVector}

@@ -1,4 +1,4 @@
--- The steps by which an entry is decoded, tried and compared, for the functions that share them.
+-- Inner: the steps by which an entry is decoded, tried and compared, for the functions that share them.
 -- Assumes nothing.
 use Prim.Native.Nat.{ℕ, _+_, _*_, _^_, _≤_}
 use mathlib.Core.Path.{_≡_}

@@ -1,4 +1,4 @@
--- What the searches of Look up find and need, for its inner functions.
+-- Inner: what the searches of Look up find and need.
 -- Assumes nothing.
 use mathlib.Core.Path.{_≡_}
 use Prim.Native.Nat.{ℕ, _≤_, _<_}

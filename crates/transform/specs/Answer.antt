@@ -1,4 +1,4 @@
--- The answers of the functions that Add a piece is made of.
+-- Inner: the answers of the functions of which Add a piece is made.
 -- Assumes nothing.
 use mathlib.Core.Path.{_≡_}
 use Prim.Native.Nat.{ℕ, _+_, _≤_, _<_}

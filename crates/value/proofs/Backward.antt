@@ -9,7 +9,8 @@ use native.Mathlib.Omega.{arith}
 use lib.ListN.{length, take, drop, getD, set, length-append, length-drop, take-append-drop}
 use lib.Seq.{set-at, take-append-le, drop-append-le, take-take, take-at, drop-at, drop-cons, drop-length, length-take-le}
 use Rattle.value.specs.Slice.{part, overlay}
-use Rattle.value.proofs.Digits.{Below, below-take, below-drop}
+use Rattle.value.specs.Digits.{Below}
+use Rattle.value.proofs.Digits.{below-take, below-drop}
 use Rattle.value.proofs.Slices.{part-length, part-add, part-nil, overlay-length, overlay-one, overlay-store}
 
 pub below-part : (B : ℕ) (ds : List ℕ) → Below B ds → (start n : ℕ) → Below B (part start n ds)

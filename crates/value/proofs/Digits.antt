@@ -10,12 +10,7 @@ use lib.ListN.{length, getD, take, drop, replicate, length-append, length-drop, 
 use lib.Seq.{take-suc}
 use lib.Pow.{pow-add}
 use lib.Arith.{digits-lt, digits-div, digits-mod, mod-mul}
-use Rattle.value.specs.Digits.{number, digits}
-
--- each digit is below B
-abbrev pub Below : ℕ → List ℕ → Type 0
-Below B [] = Unit
-Below B (d ∷ ds) = (d < B) × Below B ds
+use Rattle.value.specs.Digits.{number, digits, Below}
 
 pub below-at : (B : ℕ) (ds : List ℕ) → Below B ds → (i d : ℕ) → i < length ds → getD ds i d < B
 below-at B [] h i d k = absurd (not-suc-le-zero k)

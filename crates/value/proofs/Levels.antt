@@ -22,7 +22,7 @@ use Rattle.value.specs.Level.{letters, placeIn, codeOf, letterOf, fold, 
 use Rattle.value.specs.Answer.{charCode, leastStates}
 use Rattle.value.proofs.Tests.{or-left, or-right, or-both, by-le, at-below}
 use Rattle.value.proofs.Slices.{any-at}
-use Rattle.value.proofs.Digits.{Below}
+use Rattle.value.specs.Digits.{Below}
 
 -- ---- marks
 

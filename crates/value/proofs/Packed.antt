@@ -11,10 +11,10 @@ use lib.Bits.{bitAnd, bitOr, and-mask, and-block, and-high, or-block, or-shifted
 use lib.Pow.{pow-add, pow-pos, field, mod-mod-pow, shl-exact, shr-lt, split, recompose, ones-lt, ones-split, high-ones}
 use Rattle.value.specs.declared.States.{States}
 use Rattle.value.specs.declared.States.the-variants.{Two, Four, Nine}
-use Rattle.value.specs.Digits.{number, digits}
+use Rattle.value.specs.Digits.{number, digits, Below}
 use Rattle.value.specs.Level.{bitsOf}
 use Rattle.value.specs.Answer.{levelAt, withLevel, firstByteMask, LevelIn}
-use Rattle.value.proofs.Digits.{Below, below-at, pow-pow, number-at, digits-length, digits-at, digits-below, number-digits, digits-number, number-lt, base-pos}
+use Rattle.value.proofs.Digits.{below-at, pow-pow, number-at, digits-length, digits-at, digits-below, number-digits, digits-number, number-lt, base-pos}
 use Rattle.value.proofs.Levels.{bits-pos}
 
 -- ---- bits of levels

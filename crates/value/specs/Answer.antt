@@ -1,4 +1,4 @@
--- The answers of the functions on characters, by document 01's codes and sets.
+-- Inner: the answers of the functions on characters and levels, by document 01's codes and sets.
 -- Assumes nothing.
 use Prim.Native.Nat.{ℕ, _+_, _-_, _*_, _^_, _/_, _%_, _≤_}
 use mathlib.Core.Bool.{cond}

@@ -16,13 +16,13 @@ use lib.Pow.{pow-add, pow-pos, pow-mono, shl-exact}
 use lib.Arith.{digits-mod}
 use Rattle.value.specs.declared.States.{States}
 use Rattle.value.specs.declared.States.the-variants.{Two, Four, Nine}
-use Rattle.value.specs.Digits.{number, digits}
+use Rattle.value.specs.Digits.{number, digits, Below}
 use Rattle.value.specs.Slice.{part, overlay, same}
 use Rattle.value.specs.Level.{placeIn, fold, foldAll, codeOf, codesOf, bitsOf, lenOf}
 use Rattle.value.proofs.Tests.{by-le, at-below}
 use Rattle.value.proofs.Slices.{part-length, part-at, overlay-nil, overlay-store}
 use Rattle.value.proofs.Levels.{len-bits}
-use Rattle.value.proofs.Digits.{Below, below-at, below-drop, pow-pow, number-lt, number-append, number-more, number-prefix, digits-at, digits-length, base-pos}
+use Rattle.value.proofs.Digits.{below-at, below-drop, pow-pow, number-lt, number-append, number-more, number-prefix, digits-at, digits-length, base-pos}
 use Rattle.wavemem.proofs.Compare.{same-is, same-not}
 use Rattle.wavemem.specs.Packed.{packedWith, packedFrom, perByte, OneByte, Packable}
 

@@ -1,13 +1,12 @@
--- Document 01, "An entry": levels packed into bytes.
+-- Inner: levels packed into bytes, as in document 01, "An entry".
 -- Assumes nothing.
 use Prim.Native.Nat.{ℕ, _+_, _-_, _*_, _^_, _/_, _%_, _≤_, _<_}
 use mathlib.Core.Path.{_≡_}
 use mathlib.Core.List.{List}
 use lib.ListN.{length}
 use Rattle.value.specs.declared.States.{States}
-use Rattle.value.specs.Digits.{number, digits}
+use Rattle.value.specs.Digits.{number, digits, Below}
 use Rattle.value.specs.Level.{foldAll, codesOf, bitsOf, lenOf}
-use Rattle.value.proofs.Digits.{Below}
 
 -- "Levels are packed first character highest, last character in the lowest bits of the last byte, unused high bits zero", b bits each, with
 -- meta data in the top of the first byte

@@ -27,10 +27,10 @@ use Rattle.value.specs.Level.{placeIn, codeOf, letterOf, fold, setOf, leastOf}
 use Rattle.fst.specs.declared.Encoding.the-variants.{Event, Real, BitVector}
 use Rattle.fst.specs.declared.Description.{Description}
 use Rattle.fst.specs.Refusal.{Reply, refused, given, tried, Outcome}
-use Rattle.fst.specs.Entry.{entrySize, entryOf, markByte, unmarked, levelBytes, widenEntry, widenAll}
+use Rattle.layout.specs.Entry.{entrySize, entryOf, markByte, unmarked, levelBytes, widenEntry, widenAll}
 use Rattle.fst.specs.Record.{keptIn, widthStands, fitsBytes, fits, isBadBytes, isBad, fresh}
 use Rattle.fst.specs.Change.{text, real, isOtherKind, isOtherLength, isForeign, isBelowLast, repeats, appended, changed, refusals, Recorder, stored, addChange}
-use Rattle.fst.specs.Runs.{endsLike, joined, entriesOf, laidOut}
+use Rattle.runs.specs.Runs.{endsLike, joined, entriesOf, laidOut}
 use Rattle.signal.specs.declared.Kind.the-variants as kind
 use Rattle.signal.specs.declared.NextIndex.the-variants.{Absent, At}
 use Rattle.signal.specs.Decode.{entryAt, entriesFrom, markIn, setIn, levelPart, levelsIn, hasBadMark}

@@ -8,7 +8,8 @@ use borrow.Author.Needs.{needs}
 use denote.Ref.{now}
 use lib.ListN.{length}
 use Rattle.value.specs.Slice.{part, overlay}
-use Rattle.value.proofs.Digits.{Below, below-all}
+use Rattle.value.specs.Digits.{Below}
+use Rattle.value.proofs.Digits.{below-all}
 use Rattle.value.proofs.Slices.{part-length, overlay-part}
 use Rattle.value.proofs.Backward.{below-part}
 use Rattle.layout.specs.declared.expand.Widening.{Widening}

@@ -10,7 +10,7 @@ use lib.ListN.{length, take}
 use lib.Seq.{take-all}
 use Rattle.value.specs.declared.StatesAnswer.the-variants as answer
 use Rattle.value.specs.Level.{codesOf, foldAll, setOf, leastOf}
-use Rattle.value.proofs.Digits.{Below}
+use Rattle.value.specs.Digits.{Below}
 use Rattle.value.proofs.Levels.{char-foreign, foreign-at, least-states, union-more}
 use Rattle.value.proofs.States.from_ascii.Statement.{statement}
 use Rattle.value.proofs.States.from_ascii.Tie as tie
