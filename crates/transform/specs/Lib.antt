@@ -2,3 +2,4 @@ pub mod Piece
 pub mod Answer
 pub mod Steps
 pub mod Derive
+pub mod Tests

@@ -4,6 +4,7 @@ use fst::Verdict;
 
 pub mod derivation;
 pub mod piece;
+pub mod tests;
 
 // One piece of a derivation: `width` wires of input number `signal` from bit `lsb` up.
 pub struct Extract {
@@ -50,4 +51,13 @@ pub struct Input {
 pub struct Inputs {
     pub count: u32,
     pub slots: [Input; 8],
+}
+
+// What an input can be refused for by itself.
+pub enum InputTest {
+    BadRecord,
+    NoBitVector,
+    Late,
+    Falling,
+    BadMark,
 }

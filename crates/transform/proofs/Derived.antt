@@ -1,0 +1,653 @@
+-- Demand 3 of derived records: a derived list is sound, begins at index 0 and doesn't fall, and an accepted Derive leaves it laid out.
+-- Assumes nothing.
+use mathlib.Core.Path.{_≡_, refl, sym, ap, ap₂, _∙_, subst}
+use mathlib.Core.Logic.{_↔_}
+use mathlib.Core.Bool.{Bool, true, false, cond, true≢false}
+use mathlib.Core.List.{List, [], _∷_, _++_, map, foldl, append-nil, append-assoc}
+use mathlib.Core.Option.{Option, none, some}
+use Prim.Native.Nat.{ℕ, zero, suc, _+_, _-_, _^_, _≤_, _<_, min}
+use native.Mathlib.Nat.{pow-le-pow-right}
+use native.Mathlib.Omega.{arith}
+use borrow.Author.Tests.{ltb-false, le-ltb}
+use lib.Dec.{eqb, ltb}
+use lib.ListN.{length, getD, length-map, length-append, List·getD-map, List·getD-eq-default}
+use Rattle.value.specs.Slice.{part, any, sum}
+use Rattle.value.specs.Level.{markOf, bitsOf, hasNoCode}
+use Rattle.value.specs.Digits.{number, Below}
+use Rattle.value.proofs.Digits.{base-pos, digits-length, digits-below, below-take, below-drop}
+use Rattle.value.proofs.Tests.{or-left, or-right, or-both, by-le}
+use Rattle.value.proofs.Levels.{mark-join, mark-set, mark-small, bits-up, codes-text, all-below}
+use Rattle.value.proofs.Slices.{any-none, part-length}
+use Rattle.fst.specs.declared.Encoding.{Encoding}
+use Rattle.fst.specs.declared.Encoding.the-variants.{Event, Real, BitVector}
+use Rattle.fst.specs.declared.Description.{Description}
+use Rattle.fst.specs.Refusal.{Reply, refused, given, Test, tried}
+use Rattle.fst.specs.Record.{Lent, Kept, largestIn, keptIn}
+use Rattle.fst.specs.Change.{stored}
+use Rattle.runs.specs.Runs as runs
+use Rattle.runs.specs.Runs.{Step, endsLike, joined, laidOut, Same}
+use Rattle.layout.proofs.Entries.{laws}
+use Rattle.runs.proofs.Joined.{Every, every-map}
+use Rattle.runs.proofs.Laid.{Sound, equal-same, laid-same, laid-found}
+use Rattle.fst.proofs.Refusals.{Result, through, stopped, result}
+use Rattle.signal.specs.declared.NextIndex.{NextIndex}
+use Rattle.signal.specs.declared.NextIndex.the-variants.{Absent, At}
+use Rattle.signal.specs.Decode.{entriesFrom, entriesIn, entryAt, markIn, setIn, levelPart, levelsIn, hasBadMark}
+use Rattle.signal.specs.Offset.{falls, headOf}
+use Rattle.signal.specs.Read.{widthOf}
+use Rattle.transform.specs.declared.Extract.{Extract}
+use Rattle.transform.specs.declared.DerivedBitVecSignal.{DerivedBitVecSignal}
+use Rattle.transform.specs.declared.Inputs.{Inputs}
+use Rattle.transform.specs.Piece as piece
+use Rattle.transform.specs.Piece.{endOf, extractOf, piecesOf, isBadPiece}
+use Rattle.transform.specs.Steps.{Shown, shownBy, indexOf, Track, unbegun, nowOf, smaller, smallest, moved, Moment, momentsFrom, countOf, momentsOf}
+use Rattle.transform.specs.Derive.{pickedOf, codesShown, setShown, picked, largestShown, yielded, sameStep, shownIn, derivedList, largestAmong, lentOut, encodingOf, isBeyond, isUnfit, startsLate, isLate, indicesFall, entryIsBad, markIsBad, pickIsBad, codeIsBad, deriveRefusals, Derived, derivedBy, derive}
+use Rattle.transform.specs.Tests.{keptAll, Derivable}
+use Rattle.transform.proofs.Pieces.{Sized, sound, good-piece}
+use Rattle.transform.proofs.Joins.{count-is}
+use Rattle.transform.proofs.InputTests.{indexed, entries-count, entry-is, entries-each, fit}
+
+-- ---- lists in order
+
+-- no element is below the one before it, nor the first below b
+abbrev pub Up : {A : Type 0} → (A → ℕ) → ℕ → List A → Type 0
+Up f b [] = Unit
+Up f b (x ∷ l) = (b ≤ f x) × Up f (f x) l
+
+up-from : {A : Type 0} (f : A → ℕ) (a b : ℕ) (l : List A) → a ≤ b → Up f b l → Up f a l
+up-from f a b [] h u = tt
+up-from f a b (x ∷ l) h u = (omega (arith, u .0), u .1)
+
+pub up-falls : {A : Type 0} (f : A → ℕ) (b : ℕ) (l : List A) → Up f b l → falls (map f l) ≡ false
+unfolding falls
+up-falls f b [] u = refl
+up-falls f b (x ∷ []) u = refl
+up-falls f b (x ∷ y ∷ l) u = or-both (ltb (f y) (f x)) (falls (map f (y ∷ l))) (le-ltb (f y) (f x) (u .1 .0)) (up-falls f (f x) (y ∷ l) (u .1))
+
+up-map : {A B : Type 0} (f : B → ℕ) (g : A → B) (b : ℕ) (l : List A) → Up (λ x. f (g x)) b l → Up f b (map g l)
+up-map f g b [] u = tt
+up-map f g b (x ∷ l) u = (u .0, up-map f g (f (g x)) l (u .1))
+
+falls-up : (b : ℕ) (l : List ℕ) → falls (b ∷ l) ≡ false → Up (λ i. i) b l
+unfolding falls
+falls-up b [] h = tt
+falls-up b (j ∷ l) h = (ltb-false j b (or-left (ltb j b) (falls (j ∷ l)) h), falls-up j l (or-right (ltb j b) (falls (j ∷ l)) h))
+
+rising-up : (l : List ℕ) → falls l ≡ false → Up (λ i. i) 0 l
+rising-up [] h = tt
+rising-up (x ∷ l) h = (omega arith, falls-up x l h)
+
+-- ---- what joins a list, one after the other
+
+module _ (like : Step → Step → Bool) (P : Step → Type 0) where
+  -- the list grows by some of them, in order
+  record Grown (acc xs : List Step) (b : ℕ) : Type 0 where
+    by : List Step
+    is : foldl (joined like) acc xs ≡ acc ++ by
+    up : Up runs.indexOf b by
+    every : Every P by
+
+  grown : (acc xs : List Step) (b : ℕ) → Up runs.indexOf b xs → Every P xs → Grown acc xs b
+  unfolding joined
+  grown acc [] b u p = record { by = []; is = sym (append-nil acc); up = tt; every = tt }
+  grown acc (x ∷ xs) b u p = go (endsLike like acc x) refl (grown acc xs (x .index) (u .1) (p .1)) (grown (acc ++ (x ∷ [])) xs (x .index) (u .1) (p .1))
+    where
+      go : (t : Bool) → endsLike like acc x ≡ t → Grown acc xs (x .index) → Grown (acc ++ (x ∷ [])) xs (x .index) → Grown acc (x ∷ xs) b
+      go true e g h =
+          record {
+            by = g .by;
+            is = ap (λ (t : Bool). foldl (joined like) (cond t acc (acc ++ (x ∷ []))) xs) e ∙ g .is;
+            up = up-from runs.indexOf b (x .index) (g .by) (u .0) (g .up);
+            every = g .every;
+          }
+      go false e g h =
+          record {
+            by = x ∷ h .by;
+            is = ap (λ (t : Bool). foldl (joined like) (cond t acc (acc ++ (x ∷ []))) xs) e ∙ h .is ∙ append-assoc acc (x ∷ []) (h .by);
+            up = (u .0, h .up);
+            every = (p .0, h .every);
+          }
+
+-- ---- an input's entries as it shows them
+
+pub every-at : {A : Type 0} (P : A → Type 0) (l : List A) (d : A) → ((i : ℕ) → i < length l → P (getD l i d)) → Every P l
+every-at P [] d f = tt
+every-at P (x ∷ l) d f = (f zero (omega arith), every-at P l d (λ i h. f (suc i) (omega arith)))
+
+-- shown of one of a record's entries
+pub record From (k : Kept) (s : Shown) : Type 0 where
+  pub at : ℕ
+  pub inside : at < length (k .indices)
+  pub is : s ≡ shownBy (indexed k at)
+
+pub shown-from : (k : Kept) → Every (From k) (shownIn k)
+shown-from k =
+    every-at (From k) (shownIn k) (shownBy (indexed k 0))
+    (λ i h.
+    let n : i < length (k .indices) = rw (length-map (entriesIn k) shownBy, entries-count k) at h in
+    record { at = i; inside = n; is = List·getD-map shownBy (entriesIn k) i (indexed k 0) ∙ ap shownBy (entry-is k i (indexed k 0) n) })
+
+shown-up : (j b : ℕ) (k : Kept) (l : List ℕ) → Up (λ i. i) b l → Up indexOf b (map shownBy (entriesFrom j k l))
+unfolding entriesFrom
+shown-up j b k [] u = tt
+shown-up j b k (i ∷ l) u = (u .0, shown-up (suc j) i k l (u .1))
+
+-- ---- tracks and records in step
+
+abbrev pub Each2 : {A B : Type 0} → (A → B → Type 0) → List A → List B → Type 0
+Each2 R [] [] = Unit
+Each2 R [] (y ∷ ys) = ⊥
+Each2 R (x ∷ xs) [] = ⊥
+Each2 R (x ∷ xs) (y ∷ ys) = R x y × Each2 R xs ys
+
+-- an input that has begun shows one of its entries
+abbrev pub NowFrom : Kept → Option Shown → Type 0
+NowFrom k none = ⊥
+NowFrom k (some s) = From k s
+
+abbrev Runs : Kept → Track → Type 0
+Runs k t = NowFrom k (t .now) × Every (From k) (t .next)
+
+moved-runs : (k : Kept) (i : ℕ) (n : Option Shown) (l : List Shown) → NowFrom k n → Every (From k) l → Runs k (moved i (record { now = n; next = l }))
+unfolding moved
+moved-runs k i n [] h p = (h, tt)
+moved-runs k i n (s ∷ l) h p = go (eqb (s .index) i)
+  where
+    go : (b : Bool) → Runs k (cond b (record { now = some s; next = l }) (record { now = n; next = s ∷ l }))
+    go true = (p .0, p .1)
+    go false = (h, p)
+
+runs-all : (ks : List Kept) (ts : List Track) (i : ℕ) → Each2 Runs ks ts → Each2 Runs ks (map (moved i) ts)
+runs-all [] [] i e = tt
+runs-all [] (t ∷ ts) i e = absurd e
+runs-all (k ∷ ks) [] i e = absurd e
+runs-all (k ∷ ks) (t ∷ ts) i e = (moved-runs k i (t .now) (t .next) (e .0 .0) (e .0 .1), runs-all ks ts i (e .1))
+
+shows-all : (ks : List Kept) (ts : List Track) → Each2 Runs ks ts → Each2 NowFrom ks (map nowOf ts)
+shows-all [] [] e = tt
+shows-all [] (t ∷ ts) e = absurd e
+shows-all (k ∷ ks) [] e = absurd e
+shows-all (k ∷ ks) (t ∷ ts) e = (e .0 .0, shows-all ks ts (e .1))
+
+abbrev pub Shows : List Kept → Moment → Type 0
+Shows ks m = Each2 NowFrom ks (m .showing)
+
+moments-show : (ks : List Kept) (n : ℕ) (i : NextIndex) (ts : List Track) → Each2 Runs ks ts → Every (Shows ks) (momentsFrom n i ts)
+unfolding momentsFrom
+moments-show ks zero i ts r = tt
+moments-show ks (suc n) Absent ts r = tt
+moments-show ks (suc n) (At i) ts r =
+    let u = runs-all ks ts i r in
+    (shows-all ks (map (moved i) ts) u, moments-show ks n (smallest (map (moved i) ts)) (map (moved i) ts) u)
+
+-- ---- the indices of the steps
+
+abbrev momentIndex : Moment → ℕ
+momentIndex m = m .index
+
+abbrev NextUp : ℕ → Track → Type 0
+NextUp b t = Up indexOf b (t .next)
+
+-- no next entry is below an index
+abbrev LeastIn : ℕ → List Shown → Type 0
+LeastIn i [] = Unit
+LeastIn i (s ∷ l) = i ≤ s .index
+
+abbrev LeastOf : ℕ → NextIndex → Type 0
+LeastOf i Absent = Unit
+LeastOf i (At j) = i ≤ j
+
+abbrev NextLeast : ℕ → Track → Type 0
+NextLeast i t = LeastIn i (t .next)
+
+least-under : (ts : List Track) (i : ℕ) → LeastOf i (smallest ts) → Every (NextLeast i) ts
+unfolding smallest
+least-under [] i h = tt
+least-under (t ∷ ts) i h = let z = split (t .next) (smallest ts) h in (z .0, least-under ts i (z .1))
+  where
+    split : (l : List Shown) (m : NextIndex) → LeastOf i (smaller (headOf (map indexOf l)) m) → LeastIn i l × LeastOf i m
+    split [] m h = (tt, h)
+    split (s ∷ l) Absent h = (h, tt)
+    split (s ∷ l) (At j) h = (omega arith, omega arith)
+
+bounded : (ts : List Track) (b : ℕ) → Every (NextUp b) ts → LeastOf b (smallest ts)
+unfolding smallest
+bounded [] b u = tt
+bounded (t ∷ ts) b u = merge (t .next) (smallest ts) (u .0) (bounded ts b (u .1))
+  where
+    merge : (l : List Shown) (m : NextIndex) → Up indexOf b l → LeastOf b m → LeastOf b (smaller (headOf (map indexOf l)) m)
+    merge [] m u h = h
+    merge (s ∷ l) Absent u h = u .0
+    merge (s ∷ l) (At j) u h = let k = u .0 in omega arith
+
+moved-up : (i b : ℕ) (n : Option Shown) (l : List Shown) → Up indexOf b l → LeastIn i l → Up indexOf i ((moved i (record { now = n; next = l })) .next)
+unfolding moved
+moved-up i b n [] u h = tt
+moved-up i b n (s ∷ l) u h = go (eqb (s .index) i)
+  where
+    go : (t : Bool) → NextUp i (cond t (record { now = some s; next = l }) (record { now = n; next = s ∷ l }))
+    go true = up-from indexOf i (s .index) l h (u .1)
+    go false = (h, u .1)
+
+ups : (ts : List Track) (i b : ℕ) → Every (NextUp b) ts → Every (NextLeast i) ts → Every (NextUp i) (map (moved i) ts)
+ups [] i b u h = tt
+ups (t ∷ ts) i b u h = (moved-up i b (t .now) (t .next) (u .0) (h .0), ups ts i b (u .1) (h .1))
+
+moments-up : (n : ℕ) (m : NextIndex) (ts : List Track) (b : ℕ) → smallest ts ≡ m → Every (NextUp b) ts → Up momentIndex b (momentsFrom n m ts)
+unfolding momentsFrom
+moments-up zero m ts b e u = tt
+moments-up (suc n) Absent ts b e u = tt
+moments-up (suc n) (At i) ts b e u =
+    let us = map (moved i) ts in
+    let self : i ≤ i = omega arith in
+    let v = ups ts i b u (least-under ts i (subst (LeastOf i) (sym e) self)) in
+    (subst (LeastOf b) e (bounded ts b u), moments-up n (smallest us) us i refl v)
+
+-- ---- step one
+
+abbrev tracks : List Kept → List Track
+tracks ks = map unbegun (map shownIn ks)
+
+head-zero : (k : Kept) (l : List ℕ) → isLate l ≡ false → headOf (map indexOf (map shownBy (entriesFrom 0 k l))) ≡ At 0
+unfolding entriesFrom
+head-zero k [] h = absurd (true≢false h)
+head-zero k (zero ∷ l) h = refl
+head-zero k (suc i ∷ l) h = absurd (true≢false h)
+
+moved-first : (k : Kept) (l : List ℕ) → isLate l ≡ false → Every (From k) (map shownBy (entriesFrom 0 k l)) → Runs k (moved 0 (unbegun (map shownBy (entriesFrom 0 k l))))
+unfolding entriesFrom moved
+moved-first k [] h p = absurd (true≢false h)
+moved-first k (zero ∷ l) h p = (p .0, p .1)
+moved-first k (suc i ∷ l) h p = absurd (true≢false h)
+
+start-runs : (ks : List Kept) → any startsLate ks ≡ false → Each2 Runs ks (map (moved 0) (tracks ks))
+unfolding any
+start-runs [] h = tt
+start-runs (k ∷ ks) h =
+    (moved-first k (k .indices) (or-left (startsLate k) (any startsLate ks) h) (shown-from k), start-runs ks (or-right (startsLate k) (any startsLate ks) h))
+
+start-up : (ks : List Kept) → any indicesFall ks ≡ false → Every (NextUp 0) (tracks ks)
+unfolding any
+start-up [] h = tt
+start-up (k ∷ ks) h =
+    (shown-up 0 0 k (k .indices) (rising-up (k .indices) (or-left (indicesFall k) (any indicesFall ks) h)), start-up ks (or-right (indicesFall k) (any indicesFall ks) h))
+
+start-zero : (k : Kept) (ks : List Kept) → any startsLate (k ∷ ks) ≡ false → smallest (tracks (k ∷ ks)) ≡ At 0
+unfolding any smallest
+start-zero k ks h =
+    ap (λ (m : NextIndex). smaller m (smallest (tracks ks))) (head-zero k (k .indices) (or-left (startsLate k) (any startsLate ks) h)) ∙ go (smallest (tracks ks))
+  where
+    go : (m : NextIndex) → smaller (At 0) m ≡ At 0
+    go Absent = refl
+    go (At j) = let z : min 0 j ≡ 0 = omega arith in ap At z
+
+start-some : (k : Kept) (ks : List Kept) → any startsLate (k ∷ ks) ≡ false → 0 < sum (map countOf (tracks (k ∷ ks)))
+unfolding any sum
+start-some k ks h =
+    let z = some-indices (k .indices) (or-left (startsLate k) (any startsLate ks) h) in
+    let l : length (shownIn k) ≡ length (k .indices) = length-map (entriesIn k) shownBy ∙ entries-count k in
+    omega arith
+  where
+    some-indices : (l : List ℕ) → isLate l ≡ false → 0 < length l
+    some-indices [] h = absurd (true≢false h)
+    some-indices (i ∷ l) h = omega arith
+
+-- what each input shows at step one
+abbrev firstTracks : List Kept → List Track
+firstTracks ks = map (moved 0) (tracks ks)
+
+abbrev firstMoment : List Kept → Moment
+firstMoment ks = record { index = 0; showing = map nowOf (firstTracks ks) }
+
+moments-begin : (k : Kept) (ks : List Kept) → any startsLate (k ∷ ks) ≡ false
+    → (n : ℕ) × (momentsOf (map shownIn (k ∷ ks)) ≡ firstMoment (k ∷ ks) ∷ momentsFrom n (smallest (firstTracks (k ∷ ks))) (firstTracks (k ∷ ks)))
+unfolding momentsOf momentsFrom
+moments-begin k ks h =
+    let g = go (sum (map countOf (tracks (k ∷ ks)))) (start-some k ks h) in
+    (g .0, ap (λ (m : NextIndex). momentsFrom (sum (map countOf (tracks (k ∷ ks)))) m (tracks (k ∷ ks))) (start-zero k ks h) ∙ g .1)
+  where
+    go : (c : ℕ) → 0 < c
+        → (n : ℕ) × (momentsFrom c (At 0) (tracks (k ∷ ks)) ≡ firstMoment (k ∷ ks) ∷ momentsFrom n (smallest (firstTracks (k ∷ ks))) (firstTracks (k ∷ ks)))
+    go zero p = absurd (omega arith)
+    go (suc n) p = (n, refl)
+
+-- ---- what a step yields
+
+below-up : (B C : ℕ) (cs : List ℕ) → B ≤ C → Below B cs → Below C cs
+below-up B C [] h b = tt
+below-up B C (c ∷ cs) h b = (omega (arith, b .0), below-up B C cs h (b .1))
+
+below-append : (B : ℕ) (xs ys : List ℕ) → Below B xs → Below B ys → Below B (xs ++ ys)
+below-append B [] ys a b = b
+below-append B (x ∷ xs) ys a b = (a .0, below-append B xs ys (a .1) b)
+
+levels-long : (x : Encoding) (v : List ℕ) → length (levelsIn x v) ≡ widthOf x
+unfolding levelsIn
+levels-long Event v = refl
+levels-long Real v = refl
+levels-long (BitVector w M) v = digits-length (2 ^ bitsOf (setIn (BitVector w M) v)) w (number 256 (levelPart (BitVector w M) v))
+
+levels-below : (x : Encoding) (v : List ℕ) → Below (2 ^ bitsOf (setIn x v)) (levelsIn x v)
+unfolding levelsIn
+levels-below Event v = tt
+levels-below Real v = tt
+levels-below (BitVector w M) v =
+    let S = setIn (BitVector w M) v in
+    digits-below (2 ^ bitsOf S) (base-pos 2 (omega arith) (bitsOf S)) w (number 256 (levelPart (BitVector w M) v))
+
+mark-within : (x : Encoding) (v : List ℕ) → hasBadMark x v ≡ false → markOf (setIn x v) ≤ markOf (largestIn x)
+unfolding hasBadMark setIn
+mark-within Event v h = omega arith
+mark-within Real v h = omega arith
+mark-within (BitVector w M) v h =
+    let m : markIn M v ≤ markOf M = ltb-false (markOf M) (markIn M v) h in
+    omega (arith, mark-set (markIn M v) (omega (arith, mark-small M)))
+
+-- the levels that a piece picks of a shown entry
+abbrev Picks : Extract → Shown → Type 0
+Picks e s =
+    (length (pickedOf e (s .codes)) ≡ e .width) × Below 9 (pickedOf e (s .codes)) × Below (2 ^ bitsOf (s .set)) (pickedOf e (s .codes))
+
+picks-entry : (e : Extract) (x : Encoding) (v : List ℕ) (i : ℕ) → endOf e ≤ widthOf x → hasNoCode (pickedOf e (levelsIn x v)) ≡ false
+    → Picks e (record { index = i; set = setIn x v; codes = levelsIn x v })
+unfolding part
+picks-entry e x v i h c = (
+  part-length (levelsIn x v) (length (levelsIn x v) - endOf e) (e .width) (omega (arith, levels-long x v)),
+  all-below (pickedOf e (levelsIn x v)) c,
+  below-take _ _ (below-drop _ (levelsIn x v) (levels-below x v) (length (levelsIn x v) - endOf e)) (e .width),
+)
+
+-- what stands for no record
+abbrev noKept : Kept
+noKept = record { description = record { encoding = Event; count = 0 }; bytes = []; indices = [] }
+
+-- a piece of an input, within its width, with no bad code in it
+record Fine (ks : List Kept) (e : Extract) : Type 0 where
+  low : e .signal < length ks
+  inside : endOf e ≤ widthOf (encodingOf (getD ks (e .signal) noKept))
+  coded : any (pickIsBad e) (entriesIn (getD ks (e .signal) noKept)) ≡ false
+
+fine : (n : ℕ) (ks : List Kept) (e : Extract) → isBadPiece n e ≡ false → isBeyond ks e ≡ false → codeIsBad ks e ≡ false → Fine ks e
+unfolding entriesFrom
+fine n ks e b w c =
+    let g = good-piece n e b in
+    let l = ltb-false (widthOf (getD (map encodingOf ks) (e .signal) Event)) (endOf e) w in
+    record {
+      low =
+          by-le (length ks) (e .signal)
+          (λ h.
+          let z : getD (map encodingOf ks) (e .signal) Event ≡ Event = List·getD-eq-default (map encodingOf ks) Event (rw length-map h) in
+          let y : widthOf (getD (map encodingOf ks) (e .signal) Event) ≡ 0 = ap widthOf z in
+          absurd (omega arith))
+          (λ h. h);
+      inside = rw (List·getD-map encodingOf ks (e .signal) noKept) at l;
+      coded = ap (any (pickIsBad e)) (sym (List·getD-map entriesIn ks (e .signal) noKept)) ∙ c;
+    }
+
+each-at : (ks : List Kept) (sh : List (Option Shown)) → Each2 NowFrom ks sh → (j : ℕ) → j < length ks → NowFrom (getD ks j noKept) (getD sh j none)
+each-at [] sh e j h = absurd (omega arith)
+each-at (k ∷ ks) [] e j h = absurd e
+each-at (k ∷ ks) (o ∷ sh) e zero h = e .0
+each-at (k ∷ ks) (o ∷ sh) e (suc j) h = each-at ks sh (e .1) j (omega arith)
+
+abbrev PicksNow : Extract → Option Shown → Type 0
+PicksNow e o =
+    (length (pickedOf e (codesShown o)) ≡ e .width) × Below 9 (pickedOf e (codesShown o)) × Below (2 ^ bitsOf (setShown o)) (pickedOf e (codesShown o))
+
+piece-picks : (e : Extract) (k : Kept) (o : Option Shown) → endOf e ≤ widthOf (encodingOf k) → any (pickIsBad e) (entriesIn k) ≡ false → NowFrom k o → PicksNow e o
+piece-picks e k none h c f = absurd f
+piece-picks e k (some s) h c f =
+    subst (Picks e) (sym (f .is))
+    (picks-entry e (encodingOf k) (entryAt (k .description) 0 (k .bytes) (f .at)) (getD (k .indices) (f .at) 0) h (entries-each k (pickIsBad e) c (f .at) (f .inside)))
+
+set-under : (sh : List (Option Shown)) (j : ℕ) → markOf (setShown (getD sh j none)) ≤ markOf (largestShown sh)
+unfolding largestShown
+set-under [] zero = omega arith
+set-under [] (suc j) = omega arith
+set-under (o ∷ sh) zero = omega (arith, mark-join (setShown o) (largestShown sh))
+set-under (o ∷ sh) (suc j) = omega (arith, mark-join (setShown o) (largestShown sh), set-under sh j)
+
+record Whole (es : List Extract) (sh : List (Option Shown)) : Type 0 where
+  long : length (picked es sh) ≡ sum (map piece.widthOf es)
+  letters : Below 9 (picked es sh)
+  below : Below (2 ^ bitsOf (largestShown sh)) (picked es sh)
+
+all-picked : (ks : List Kept) (sh : List (Option Shown)) → Each2 NowFrom ks sh → (es : List Extract) → Every (Fine ks) es → Whole es sh
+unfolding picked sum
+all-picked ks sh r [] f = record { long = refl; letters = tt; below = tt }
+all-picked ks sh r (e ∷ es) f =
+    let rest = all-picked ks sh r es (f .1) in
+    let k = getD ks (e .signal) noKept in
+    let o = getD sh (e .signal) none in
+    let p = piece-picks e k o (f .0 .inside) (f .0 .coded) (each-at ks sh r (e .signal) (f .0 .low)) in
+    let b : 2 ^ bitsOf (setShown o) ≤ 2 ^ bitsOf (largestShown sh) = pow-le-pow-right (omega arith) (bits-up (setShown o) (largestShown sh) (set-under sh (e .signal))) in
+    record {
+      long = length-append (pickedOf e (codesShown o)) (picked es sh) ∙ ap₂ (λ (m n : ℕ). m + n) (p .0) (rest .long);
+      letters = below-append 9 (pickedOf e (codesShown o)) (picked es sh) (p .1) (rest .letters);
+      below = below-append _ (pickedOf e (codesShown o)) (picked es sh) (below-up _ _ (pickedOf e (codesShown o)) b (p .2)) (rest .below);
+    }
+
+mark-one : (k : Kept) (s : Shown) → markIsBad k ≡ false → From k s → markOf (s .set) ≤ markOf (largestIn (encodingOf k))
+mark-one k s m f =
+    subst (λ (t : Shown). markOf (t .set) ≤ markOf (largestIn (encodingOf k))) (sym (f .is))
+    (mark-within (encodingOf k) (entryAt (k .description) 0 (k .bytes) (f .at)) (entries-each k entryIsBad m (f .at) (f .inside)))
+
+largest-under : (ks : List Kept) (sh : List (Option Shown)) → any markIsBad ks ≡ false → Each2 NowFrom ks sh → markOf (largestShown sh) ≤ markOf (largestAmong ks)
+unfolding any largestShown largestAmong
+largest-under [] [] m e = omega arith
+largest-under [] (o ∷ sh) m e = absurd e
+largest-under (k ∷ ks) [] m e = absurd e
+largest-under (k ∷ ks) (none ∷ sh) m e = absurd (e .0)
+largest-under (k ∷ ks) (some s ∷ sh) m e =
+    omega (
+      arith,
+      mark-join (s .set) (largestShown sh),
+      mark-join (largestIn (encodingOf k)) (largestAmong ks),
+      mark-one k s (or-left (markIsBad k) (any markIsBad ks) m) (e .0),
+      largest-under ks sh (or-right (markIsBad k) (any markIsBad ks) m) (e .1),
+    )
+
+-- ---- inputs that no number before 7 refuses
+
+pub record Passes (d : DerivedBitVecSignal) (count : ℕ) (ks : List Kept) : Type 0 where
+  pub fit : isUnfit d count ks ≡ false
+  pub begun : any startsLate ks ≡ false
+  pub rising : any indicesFall ks ≡ false
+  pub marked : any markIsBad ks ≡ false
+  pub coded : any (codeIsBad ks) (piecesOf d) ≡ false
+
+pub passes : (d : DerivedBitVecSignal) (inputs : Inputs) (bytes indices : List ℕ) → Derivable d inputs bytes indices → Passes d (inputs .count) (keptAll bytes indices inputs)
+passes d inputs bytes indices p =
+    record { fit = p .fit; begun = p .begun; rising = p .rising; marked = p .marked; coded = p .coded }
+
+module _ (d : DerivedBitVecSignal) (count : ℕ) (ks : List Kept) (p : Passes d count ks) where
+  abbrev es : List Extract
+  es = piecesOf d
+
+  all-fine : Every (Fine ks) es
+  all-fine =
+      let f = fit d count ks (p .fit) in
+      let n = d .«input_count» in
+      every-at (Fine ks) es (extractOf 0)
+      (λ i h.
+      fine n ks (getD es i (extractOf 0)) (any-none (isBadPiece n) es ((sound d (f .sound)) .pieces) i (extractOf 0) h)
+      (any-none (isBeyond ks) es (f .within) i (extractOf 0) h) (any-none (codeIsBad ks) es (p .coded) i (extractOf 0) h))
+
+  step-sound : (m : Moment) → Shows ks m → Sound (d .width) (largestAmong ks) (yielded es m)
+  step-sound m r =
+      let q = all-picked ks (m .showing) r es all-fine in
+      let t = codes-text (picked es (m .showing)) (q .letters) in
+      let w = (sound d ((fit d count ks (p .fit)) .sound)) .whole in
+      record {
+        codes = rw t (record { long = q .long ∙ sym w; below = q .below });
+        letters = rw t (q .letters);
+        within = largest-under ks (m .showing) (p .marked) r;
+      }
+
+  module _ (z : Sized d) where
+    first-piece : 0 < length es
+    first-piece =
+        let f = fit d count ks (p .fit) in
+        rw (count-is (d .bits) (d .«piece_count») (omega (arith, (sound d (f .sound)) .few, z .bits))) (f .pieces)
+
+    -- there is an input, and a level
+    some-input : 0 < length ks
+    some-input = go es first-piece all-fine
+      where
+        go : (l : List Extract) → 0 < length l → Every (Fine ks) l → 0 < length ks
+        go [] h f = absurd (omega arith)
+        go (e ∷ l) h f = omega (arith, f .0 .low)
+
+    pub some-width : 1 ≤ d .width
+    unfolding any sum
+    some-width =
+        let f = fit d count ks (p .fit) in
+        let s = sound d (f .sound) in
+        rw (s .whole) (go es first-piece (s .pieces))
+      where
+        go : (l : List Extract) → 0 < length l → any (isBadPiece (d .«input_count»)) l ≡ false → 1 ≤ sum (map piece.widthOf l)
+        go [] h b = absurd (omega arith)
+        go (e ∷ l) h b = omega (arith, good-piece (d .«input_count») e (or-left (isBadPiece (d .«input_count») e) (any (isBadPiece (d .«input_count»)) l) b) .0)
+
+-- a derived list: not empty, from index 0 on, in order, of sound steps
+record Listed (d : DerivedBitVecSignal) (ks : List Kept) : Type 0 where
+  first : Step
+  rest : List Step
+  is : derivedList (piecesOf d) ks ≡ first ∷ rest
+  begins : first .index ≡ 0
+  up : Up runs.indexOf 0 (first ∷ rest)
+  every : Every (Sound (d .width) (largestAmong ks)) (first ∷ rest)
+
+listed : (d : DerivedBitVecSignal) (count : ℕ) (ks : List Kept) → Passes d count ks → Sized d → Listed d ks
+unfolding derivedList joined endsLike
+listed d count [] p z = absurd (omega (arith, some-input d count [] p z))
+listed d count (k ∷ ks) p z =
+    let all = k ∷ ks in
+    let P = Sound (d .width) (largestAmong all) in
+    let y = yielded (piecesOf d) in
+    let us = firstTracks all in
+    let b = moments-begin k ks (p .begun) in
+    let ms = momentsFrom (b .0) (smallest us) us in
+    let none-below : 0 ≤ 0 = omega arith in
+    let r = start-runs all (p .begun) in
+    let v = ups (tracks all) 0 0 (start-up all (p .rising)) (least-under (tracks all) 0 (subst (LeastOf 0) (sym (start-zero k ks (p .begun))) none-below)) in
+    let u = up-map runs.indexOf y 0 ms (moments-up (b .0) (smallest us) us 0 refl v) in
+    let q = every-map (Shows all) P y ms (step-sound d count all p) (moments-show all (b .0) (smallest us) us r) in
+    let x = y (firstMoment all) in
+    let g = grown sameStep P (x ∷ []) (map y ms) 0 u q in
+    record {
+      first = x;
+      rest = g .by;
+      is = ap (λ (l : List Moment). foldl (joined sameStep) [] (map y l)) (b .1) ∙ g .is;
+      begins = refl;
+      up = (none-below, g .up);
+      every = (step-sound d count all p (firstMoment all) (shows-all all us r), g .every);
+    }
+
+module _ (d : DerivedBitVecSignal) (count : ℕ) (ks : List Kept) (p : Passes d count ks) (z : Sized d) where
+  -- each step has as many letters as the derivation is wide, all of its own set, which is not above the largest
+  pub derived-sound : Every (Sound (d .width) (largestAmong ks)) (derivedList (piecesOf d) ks)
+  derived-sound = let l = listed d count ks p z in rw (l .is) (l .every)
+
+  -- its indices don't fall
+  pub derived-rises : falls (map runs.indexOf (derivedList (piecesOf d) ks)) ≡ false
+  derived-rises = let l = listed d count ks p z in rw (l .is) (up-falls runs.indexOf 0 (l .first ∷ l .rest) (l .up))
+
+  -- it is not empty, and starts at index 0
+  pub derived-begins : isLate (map runs.indexOf (derivedList (piecesOf d) ks)) ≡ false
+  derived-begins = let l = listed d count ks p z in rw (l .is, l .begins) refl
+
+-- ---- an accepted Derive
+
+-- what was given, what was made, and that it was accepted
+pub record Accepted : Type 0 where
+  pub derivation : DerivedBitVecSignal
+  pub inputs : Inputs
+  pub bytes : List ℕ
+  pub indices : List ℕ
+  pub outBytes : List ℕ
+  pub outIndices : List ℕ
+  pub made : Description
+  pub sized : Sized derivation
+  pub is : (derive derivation inputs bytes indices outBytes outIndices) .answer ≡ given made
+
+module _ (a : Accepted) where
+  abbrev pub ksOf : List Kept
+  ksOf = keptAll (a .bytes) (a .indices) (a .inputs)
+
+  abbrev pub listOf : List Step
+  listOf = derivedList (piecesOf (a .derivation)) ksOf
+
+  abbrev left : Derived
+  left = derive (a .derivation) (a .inputs) (a .bytes) (a .indices) (a .outBytes) (a .outIndices)
+
+  -- the record that it left at the front of the output slices
+  abbrev pub recordOf : Kept
+  recordOf = keptIn (a .made) (lentOut (left .bytes) (left .indices))
+
+  abbrev out : Lent
+  out = lentOut (a .outBytes) (a .outIndices)
+
+  abbrev tests : List Test
+  tests = deriveRefusals (a .derivation) (a .inputs) (a .bytes) (a .indices) out
+
+  abbrev made-record : Kept
+  made-record = laidOut (a .derivation .width) (largestAmong ksOf) listOf
+
+  -- a number is no description
+  never : {A : Type 0} (n : ℕ) → tried tests (given made-record) ≡ refused (suc n) → (derivedBy out (tried tests (given made-record))) .answer ≡ given (a .made) → A
+  never n q h =
+      let e : _≡_ {A = Reply Description} (refused (suc n)) (given (a .made)) = ap (λ (r : Reply Kept). (derivedBy out r) .answer) (sym q) ∙ h in
+      let z : _≡_ {A = ℕ} 0 1 = cc in
+      absurd (omega arith)
+
+  pub accepted-passes : Passes (a .derivation) (a .inputs .count) ksOf
+  unfolding derive deriveRefusals
+  accepted-passes = go (result (given made-record) tests tt) (a .is)
+    where
+      go : Result (given made-record) tests → (derivedBy out (tried tests (given made-record))) .answer ≡ given (a .made) → Passes (a .derivation) (a .inputs .count) ksOf
+      go (through ps q) h =
+          record { fit = ps .1 .0; begun = ps .1 .1 .0; rising = ps .1 .1 .1 .0; marked = ps .1 .1 .1 .1 .0; coded = ps .1 .1 .1 .1 .1 .0 }
+      go (stopped n q) h = never n q h
+
+  pub accepted-width : 1 ≤ a .derivation .width
+  accepted-width = some-width (a .derivation) (a .inputs .count) ksOf accepted-passes (a .sized)
+
+  pub accepted-sound : Every (Sound (a .derivation .width) (largestAmong ksOf)) listOf
+  accepted-sound = derived-sound (a .derivation) (a .inputs .count) ksOf accepted-passes (a .sized)
+
+  -- "After every accepted Derive the record is this list laid out"
+  pub derived-is-laid-out : recordOf ≡ laidOut (a .derivation .width) (largestAmong ksOf) listOf
+  unfolding derive deriveRefusals stored
+  derived-is-laid-out = go (result (given made-record) tests tt) (a .is)
+    where
+      Left : Reply Kept → Type 0
+      Left r = (derivedBy out r) .answer ≡ given (a .made) → keptIn (a .made) (lentOut ((derivedBy out r) .bytes) ((derivedBy out r) .indices)) ≡ made-record
+
+      found : Left (given made-record)
+      found h =
+          let w = a .derivation .width in
+          let e : made-record .description ≡ a .made = cc in
+          let x = (derivedBy out (given made-record)) .bytes in
+          let y = (derivedBy out (given made-record)) .indices in
+          ap (λ (m : Description). keptIn m (lentOut x y)) (sym e)
+          ∙ laid-found w (laws w accepted-width) (largestAmong ksOf) listOf out (omega arith) (omega arith)
+
+      go : Result (given made-record) tests → Left (tried tests (given made-record))
+      go (through ps q) = subst Left (sym q) found
+      go (stopped n q) = λ h. never n q h
+
+-- two accepted Derives of one width leave equal records just where their largest sets and their derived lists are equal
+pub demand-3-derived : (a b : Accepted) → a .derivation .width ≡ b .derivation .width
+    → Same (recordOf a) (recordOf b) ↔ ((largestAmong (ksOf a) ≡ largestAmong (ksOf b)) × (listOf a ≡ listOf b))
+demand-3-derived a b e =
+    let w = a .derivation .width in
+    let M = largestAmong (ksOf a) in
+    let N = largestAmong (ksOf b) in
+    let at-b : recordOf b ≡ laidOut w N (listOf b) = derived-is-laid-out b ∙ ap (λ (n : ℕ). laidOut n N (listOf b)) (sym e) in (
+      λ s.
+          laid-same w (laws w (accepted-width a)) M N (listOf a) (listOf b) (accepted-sound a)
+          (subst (λ (n : ℕ). Every (Sound n N) (listOf b)) (sym e) (accepted-sound b))
+          (rw (← derived-is-laid-out a, ← at-b) s),
+      λ h. equal-same (recordOf a) (recordOf b) (derived-is-laid-out a ∙ ap₂ (laidOut w) (h .0) (h .1) ∙ sym at-b),
+    )

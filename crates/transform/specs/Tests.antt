@@ -1,0 +1,103 @@
+-- Inner: the tests of Derive before its room: what they ask, and what they leave known.
+-- Assumes nothing.
+use Prim.Native.Nat.{ℕ, _≤_, _<_}
+use mathlib.Core.Path.{_≡_}
+use mathlib.Core.Bool.{Bool, true, false}
+use mathlib.Core.List.{List, [], _∷_, map}
+use Rattle.value.specs.declared.States.{States}
+use Rattle.value.specs.Slice.{any}
+use Rattle.fst.specs.declared.Encoding.the-variants.{BitVector}
+use Rattle.fst.specs.declared.Description.{Description}
+use Rattle.fst.specs.declared.Verdict.{Verdict}
+use Rattle.fst.specs.declared.Verdict.the-variants.{Accepted, Refused}
+use Rattle.fst.specs.Refusal.{Reply, refused, given, Test, _⇐_, number}
+use Rattle.fst.specs.Record.{Kept, isBadBytes}
+use Rattle.signal.specs.Decode.{hasBadMark, entryAt}
+use Rattle.signal.specs.Parts.{Whole}
+use Rattle.signal.specs.Read.{widthOf}
+use Rattle.transform.specs.declared.Extract.{Extract}
+use Rattle.transform.specs.declared.DerivedBitVecSignal.{DerivedBitVecSignal}
+use Rattle.transform.specs.declared.Input.{Input}
+use Rattle.transform.specs.declared.Inputs.{Inputs}
+use Rattle.transform.specs.declared.InputTest.{InputTest}
+use Rattle.transform.specs.declared.InputTest.the-variants as test
+use Rattle.transform.specs.Piece.{endOf, piecesOf, isBadDerivation}
+use Rattle.transform.specs.Derive.{inputsOf, isBadInput, inputKept, isNoBitVector, isUnfit, startsLate, indicesFall, markIsBad, codeIsBad}
+
+-- ---- one input
+
+-- does an input fail a test
+abbrev pub failsBy : InputTest → List ℕ → List ℕ → Input → Bool
+failsBy test.BadRecord bytes indices i = isBadInput bytes indices i
+failsBy test.NoBitVector bytes indices i = isNoBitVector (inputKept bytes indices i)
+failsBy test.Late bytes indices i = startsLate (inputKept bytes indices i)
+failsBy test.Falling bytes indices i = indicesFall (inputKept bytes indices i)
+failsBy test.BadMark bytes indices i = markIsBad (inputKept bytes indices i)
+
+-- 2 is tried first
+abbrev pub isFirst : InputTest → Bool
+isFirst test.BadRecord = true
+isFirst test.NoBitVector = false
+isFirst test.Late = false
+isFirst test.Falling = false
+isFirst test.BadMark = false
+
+-- a record by its description, used bytes and indices
+abbrev pub keptWith : Description → List ℕ → List ℕ → Kept
+keptWith d used indices = record { description = d; bytes = used; indices = indices }
+
+-- ---- one piece
+
+-- an entry whose mark is a set's, and a piece within its width
+pub record Pickable (e : Extract) (w : ℕ) (M : States) (v : List ℕ) : Type 0 where
+  pub whole : Whole (BitVector w M) v
+  pub marked : hasBadMark (BitVector w M) v ≡ false
+  pub inside : endOf e ≤ w
+
+-- a piece of a record each of whose marks is a set's
+pub record Picking (e : Extract) (d : Description) (used : List ℕ) : Type 0 where
+  pub stands : isBadBytes d 0 used ≡ false
+  pub marked : (k : ℕ) → k < d .count → hasBadMark (d .encoding) (entryAt d 0 used k) ≡ false
+  pub inside : endOf e ≤ widthOf (d .encoding)
+
+-- ---- all inputs and pieces
+
+abbrev pub keptAll : List ℕ → List ℕ → Inputs → List Kept
+keptAll bytes indices inputs = map (inputKept bytes indices) (inputsOf inputs)
+
+-- a derivation that is not bad, of as many inputs as there are
+pub record Numbered (d : DerivedBitVecSignal) (inputs : Inputs) : Type 0 where
+  pub sound : isBadDerivation d ≡ false
+  pub counted : inputs .count ≡ d .«input_count»
+
+-- what 10 is tried upon
+pub record Readable (d : DerivedBitVecSignal) (inputs : Inputs) (bytes indices : List ℕ) : Type 0 where
+  pub stand : any (isBadInput bytes indices) (inputsOf inputs) ≡ false
+  pub fit : isUnfit d (inputs .count) (keptAll bytes indices inputs) ≡ false
+  pub marked : any markIsBad (keptAll bytes indices inputs) ≡ false
+
+-- what stepping and writing rest on: no number before 7 is refused
+pub record Derivable (d : DerivedBitVecSignal) (inputs : Inputs) (bytes indices : List ℕ) : Type 0 where
+  pub stand : any (isBadInput bytes indices) (inputsOf inputs) ≡ false
+  pub fit : isUnfit d (inputs .count) (keptAll bytes indices inputs) ≡ false
+  pub begun : any startsLate (keptAll bytes indices inputs) ≡ false
+  pub rising : any indicesFall (keptAll bytes indices inputs) ≡ false
+  pub marked : any markIsBad (keptAll bytes indices inputs) ≡ false
+  pub coded : any (codeIsBad (keptAll bytes indices inputs)) (piecesOf d) ≡ false
+
+-- the numbers of Derive before 7
+unfoldable pub firstTests : DerivedBitVecSignal → Inputs → List ℕ → List ℕ → List Test
+firstTests d inputs bytes indices =
+    let ks = keptAll bytes indices inputs in
+    2 ⇐ any (isBadInput bytes indices) (inputsOf inputs)
+    ∷ 14 ⇐ isUnfit d (inputs .count) ks
+    ∷ 15 ⇐ any startsLate ks
+    ∷ 11 ⇐ any indicesFall ks
+    ∷ 9 ⇐ any markIsBad ks
+    ∷ 10 ⇐ any (codeIsBad ks) (piecesOf d)
+    ∷ []
+
+-- a verdict as a reply
+abbrev pub verdictReply : Verdict → Reply Unit
+verdictReply Accepted = given tt
+verdictReply (Refused r) = refused (number r)

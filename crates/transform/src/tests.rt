@@ -1,0 +1,319 @@
+// The tests of Derive before its room. Each number is tried over all inputs before the next.
+ghost use mathlib.Core.Bool.{false};
+ghost use mathlib.Core.List.{List};
+ghost use mathlib.Core.Path.{_≡_};
+ghost use Prim.Native.Nat.{ℕ, _+_, _-_, _≤_, min};
+ghost use lib.ListN.{length};
+ghost use Rattle.value.specs.Slice.{part, any};
+ghost use Rattle.value.specs.Level.{hasNoCode};
+ghost use Rattle.fst.specs.declared.Encoding.the-variants.{BitVector};
+ghost use Rattle.fst.specs.Record.{usedSize, isBadBytes};
+ghost use Rattle.fst.specs.Refusal.{given, tried};
+ghost use Rattle.signal.specs.Decode.{entriesIn, levelsIn};
+ghost use Rattle.signal.specs.Parts.{codesAt, Levels};
+ghost use Rattle.signal.specs.Read.{widthOf, hasNoText};
+ghost use Rattle.transform.specs.Piece.{endOf, piecesOf};
+ghost use Rattle.transform.specs.Derive.{inputsOf, isBadInput, inputKept, startsLate, isLate, indicesFall, isUnfit, isBeyond, markIsBad, pickIsBad, pickedOf, codeIsBad};
+ghost use Rattle.transform.specs.Tests.{failsBy, isFirst, Pickable, Picking, Numbered, Readable, keptWith, keptAll, firstTests, verdictReply};
+use crate::DerivedBitVecSignal;
+use crate::Extract;
+use crate::Input;
+use crate::InputTest;
+use crate::Inputs;
+use fst::Description;
+use fst::Encoding;
+use fst::Refusal;
+use fst::Verdict;
+use fst::record::is_bad;
+use signal::decode::code_at;
+use signal::decode::level_part;
+use signal::decode::mark_in;
+use signal::decode::states_of;
+use signal::offset::falls;
+use signal::read::entry_at;
+use signal::read::size_of;
+use value::States;
+
+// How many slots hold inputs.
+fn used_slots(inputs: Inputs) -> usize
+    ensures { λ r. ⌜ r ≡ min (inputs .count) 8 ⌝ }
+{
+    if inputs.count < 8 {
+        return inputs.count as usize;
+    }
+    8
+}
+
+// The used bytes of an input that is not 2.
+pub fn used_part<'a>(input: Input, bytes: &'a [u8]) -> &'a [u8]
+    requires { ⌜ input .«byte_start» + usedSize (input .description) ≤ length (now bytes) ⌝ }
+    ensures { λ r. ⌜ now r ≡ part (input .«byte_start») (usedSize (input .description)) (now (bytes .entry)) ⌝ }
+{
+    let start = input.byte_start;
+    let description = input.description;
+    let encoding = description.encoding;
+    let n = description.count as usize * size_of(encoding);
+    &bytes[start..start + n]
+}
+
+// Its used indices.
+pub fn used_indices<'a>(input: Input, indices: &'a [u32]) -> &'a [u32]
+    requires { ⌜ input .«index_start» + input .description .count ≤ length (now indices) ⌝ }
+    ensures { λ r. ⌜ now r ≡ part (input .«index_start») (input .description .count) (now (indices .entry)) ⌝ }
+{
+    let start = input.index_start;
+    let description = input.description;
+    let n = description.count as usize;
+    &indices[start..start + n]
+}
+
+fn is_bad_input(input: Input, bytes: &[u8], indices: &[u32]) -> bool
+    ensures { λ r. ⌜ r ≡ isBadInput (now (bytes .entry)) (now (indices .entry)) input ⌝ }
+{
+    let description = input.description;
+    is_bad(
+        description,
+        bytes,
+        input.byte_start,
+        indices,
+        input.index_start,
+    )
+}
+
+fn has_no_text(encoding: Encoding) -> bool
+    ensures { λ r. ⌜ r ≡ hasNoText encoding ⌝ }
+{
+    match encoding {
+        Encoding::Event => true,
+        Encoding::Real => true,
+        Encoding::BitVector {
+            width: _,
+            max_states: _,
+        } => false,
+    }
+}
+
+fn width_of(encoding: Encoding) -> u32
+    ensures { λ r. ⌜ r ≡ widthOf encoding ⌝ }
+{
+    match encoding {
+        Encoding::Event => 0,
+        Encoding::Real => 0,
+        Encoding::BitVector {
+            width,
+            max_states: _,
+        } => width,
+    }
+}
+
+// Whether a record is empty or starts past index 0.
+fn is_late(indices: &[u32]) -> bool
+    ensures { λ r. ⌜ r ≡ isLate (now (indices .entry)) ⌝ }
+{
+    if indices.len() == 0 {
+        return true;
+    }
+    indices[0] != 0
+}
+
+// Whether the mark of an entry is no set's that the record can hold.
+fn any_bad_mark(description: Description, used: &[u8]) -> bool
+    requires { ⌜ isBadBytes description 0 (now used) ≡ false ⌝ }
+    ensures { λ r. ⌜ ((indices : List ℕ) → length indices ≡ description .count → r ≡ markIsBad (keptWith description (now (used .entry)) indices)) ⌝ }
+{
+    let encoding = description.encoding;
+    let Encoding::BitVector {
+        width: _,
+        max_states,
+    } = encoding
+    else {
+        return false;
+    };
+    let most = max_states.mark();
+    let count = description.count;
+    let mut k = 0;
+    while k < count {
+        if most < mark_in(max_states, entry_at(description, used, 0, k)) {
+            return true;
+        }
+        k += 1;
+    }
+    false
+}
+
+// Whether an input fails a test. All but the first are for inputs that are not 2.
+fn fails(test: InputTest, input: Input, bytes: &[u8], indices: &[u32]) -> bool
+    requires { ⌜ (isFirst test ≡ false → isBadInput (now bytes) (now indices) input ≡ false) ⌝ }
+    ensures { λ r. ⌜ r ≡ failsBy test (now (bytes .entry)) (now (indices .entry)) input ⌝ }
+{
+    let description = input.description;
+    let encoding = description.encoding;
+    match test {
+        InputTest::BadRecord => is_bad_input(input, bytes, indices),
+        InputTest::NoBitVector => has_no_text(encoding),
+        InputTest::Late => is_late(used_indices(input, indices)),
+        InputTest::Falling => falls(used_indices(input, indices)),
+        InputTest::BadMark => any_bad_mark(description, used_part(input, bytes)),
+    }
+}
+
+fn any_fails(test: InputTest, inputs: Inputs, bytes: &[u8], indices: &[u32]) -> bool
+    requires { ⌜ (isFirst test ≡ false → any (isBadInput (now bytes) (now indices)) (inputsOf inputs) ≡ false) ⌝ }
+    ensures { λ r. ⌜ r ≡ any (failsBy test (now (bytes .entry)) (now (indices .entry))) (inputsOf inputs) ⌝ }
+{
+    let count = used_slots(inputs);
+    let mut i = 0;
+    while i < count {
+        if fails(test, inputs.slots[i], bytes, indices) {
+            return true;
+        }
+        i += 1;
+    }
+    false
+}
+
+// Whether a piece is beyond the width of its input.
+fn any_beyond(derivation: DerivedBitVecSignal, inputs: Inputs) -> bool
+    requires { ⌜ Numbered derivation inputs ⌝ }
+    ensures { λ r. ⌜ ((bytes indices : List ℕ) → r ≡ any (isBeyond (keptAll bytes indices inputs)) (piecesOf derivation)) ⌝ }
+{
+    let count = derivation.piece_count as usize;
+    let mut i = 0;
+    while i < count {
+        let extract = Extract::from_u64(derivation.bits[i]);
+        let input = inputs.slots[extract.signal as usize];
+        let description = input.description;
+        let encoding = description.encoding;
+        if (width_of(encoding) as u64) < extract.end() {
+            return true;
+        }
+        i += 1;
+    }
+    false
+}
+
+// Number 14, of inputs that are not 2.
+fn is_unfit(derivation: DerivedBitVecSignal, inputs: Inputs, bytes: &[u8], indices: &[u32]) -> bool
+    requires { ⌜ any (isBadInput (now bytes) (now indices)) (inputsOf inputs) ≡ false ⌝ }
+    ensures { λ r. ⌜ r ≡ isUnfit derivation (inputs .count) (keptAll (now (bytes .entry)) (now (indices .entry)) inputs) ⌝ }
+{
+    if derivation.is_bad() {
+        return true;
+    }
+    if derivation.piece_count == 0 {
+        return true;
+    }
+    if inputs.count != derivation.input_count {
+        return true;
+    }
+    if any_fails(InputTest::NoBitVector, inputs, bytes, indices) {
+        return true;
+    }
+    any_beyond(derivation, inputs)
+}
+
+// Whether a code of the picked levels is 9 to 15.
+fn any_bad_level(extract: Extract, width: u32, states: States, levels: &[u8]) -> bool
+    requires { ⌜ Levels width states (now levels) × (endOf extract ≤ width) ⌝ }
+    ensures { λ r. ⌜ r ≡ hasNoCode (pickedOf extract (codesAt width states (now (levels .entry)))) ⌝ }
+{
+    let from = width - (extract.lsb + extract.width as u32);
+    let mut i = 0;
+    while i < extract.width as u32 {
+        if 9 <= code_at(width, states, levels, from + i) {
+            return true;
+        }
+        i += 1;
+    }
+    false
+}
+
+// The same of an entry, where only the set Nine has such codes.
+fn has_bad_pick(extract: Extract, width: u32, max_states: States, entry: &[u8]) -> bool
+    requires { ⌜ Pickable extract width «max_states» (now entry) ⌝ }
+    ensures { λ r. ⌜ r ≡ hasNoCode (pickedOf extract (levelsIn (BitVector width «max_states») (now (entry .entry)))) ⌝ }
+{
+    let states = states_of(mark_in(max_states, entry));
+    if states.bits() < 4 {
+        return false;
+    }
+    any_bad_level(extract, width, states, level_part(width, states, entry))
+}
+
+// The same of every entry of a record.
+fn any_bad_pick(extract: Extract, description: Description, used: &[u8]) -> bool
+    requires { ⌜ Picking extract description (now used) ⌝ }
+    ensures { λ r. ⌜ ((indices : List ℕ) → length indices ≡ description .count → r ≡ any (pickIsBad extract) (entriesIn (keptWith description (now (used .entry)) indices))) ⌝ }
+{
+    let encoding = description.encoding;
+    let Encoding::BitVector { width, max_states } = encoding else {
+        return false;
+    };
+    if max_states.bits() < 4 {
+        return false;
+    }
+    let count = description.count;
+    let mut k = 0;
+    while k < count {
+        let entry = entry_at(description, used, 0, k);
+        if has_bad_pick(extract, width, max_states, entry) {
+            return true;
+        }
+        k += 1;
+    }
+    false
+}
+
+// Number 10, of inputs that are not refused before.
+fn any_bad_code(
+    derivation: DerivedBitVecSignal,
+    inputs: Inputs,
+    bytes: &[u8],
+    indices: &[u32],
+) -> bool
+    requires { ⌜ Readable derivation inputs (now bytes) (now indices) ⌝ }
+    ensures { λ r. ⌜ r ≡ any (codeIsBad (keptAll (now (bytes .entry)) (now (indices .entry)) inputs)) (piecesOf derivation) ⌝ }
+{
+    let count = derivation.piece_count as usize;
+    let mut i = 0;
+    while i < count {
+        let extract = Extract::from_u64(derivation.bits[i]);
+        let input = inputs.slots[extract.signal as usize];
+        let description = input.description;
+        if any_bad_pick(extract, description, used_part(input, bytes)) {
+            return true;
+        }
+        i += 1;
+    }
+    false
+}
+
+// The first number before 7 that refuses a derivation of these inputs.
+pub fn first_refusal(
+    derivation: DerivedBitVecSignal,
+    inputs: Inputs,
+    bytes: &[u8],
+    indices: &[u32],
+) -> Verdict
+    ensures { λ r. ⌜ verdictReply r ≡ tried (firstTests derivation inputs (now (bytes .entry)) (now (indices .entry))) (given tt) ⌝ }
+{
+    if any_fails(InputTest::BadRecord, inputs, bytes, indices) {
+        return Verdict::Refused(Refusal::BadRecord);
+    }
+    if is_unfit(derivation, inputs, bytes, indices) {
+        return Verdict::Refused(Refusal::BadDerivation);
+    }
+    if any_fails(InputTest::Late, inputs, bytes, indices) {
+        return Verdict::Refused(Refusal::LateInput);
+    }
+    if any_fails(InputTest::Falling, inputs, bytes, indices) {
+        return Verdict::Refused(Refusal::IndexFalls);
+    }
+    if any_fails(InputTest::BadMark, inputs, bytes, indices) {
+        return Verdict::Refused(Refusal::BadMark);
+    }
+    if any_bad_code(derivation, inputs, bytes, indices) {
+        return Verdict::Refused(Refusal::BadCode);
+    }
+    Verdict::Accepted
+}
