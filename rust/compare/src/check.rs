@@ -1,11 +1,10 @@
-//! Each call through the oracle and, in its domain, through wellen.
+//! Each call through the oracle and, where these are there, through the archive and, in its domain, through wellen.
 
 use crate::call::{Answer, Call, DeriveCall, Outcome};
 use crate::generate::Receiver;
-use crate::reference_run::{Verdict, verdict};
 use crate::stored::line;
-use crate::{domain, shrink};
-use oracle::{Description, Fed, Refusal, States};
+use crate::{archive_run, domain, shrink};
+use oracle::{Description, Fed, States};
 use reference::Used;
 use std::collections::BTreeMap;
 
@@ -14,12 +13,17 @@ use std::collections::BTreeMap;
 pub struct Counts {
     pub accepted: u64,
     pub refused: u64,
+    /// With wellen.
     pub compared: u64,
+    /// With the archive.
+    pub archive: u64,
 }
 
 #[derive(Default)]
 pub struct Checker {
     pub counts: BTreeMap<&'static str, Counts>,
+    /// Runs of bit-vector changes from Fresh.
+    pub runs: u64,
     pub disagreements: Vec<String>,
 }
 
@@ -28,7 +32,11 @@ impl Checker {
         self.counts.values().map(|counts| counts.compared).sum()
     }
 
-    fn report(&mut self, law: &str, found: String) {
+    pub fn compared_with_archive(&self) -> u64 {
+        self.counts.values().map(|counts| counts.archive).sum()
+    }
+
+    pub fn report(&mut self, law: &str, found: String) {
         self.disagreements.push(format!("{law}: {found}"));
     }
 }
@@ -41,10 +49,15 @@ impl Receiver for Checker {
             Ok(_) => counts.accepted += 1,
             Err(_) => counts.refused += 1,
         }
-        let comparable = domain::holds(call);
-        counts.compared += u64::from(comparable);
-        if comparable && !verdict(call).agrees(call, &outcome) {
-            self.report("wellen", disagreement(&shrink::smallest(call, &disagrees)));
+        counts.compared += u64::from(cfg!(wellen) && domain::holds(call));
+        counts.archive += u64::from(archive_run::exports(call));
+        if wellen_disagrees(call, &outcome) {
+            let least = shrink::smallest(call, &|call| wellen_disagrees(call, &call.by_oracle()));
+            self.report("wellen", disagreement(&least, &wellens(&least)));
+        }
+        if archive_disagrees(call, &outcome) {
+            let least = shrink::smallest(call, &|call| archive_disagrees(call, &call.by_oracle()));
+            self.report("archive", disagreement(&least, &archives(&least)));
         }
         if let Some(law) = broken_law(call, &outcome) {
             self.report(law, line(call, &outcome));
@@ -53,6 +66,7 @@ impl Receiver for Checker {
     }
 
     fn run(&mut self, width: u32, fed: &[Fed], left: &Used) {
+        self.runs += 1;
         if !is_left_by_live_writer(width, fed, left) {
             self.report(
                 "wellen's live writer",
@@ -76,6 +90,7 @@ impl Receiver for Checker {
 }
 
 /// Whether one writer that takes all the accepted changes leaves the record.
+#[cfg(wellen)]
 fn is_left_by_live_writer(width: u32, fed: &[Fed], left: &Used) -> bool {
     let mut writer = reference::Writer::fresh(width);
     let mut accepted = fed.iter().filter(|fed| fed.accepted);
@@ -85,21 +100,53 @@ fn is_left_by_live_writer(width: u32, fed: &[Fed], left: &Used) -> bool {
         && writer.indices() == left.indices
 }
 
-/// The two outcomes in the form of the stored answers.
-fn disagreement(call: &Call) -> String {
-    let wellen = match verdict(call) {
-        Verdict::Accepted(outcome) => line(call, &outcome),
-        Verdict::Refused => "refused".to_string(),
-        Verdict::Beyond(Refusal(number)) => format!("refused with {number}, by a limit"),
-    };
-    format!(
-        "\n  oracle: {}\n  wellen: {wellen}",
-        line(call, &call.by_oracle())
-    )
+#[cfg(not(wellen))]
+fn is_left_by_live_writer(_: u32, _: &[Fed], _: &Used) -> bool {
+    true
 }
 
-fn disagrees(call: &Call) -> bool {
-    domain::holds(call) && !verdict(call).agrees(call, &call.by_oracle())
+/// The oracle's outcome and another's, in the form of the stored answers.
+fn disagreement(call: &Call, other: &str) -> String {
+    format!("\n  oracle: {}\n  {other}", line(call, &call.by_oracle()))
+}
+
+#[cfg(wellen)]
+fn wellen_disagrees(call: &Call, outcome: &Outcome) -> bool {
+    domain::holds(call) && !crate::reference_run::verdict(call).agrees(call, outcome)
+}
+
+#[cfg(not(wellen))]
+fn wellen_disagrees(_: &Call, _: &Outcome) -> bool {
+    false
+}
+
+#[cfg(wellen)]
+fn wellens(call: &Call) -> String {
+    use crate::reference_run::{Verdict, verdict};
+    match verdict(call) {
+        Verdict::Accepted(outcome) => format!("wellen: {}", line(call, &outcome)),
+        Verdict::Refused => "wellen: refused".to_string(),
+        Verdict::Beyond(oracle::Refusal(number)) => {
+            format!("wellen: refused with {number}, by a limit")
+        }
+    }
+}
+
+#[cfg(not(wellen))]
+fn wellens(_: &Call) -> String {
+    String::new()
+}
+
+/// The archive takes every call of its operations, so none is left out.
+fn archive_disagrees(call: &Call, outcome: &Outcome) -> bool {
+    archive_run::exports(call) && archive_run::outcome(call).as_ref() != Ok(outcome)
+}
+
+fn archives(call: &Call) -> String {
+    match archive_run::outcome(call) {
+        Ok(outcome) => format!("archive: {}", line(call, &outcome)),
+        Err(message) => format!("archive: {message}"),
+    }
 }
 
 /// The oracle's own laws, in wellen's domain or not.

@@ -1,0 +1,116 @@
+-- The exported operations, from what the operations on descriptions leave.
+-- Assumes nothing.
+use mathlib.Core.Path.{_≡_, refl, sym, ap, _∙_}
+use mathlib.Core.Bool.{Bool, true, false}
+use mathlib.Core.List.{List}
+use Prim.Native.Nat.{ℕ, suc, _+_, _*_, _-_, _≤_, _<_}
+use lib.ListN.{length}
+use Rattle.value.specs.declared.States.{States}
+use Rattle.value.specs.Level.{markOf}
+use Rattle.fst.specs.declared.Description.{Description}
+use Rattle.fst.specs.declared.Added.{Added}
+use Rattle.fst.specs.declared.Refusal.{Refusal}
+use Rattle.fst.specs.Refusal.{Reply, refused, given, Outcome, number, numberOf}
+use Rattle.fst.specs.Record.{Lent, sizeOf}
+use Rattle.fst.specs.Change.{Change, Recorder, addChange, leftBy}
+use Rattle.runs.proofs.Histories.{refused-unchanged}
+use Rattle.signal.specs.declared.Kind.{Kind}
+use Rattle.signal.specs.declared.EntryAnswer.{EntryAnswer}
+use Rattle.signal.specs.declared.EntryAnswer.the-variants as answer
+use Rattle.signal.specs.Read.{readEntry, entryOf, partOf, readText}
+use Rattle.signal.specs.Compare.{compareRecords}
+use Rattle.yoksimert.specs.declared.FlatDescription.{FlatDescription}
+use Rattle.yoksimert.specs.declared.FlatAdded.{FlatAdded}
+use Rattle.yoksimert.specs.declared.FlatEntry.{FlatEntry}
+use Rattle.yoksimert.specs.declared.FlatEqual.{FlatEqual}
+use Rattle.yoksimert.specs.declared.Decoded.{Decoded}
+use Rattle.yoksimert.specs.declared.Decoded.the-variants.{Known, Unknown}
+use Rattle.yoksimert.specs.Flat.{decoded, encoded, kindNumber, noEntry, flatEntry, flatEqual}
+use Rattle.yoksimert.specs.Exports.{FlatRecorder, flatLeft, addTo, flatAdd, leftByFlat, flatRead, flatText, flatCompare}
+use Rattle.yoksimert.proofs.Numbers.{forth}
+
+-- ---- Add a change
+
+abbrev flatten : Recorder → FlatRecorder
+flatten r = record { description = encoded (r .description); bytes = r .bytes; indices = r .indices }
+
+pub made-equal : {n m : ℕ} {f g : FlatDescription} → n ≡ m → f ≡ g → _≡_ {A = FlatAdded} (record { number = n; next = f }) (record { number = m; next = g })
+made-equal p q = rw (p, q)
+
+module _ (f : FlatDescription) (l : Lent) (i : ℕ) (c : Change) where
+  pub add-unknown : decoded f ≡ Unknown → leftByFlat (record { number = 2; next = f }) (l .bytes) (l .indices) ≡ flatAdd f l i c
+  unfolding flatAdd
+  add-unknown h = rw h
+
+  pub add-known : (d : Description) → decoded f ≡ Known d → (a : Added) (bytes indices : List ℕ) → leftBy a bytes indices ≡ addChange d l i c
+      → (r : FlatAdded) → r ≡ record { number = numberOf (a .verdict); next = encoded (a .next) } → leftByFlat r bytes indices ≡ flatAdd f l i c
+  unfolding flatAdd
+  add-known d h a bytes indices e r q = rw h (ap (λ (x : FlatAdded). leftByFlat x bytes indices) q ∙ ap flatLeft e)
+
+-- on a refusal the numbers and the slices come back as they were
+pub add-refused : (f : FlatDescription) (l : Lent) (i : ℕ) (c : Change) (n : ℕ) → (flatAdd f l i c) .refused ≡ suc n
+    → (flatAdd f l i c) .left ≡ record { description = f; bytes = l .bytes; indices = l .indices }
+unfolding flatAdd
+add-refused f l i c n h = go (decoded f) refl h
+  where
+    go : (x : Decoded) → decoded f ≡ x → (addTo x f l i c) .refused ≡ suc n
+        → (addTo x f l i c) .left ≡ record { description = f; bytes = l .bytes; indices = l .indices }
+    go (Known d) q h = ap flatten (refused-unchanged d l i c n h) ∙ ap (λ (g : FlatDescription). record { description = g; bytes = l .bytes; indices = l .indices }) (forth f d q)
+    go Unknown q h = refl
+
+-- ---- Text of an entry
+
+module _ (f : FlatDescription) (bytes : List ℕ) (start k : ℕ) (out : List ℕ) where
+  pub text-unknown : decoded f ≡ Unknown → _≡_ {A = Outcome (List ℕ)} (record { refused = 2; left = out }) (flatText f bytes start k out)
+  unfolding flatText
+  text-unknown h = rw h
+
+  pub text-known : (d : Description) → decoded f ≡ Known d → (n m : ℕ) (left : List ℕ) → n ≡ m
+      → _≡_ {A = Outcome (List ℕ)} (record { refused = m; left = left }) (readText d bytes start k out)
+      → _≡_ {A = Outcome (List ℕ)} (record { refused = n; left = left }) (flatText f bytes start k out)
+  unfolding flatText
+  text-known d h n m left q e = rw h (ap (λ (x : ℕ). record { refused = x; left = left }) q ∙ e)
+
+-- ---- Compare
+
+module _ (f : FlatDescription) (l : Lent) (g : FlatDescription) (m : Lent) where
+  pub compare-first : decoded f ≡ Unknown → flatEqual (refused 2) ≡ flatCompare f l g m
+  unfolding flatCompare
+  compare-first h = rw h
+
+  module _ (d : Description) (h : decoded f ≡ Known d) where
+    pub compare-second : decoded g ≡ Unknown → flatEqual (refused 2) ≡ flatCompare f l g m
+    unfolding flatCompare
+    compare-second k = rw (h, k)
+
+    pub compare-known : (e : Description) → decoded g ≡ Known e → (r : FlatEqual) (a : Reply Bool) → r ≡ flatEqual a → a ≡ compareRecords d l e m
+        → r ≡ flatCompare f l g m
+    unfolding flatCompare
+    compare-known e k r a p q = rw (h, k) (p ∙ ap flatEqual q)
+
+-- ---- Read an entry
+
+module _ (f : FlatDescription) (bytes : List ℕ) (start k : ℕ) where
+  pub read-unknown : decoded f ≡ Unknown → noEntry 2 ≡ flatRead f bytes start k
+  unfolding flatRead
+  read-unknown h = rw h
+
+  module _ (d : Description) (h : decoded f ≡ Known d) where
+    pub read-refused : (a : EntryAnswer) → entryOf a (partOf (readEntry d bytes start k)) ≡ readEntry d bytes start k → (x : Refusal) → a ≡ answer.Refused x
+        → (n : ℕ) → n ≡ number x → noEntry n ≡ flatRead f bytes start k
+    unfolding flatRead
+    read-refused a e x q n p =
+        let z = sizeOf (d .encoding) in
+        let r : refused (number x) ≡ readEntry d bytes start k = ap (λ (b : EntryAnswer). entryOf b (partOf (readEntry d bytes start k))) (sym q) ∙ e in
+        rw (h, p) (ap (flatEntry (start + (k * z + z))) r)
+
+    pub read-known : (a : EntryAnswer) → entryOf a (partOf (readEntry d bytes start k)) ≡ readEntry d bytes start k
+        → (K : Kind) (S : States) → a ≡ answer.Entry K S → (m n size : ℕ) → m ≡ kindNumber K → n ≡ markOf S → size ≡ sizeOf (d .encoding)
+        → (p : List ℕ) → p ≡ partOf (readEntry d bytes start k)
+        → _≡_ {A = FlatEntry} (record { number = 0; kind = m; set = n; start = start + (k * size + size) - length p; length = length p }) (flatRead f bytes start k)
+    unfolding flatRead
+    read-known a e K S q m n size km sn zs p pe =
+        let z = sizeOf (d .encoding) in
+        let r : given (record { kind = K; set = S; part = partOf (readEntry d bytes start k) }) ≡ readEntry d bytes start k =
+        ap (λ (b : EntryAnswer). entryOf b (partOf (readEntry d bytes start k))) (sym q) ∙ e in
+        rw (h, km, sn, zs, pe) (ap (flatEntry (start + (k * z + z))) r)

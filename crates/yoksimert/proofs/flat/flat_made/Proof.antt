@@ -1,0 +1,42 @@
+-- `yoksimert::flat::flat_made` meets its contract.
+-- Assumes nothing.
+use mathlib.Core.Path.{_≡_, refl, sym, ap, _∙_}
+use Prim.Native.Nat.{ℕ}
+use Rattle.fst.specs.declared.Made.{Made}
+use Rattle.fst.specs.Refusal.{refused, madeOf}
+use Rattle.yoksimert.specs.declared.FlatDescription.{FlatDescription}
+use Rattle.yoksimert.specs.declared.FlatMade.{FlatMade}
+use Rattle.yoksimert.specs.Flat.{flatMade}
+use Rattle.yoksimert.proofs.Numbers.{made-of}
+use borrow.Author.Needs.{needs}
+use Rattle.yoksimert.proofs.flat.flat_made.Statement.{statement}
+use Rattle.yoksimert.proofs.flat.flat_made.Tie as tie
+
+enum-known-made : tie.Need-enum-known-made
+enum-known-made c = search needs
+
+encode-requires : tie.Need-encode-requires
+encode-requires c κs = search needs
+
+enum-known-made-2 : tie.Need-enum-known-made-2
+enum-known-made-2 c = search needs
+
+refusal-number-requires : tie.Need-refusal-number-requires
+refusal-number-requires c κs = search needs
+
+returns : tie.Need-returns
+returns c = made-of (c .encode .ensures) ∙ sym (ap (λ (a : Made). flatMade (madeOf a)) (c .before .before .made .given .1))
+
+returns-2 : tie.Need-returns-2
+returns-2 c = ap (λ (n : ℕ). flatMade (refused n)) (c .refusal-number .ensures) ∙ sym (ap (λ (a : Made). flatMade (madeOf a)) (c .before .before .made2 .given .1))
+
+pub flat-made-spec : {M : Type 1} → statement M
+flat-made-spec =
+    tie.close
+    (tie.spec
+    enum-known-made
+    encode-requires
+    enum-known-made-2
+    refusal-number-requires
+    returns
+    returns-2)

@@ -1,0 +1,69 @@
+-- What each exported operation does with any numbers: the operation's definition where they are a description, and else 2.
+-- Assumes nothing.
+use Prim.Native.Nat.{ℕ, _+_, _*_}
+use mathlib.Core.Bool.{Bool}
+use mathlib.Core.List.{List}
+use Rattle.fst.specs.declared.Description.{Description}
+use Rattle.fst.specs.Refusal.{Outcome, refused}
+use Rattle.fst.specs.Record.{Lent, sizeOf}
+use Rattle.fst.specs.Change.{Change, Recorder, addChange}
+use Rattle.signal.specs.Read.{readEntry, readText}
+use Rattle.signal.specs.Compare.{compareRecords}
+use Rattle.yoksimert.specs.declared.FlatDescription.{FlatDescription}
+use Rattle.yoksimert.specs.declared.Decoded.{Decoded}
+use Rattle.yoksimert.specs.declared.Decoded.the-variants.{Known, Unknown}
+use Rattle.yoksimert.specs.declared.FlatAdded.{FlatAdded}
+use Rattle.yoksimert.specs.declared.FlatEntry.{FlatEntry}
+use Rattle.yoksimert.specs.declared.FlatEqual.{FlatEqual}
+use Rattle.yoksimert.specs.Flat.{decoded, encoded, noEntry, flatEntry, flatEqual}
+
+-- ---- Add a change
+
+-- what a call has in hand: the numbers and the two slices, whole
+pub record FlatRecorder : Type 0 where
+  pub description : FlatDescription
+  pub bytes : List ℕ
+  pub indices : List ℕ
+
+abbrev pub flatLeft : Outcome Recorder → Outcome FlatRecorder
+flatLeft o =
+    record {
+      refused = o .refused;
+      left = record { description = encoded (o .left .description); bytes = o .left .bytes; indices = o .left .indices };
+    }
+
+abbrev pub addTo : Decoded → FlatDescription → Lent → ℕ → Change → Outcome FlatRecorder
+addTo (Known d) f l i c = flatLeft (addChange d l i c)
+addTo Unknown f l i c = record { refused = 2; left = record { description = f; bytes = l .bytes; indices = l .indices } }
+
+unfoldable pub flatAdd : FlatDescription → Lent → ℕ → Change → Outcome FlatRecorder
+flatAdd f l i c = addTo (decoded f) f l i c
+
+-- what a call leaves, by its answer and the slices as they are then
+abbrev pub leftByFlat : FlatAdded → List ℕ → List ℕ → Outcome FlatRecorder
+leftByFlat r bytes indices =
+    record { refused = r .number; left = record { description = r .next; bytes = bytes; indices = indices } }
+
+-- ---- Read an entry, Text of an entry, Compare
+
+abbrev pub readIn : Decoded → List ℕ → ℕ → ℕ → FlatEntry
+readIn (Known d) bytes start k = flatEntry (start + (k * sizeOf (d .encoding) + sizeOf (d .encoding))) (readEntry d bytes start k)
+readIn Unknown bytes start k = noEntry 2
+
+unfoldable pub flatRead : FlatDescription → List ℕ → ℕ → ℕ → FlatEntry
+flatRead f bytes start k = readIn (decoded f) bytes start k
+
+abbrev pub textIn : Decoded → List ℕ → ℕ → ℕ → List ℕ → Outcome (List ℕ)
+textIn (Known d) bytes start k out = readText d bytes start k out
+textIn Unknown bytes start k out = record { refused = 2; left = out }
+
+unfoldable pub flatText : FlatDescription → List ℕ → ℕ → ℕ → List ℕ → Outcome (List ℕ)
+flatText f bytes start k out = textIn (decoded f) bytes start k out
+
+abbrev pub comparedIn : Decoded → Lent → Decoded → Lent → FlatEqual
+comparedIn (Known d) l (Known e) m = flatEqual (compareRecords d l e m)
+comparedIn (Known d) l Unknown m = flatEqual (refused 2)
+comparedIn Unknown l e m = flatEqual (refused 2)
+
+unfoldable pub flatCompare : FlatDescription → Lent → FlatDescription → Lent → FlatEqual
+flatCompare f l g m = comparedIn (decoded f) l (decoded g) m

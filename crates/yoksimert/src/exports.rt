@@ -1,0 +1,196 @@
+// The exported operations. None asks anything of its arguments but that the slices are lent as C and Rust lend them.
+ghost use mathlib.Core.Path.{_≡_};
+ghost use mathlib.Core.List.{List};
+ghost use Prim.Native.Nat.{ℕ};
+ghost use Rattle.fst.specs.Refusal.{Outcome};
+ghost use Rattle.fst.specs.Record.{fresh, freshReal};
+ghost use Rattle.fst.specs.Change.{text, real};
+ghost use Rattle.signal.specs.Offset.{lookUp};
+ghost use Rattle.yoksimert.specs.Flat.{encoded, flatMade, flatOffset};
+ghost use Rattle.yoksimert.specs.Exports.{leftByFlat, flatAdd, flatRead, flatText, flatCompare};
+use crate::Decoded;
+use crate::FlatAdded;
+use crate::FlatDescription;
+use crate::FlatEntry;
+use crate::FlatEqual;
+use crate::FlatMade;
+use crate::FlatOffset;
+use crate::flat::decode;
+use crate::flat::encode;
+use crate::flat::flat_added;
+use crate::flat::flat_equal;
+use crate::flat::flat_made;
+use crate::flat::flat_offset;
+use crate::flat::kind_number;
+use crate::flat::no_entry;
+use crate::flat::refusal_number;
+use crate::flat::set_number;
+use crate::flat::verdict_number;
+use fst::record::fresh;
+use fst::record::fresh_real;
+use signal::EntryAnswer;
+use signal::compare::compare_records;
+use signal::offset::get_offset;
+use signal::read::entry_part;
+use signal::read::read_entry;
+use signal::read::read_text;
+use signal::read::size_of;
+
+// Fresh: the empty record of a width; width 0 makes an event.
+#[no_mangle]
+pub extern "C" fn yoksimert_fresh(width: u32) -> FlatMade
+    ensures { λ r. ⌜ r ≡ flatMade (fresh width) ⌝ }
+{
+    flat_made(fresh(width))
+}
+
+// Fresh: the empty record of reals.
+#[no_mangle]
+pub extern "C" fn yoksimert_fresh_real() -> FlatDescription
+    ensures { λ r. ⌜ r ≡ encoded freshReal ⌝ }
+{
+    encode(fresh_real())
+}
+
+// Add a change, a string's.
+#[no_mangle]
+pub extern "C" fn yoksimert_add_change(
+    description: FlatDescription,
+    bytes: &mut [u8],
+    byte_start: usize,
+    indices: &mut [u32],
+    index_start: usize,
+    index: u32,
+    value: &[u8],
+) -> FlatAdded
+    ensures { λ r. ⌜ leftByFlat r (now (bytes .exit)) (now (indices .exit)) ≡ flatAdd description (record { bytes = now (bytes .entry); byteStart = «byte_start»; indices = now (indices .entry); indexStart = «index_start» }) index (text (now (value .entry))) ⌝ }
+{
+    let Decoded::Known(known) = decode(description) else {
+        return FlatAdded {
+            number: 2,
+            next: description,
+        };
+    };
+    flat_added(known.add_change(bytes, byte_start, indices, index_start, index, value))
+}
+
+// Add a change, a real's, by its 64 bits.
+#[no_mangle]
+pub extern "C" fn yoksimert_add_real(
+    description: FlatDescription,
+    bytes: &mut [u8],
+    byte_start: usize,
+    indices: &mut [u32],
+    index_start: usize,
+    index: u32,
+    bits: u64,
+) -> FlatAdded
+    ensures { λ r. ⌜ leftByFlat r (now (bytes .exit)) (now (indices .exit)) ≡ flatAdd description (record { bytes = now (bytes .entry); byteStart = «byte_start»; indices = now (indices .entry); indexStart = «index_start» }) index (real bits) ⌝ }
+{
+    let Decoded::Known(known) = decode(description) else {
+        return FlatAdded {
+            number: 2,
+            next: description,
+        };
+    };
+    flat_added(known.add_real(bytes, byte_start, indices, index_start, index, bits))
+}
+
+// Read an entry.
+#[no_mangle]
+pub extern "C" fn yoksimert_read(
+    description: FlatDescription,
+    bytes: &[u8],
+    byte_start: usize,
+    entry: u32,
+) -> FlatEntry
+    ensures { λ r. ⌜ r ≡ flatRead description (now (bytes .entry)) «byte_start» entry ⌝ }
+{
+    let Decoded::Known(known) = decode(description) else {
+        return no_entry(2);
+    };
+    let answer = read_entry(known, bytes, byte_start, entry);
+    let length = entry_part(known, bytes, byte_start, entry).len();
+    match answer {
+        EntryAnswer::Refused(refusal) => no_entry(refusal_number(refusal)),
+        EntryAnswer::Entry { kind, states } => {
+            let encoding = known.encoding;
+            let size = size_of(encoding);
+            let end = byte_start + (entry as usize * size + size);
+            FlatEntry {
+                number: 0,
+                kind: kind_number(kind),
+                set: set_number(states),
+                start: end - length,
+                length,
+            }
+        }
+    }
+}
+
+// Text of an entry: the answer is the number alone.
+#[no_mangle]
+pub extern "C" fn yoksimert_text(
+    description: FlatDescription,
+    bytes: &[u8],
+    byte_start: usize,
+    entry: u32,
+    out: &mut [u8],
+) -> u32
+    ensures { λ r. ⌜ _≡_ {A = Outcome (List ℕ)} (record { refused = r; left = now (out .exit) }) (flatText description (now (bytes .entry)) «byte_start» entry (now (out .entry))) ⌝ }
+{
+    let Decoded::Known(known) = decode(description) else {
+        return 2;
+    };
+    verdict_number(read_text(known, bytes, byte_start, entry, out))
+}
+
+// Compare.
+#[no_mangle]
+pub extern "C" fn yoksimert_compare(
+    a: FlatDescription,
+    a_bytes: &[u8],
+    a_byte_start: usize,
+    a_indices: &[u32],
+    a_index_start: usize,
+    b: FlatDescription,
+    b_bytes: &[u8],
+    b_byte_start: usize,
+    b_indices: &[u32],
+    b_index_start: usize,
+) -> FlatEqual
+    ensures { λ r. ⌜ r ≡ flatCompare a (record { bytes = now («a_bytes» .entry); byteStart = «a_byte_start»; indices = now («a_indices» .entry); indexStart = «a_index_start» }) b (record { bytes = now («b_bytes» .entry); byteStart = «b_byte_start»; indices = now («b_indices» .entry); indexStart = «b_index_start» }) ⌝ }
+{
+    let Decoded::Known(first) = decode(a) else {
+        return FlatEqual {
+            number: 2,
+            equal: false,
+        };
+    };
+    let Decoded::Known(second) = decode(b) else {
+        return FlatEqual {
+            number: 2,
+            equal: false,
+        };
+    };
+    flat_equal(compare_records(
+        first,
+        a_bytes,
+        a_byte_start,
+        a_indices,
+        a_index_start,
+        second,
+        b_bytes,
+        b_byte_start,
+        b_indices,
+        b_index_start,
+    ))
+}
+
+// Look up.
+#[no_mangle]
+pub extern "C" fn yoksimert_look_up(indices: &[u32], sought: u32) -> FlatOffset
+    ensures { λ r. ⌜ r ≡ flatOffset (lookUp (now (indices .entry)) sought) ⌝ }
+{
+    flat_offset(get_offset(indices, sought))
+}

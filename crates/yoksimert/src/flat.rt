@@ -1,0 +1,247 @@
+// Numbers into descriptions and answers into numbers.
+ghost use mathlib.Core.Path.{_≡_};
+ghost use Rattle.value.specs.Level.{markOf, setAt};
+ghost use Rattle.fst.specs.Refusal.{number, numberOf, madeOf};
+ghost use Rattle.signal.specs.Compare.{equalOf};
+ghost use Rattle.signal.specs.Offset.{offsetOf};
+ghost use Rattle.yoksimert.specs.Flat.{decoded, encoded, kindNumber, noEntry, flatMade, flatEqual, nowhere, placed, flatOffset};
+use crate::Decoded;
+use crate::FlatAdded;
+use crate::FlatDescription;
+use crate::FlatEntry;
+use crate::FlatEqual;
+use crate::FlatMade;
+use crate::FlatOffset;
+use fst::Added;
+use fst::Description;
+use fst::Encoding;
+use fst::Made;
+use fst::Refusal;
+use fst::Verdict;
+use signal::DataOffset;
+use signal::EqualAnswer;
+use signal::Kind;
+use signal::NextIndex;
+use signal::OffsetAnswer;
+use value::States;
+
+// ---- numbers of enums
+
+pub fn wide(number: u8) -> u32
+    ensures { λ r. ⌜ r ≡ number ⌝ }
+{
+    number as u32
+}
+
+pub fn verdict_number(verdict: Verdict) -> u32
+    ensures { λ r. ⌜ r ≡ numberOf verdict ⌝ }
+{
+    wide(verdict.number())
+}
+
+pub fn refusal_number(refusal: Refusal) -> u32
+    ensures { λ r. ⌜ r ≡ number refusal ⌝ }
+{
+    wide(refusal.number())
+}
+
+pub fn set_number(states: States) -> u32
+    ensures { λ r. ⌜ r ≡ markOf states ⌝ }
+{
+    wide(states.mark())
+}
+
+// The set of a number; those above 2 are none's.
+fn states_of(set: u32) -> States
+    ensures { λ r. ⌜ r ≡ setAt set ⌝ }
+{
+    match set {
+        0 => States::Two,
+        1 => States::Four,
+        _ => States::Nine,
+    }
+}
+
+pub fn kind_number(kind: Kind) -> u32
+    ensures { λ r. ⌜ r ≡ kindNumber kind ⌝ }
+{
+    match kind {
+        Kind::Event => 0,
+        Kind::Real => 1,
+        Kind::BitVector => 2,
+    }
+}
+
+// ---- descriptions
+
+pub fn decode(flat: FlatDescription) -> Decoded
+    ensures { λ r. ⌜ r ≡ decoded flat ⌝ }
+{
+    let count = flat.count;
+    if flat.kind == 2 {
+        if 2 < flat.set {
+            return Decoded::Unknown;
+        }
+        let max_states = states_of(flat.set);
+        let encoding = Encoding::BitVector {
+            width: flat.width,
+            max_states,
+        };
+        return Decoded::Known(Description { encoding, count });
+    }
+    if flat.width != 0 {
+        return Decoded::Unknown;
+    }
+    if flat.set != 0 {
+        return Decoded::Unknown;
+    }
+    if flat.kind == 0 {
+        return Decoded::Known(Description {
+            encoding: Encoding::Event,
+            count,
+        });
+    }
+    if flat.kind == 1 {
+        return Decoded::Known(Description {
+            encoding: Encoding::Real,
+            count,
+        });
+    }
+    Decoded::Unknown
+}
+
+pub fn encode(description: Description) -> FlatDescription
+    ensures { λ r. ⌜ r ≡ encoded description ⌝ }
+{
+    let count = description.count;
+    let encoding = description.encoding;
+    match encoding {
+        Encoding::Event => FlatDescription {
+            kind: 0,
+            width: 0,
+            set: 0,
+            count,
+        },
+        Encoding::Real => FlatDescription {
+            kind: 1,
+            width: 0,
+            set: 0,
+            count,
+        },
+        Encoding::BitVector { width, max_states } => FlatDescription {
+            kind: 2,
+            width,
+            set: set_number(max_states),
+            count,
+        },
+    }
+}
+
+// ---- answers
+
+pub fn flat_made(made: Made) -> FlatMade
+    ensures { λ r. ⌜ r ≡ flatMade (madeOf made) ⌝ }
+{
+    match made {
+        Made::Record(description) => FlatMade {
+            number: 0,
+            description: encode(description),
+        },
+        Made::Refused(refusal) => FlatMade {
+            number: refusal_number(refusal),
+            description: FlatDescription {
+                kind: 3,
+                width: 0,
+                set: 0,
+                count: 0,
+            },
+        },
+    }
+}
+
+pub fn flat_added(added: Added) -> FlatAdded
+    ensures { λ r. ⌜ r ≡ record { number = numberOf (added .verdict); next = encoded (added .next) } ⌝ }
+{
+    let verdict = added.verdict;
+    let next = added.next;
+    FlatAdded {
+        number: verdict_number(verdict),
+        next: encode(next),
+    }
+}
+
+pub fn no_entry(number: u32) -> FlatEntry
+    ensures { λ r. ⌜ r ≡ noEntry number ⌝ }
+{
+    FlatEntry {
+        number,
+        kind: 0,
+        set: 0,
+        start: 0,
+        length: 0,
+    }
+}
+
+pub fn flat_equal(answer: EqualAnswer) -> FlatEqual
+    ensures { λ r. ⌜ r ≡ flatEqual (equalOf answer) ⌝ }
+{
+    match answer {
+        EqualAnswer::Equal => FlatEqual {
+            number: 0,
+            equal: true,
+        },
+        EqualAnswer::Unequal => FlatEqual {
+            number: 0,
+            equal: false,
+        },
+        EqualAnswer::Refused(refusal) => FlatEqual {
+            number: refusal_number(refusal),
+            equal: false,
+        },
+    }
+}
+
+fn flat_nowhere(number: u32) -> FlatOffset
+    ensures { λ r. ⌜ r ≡ nowhere number ⌝ }
+{
+    FlatOffset {
+        number,
+        found: false,
+        start: 0,
+        elements: 0,
+        time_match: false,
+        has_next: false,
+        next_index: 0,
+    }
+}
+
+fn flat_placed(offset: DataOffset) -> FlatOffset
+    ensures { λ r. ⌜ r ≡ placed offset ⌝ }
+{
+    let next = offset.next_index;
+    let mut has_next = false;
+    let mut next_index = 0;
+    if let NextIndex::At(index) = next {
+        has_next = true;
+        next_index = index;
+    }
+    FlatOffset {
+        number: 0,
+        found: true,
+        start: offset.start,
+        elements: offset.elements,
+        time_match: offset.time_match,
+        has_next,
+        next_index,
+    }
+}
+
+pub fn flat_offset(answer: OffsetAnswer) -> FlatOffset
+    ensures { λ r. ⌜ r ≡ flatOffset (offsetOf answer) ⌝ }
+{
+    match answer {
+        OffsetAnswer::Nothing => flat_nowhere(0),
+        OffsetAnswer::At(offset) => flat_placed(offset),
+        OffsetAnswer::Refused(refusal) => flat_nowhere(refusal_number(refusal)),
+    }
+}

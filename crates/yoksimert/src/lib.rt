@@ -1,0 +1,66 @@
+// The operations of document 01 for C and Rust: flat structs of numbers in and out, and lent slices. A caller can pass any numbers.
+use fst::Description;
+
+pub mod exports;
+pub mod flat;
+
+// A description by numbers. Kind: 0 event, 1 real, 2 bit vector. Set: the mark of the largest set, 0 to 2. The width and the set of an event
+// or a real are 0. Other numbers are no description, which every operation refuses with 2.
+#[repr(C)]
+pub struct FlatDescription {
+    pub kind: u32,
+    pub width: u32,
+    pub set: u32,
+    pub count: u32,
+}
+
+// What numbers describe.
+pub enum Decoded {
+    Known(Description),
+    Unknown,
+}
+
+// In each answer `number` is 0 for an accepted call, and else the number of the refusal.
+
+// The answer of Fresh. On a refusal the description is none: its kind is 3, and it is 0 elsewhere.
+#[repr(C)]
+pub struct FlatMade {
+    pub number: u32,
+    pub description: FlatDescription,
+}
+
+// The answer of Add a change. On a refusal the next description is the given one.
+#[repr(C)]
+pub struct FlatAdded {
+    pub number: u32,
+    pub next: FlatDescription,
+}
+
+// The answer of Read: the part that holds the levels is `length` of the lent bytes from `start` on. On a refusal all but the number is 0.
+#[repr(C)]
+pub struct FlatEntry {
+    pub number: u32,
+    pub kind: u32,
+    pub set: u32,
+    pub start: usize,
+    pub length: usize,
+}
+
+// The answer of Compare. On a refusal it is not equal.
+#[repr(C)]
+pub struct FlatEqual {
+    pub number: u32,
+    pub equal: bool,
+}
+
+// The answer of Look up. Where nothing is found, all but the number is 0, and where there is no next index, that is 0.
+#[repr(C)]
+pub struct FlatOffset {
+    pub number: u32,
+    pub found: bool,
+    pub start: usize,
+    pub elements: u16,
+    pub time_match: bool,
+    pub has_next: bool,
+    pub next_index: u32,
+}

@@ -1,0 +1,151 @@
+/* The operations of libyoksimert.a, proved against document 01 ("Line records").
+ *
+ * Every function takes any numbers and ends. It reads and writes nothing but what it is lent, and keeps no pointer. A lent slice is a
+ * pointer and a number of elements; the pointer is valid for so many elements, and not null even where there are none. A slice that is
+ * lent to be altered overlaps no other slice of the call. Starts count elements from the slice's beginning.
+ *
+ * An answer's number is 0 where the call is accepted, and else the number of the refusal in document 01. On a refusal the slices are as
+ * they were.
+ *
+ *  1 width above 4,096                     7 no room in a slice, or above the maximum of 1,048,576 entries
+ *  2 not a record, or not within a slice   8 no such entry
+ *  3 another kind of record                9 an entry's mark is no set's, or above the largest set
+ *  4 length of a string                   10 an entry has a code that is no level's
+ *  5 foreign character                    11 a time index falls
+ *  6 index below the last one kept
+ */
+#ifndef YOKSIMERT_H
+#define YOKSIMERT_H
+
+#include <stdbool.h>
+#include <stddef.h>
+#include <stdint.h>
+
+#ifdef __cplusplus
+extern "C" {
+#endif
+
+/* A record without its bytes and time indices, which the caller keeps and lends. Kind: 0 event, 1 real, 2 bit vector. Set: the largest
+ * set, 0 for Two, 1 for Four, 2 for Nine. The width and the set of an event and of a real are 0. Other numbers are no description, and
+ * refused with 2. */
+typedef struct yoksimert_description {
+    uint32_t kind;
+    uint32_t width;
+    uint32_t set;
+    uint32_t count;
+} yoksimert_description;
+
+/* On a refusal the kind is 3, which is none, and the rest 0. */
+typedef struct yoksimert_made {
+    uint32_t number;
+    yoksimert_description description;
+} yoksimert_made;
+
+/* The description for the next call, on a refusal the given one. */
+typedef struct yoksimert_added {
+    uint32_t number;
+    yoksimert_description next;
+} yoksimert_added;
+
+/* An entry's kind and own set, and the place of its levels in the lent bytes, a mark in their first byte included. On a refusal all but
+ * the number is 0. */
+typedef struct yoksimert_entry {
+    uint32_t number;
+    uint32_t kind;
+    uint32_t set;
+    size_t start;
+    size_t length;
+} yoksimert_entry;
+
+/* On a refusal they are not equal. */
+typedef struct yoksimert_equal {
+    uint32_t number;
+    bool equal;
+} yoksimert_equal;
+
+/* For the greatest index not above the sought one: its first entry, how many entries carry it (modulo 65,536), whether it is the sought
+ * one, and the next greater index. Where nothing is found all but the number is 0; where there is no next index, that is 0. */
+typedef struct yoksimert_offset {
+    uint32_t number;
+    bool found;
+    size_t start;
+    uint16_t elements;
+    bool time_match;
+    bool has_next;
+    uint32_t next_index;
+} yoksimert_offset;
+
+/* Fresh: the empty record of a width; width 0 makes an event. Refused: 1. */
+yoksimert_made yoksimert_fresh(uint32_t width);
+
+/* Fresh: the empty record of reals. */
+yoksimert_description yoksimert_fresh_real(void);
+
+/* Add a change: a string of characters, one for each level. Refused: 2, 3, 4, 5, 6, 7. */
+yoksimert_added yoksimert_add_change(
+    yoksimert_description description,
+    uint8_t *bytes,
+    size_t bytes_len,
+    size_t byte_start,
+    uint32_t *indices,
+    size_t indices_len,
+    size_t index_start,
+    uint32_t index,
+    const uint8_t *value,
+    size_t value_len);
+
+/* Add a change: a real, by the 64 bits of its double. Refused: 2, 3, 6, 7. */
+yoksimert_added yoksimert_add_real(
+    yoksimert_description description,
+    uint8_t *bytes,
+    size_t bytes_len,
+    size_t byte_start,
+    uint32_t *indices,
+    size_t indices_len,
+    size_t index_start,
+    uint32_t index,
+    uint64_t bits);
+
+/* Read an entry. Refused: 2, 8, 9. */
+yoksimert_entry yoksimert_read(
+    yoksimert_description description,
+    const uint8_t *bytes,
+    size_t bytes_len,
+    size_t byte_start,
+    uint32_t entry);
+
+/* Text of an entry, into the first bytes of out. The answer is the number. Refused: 2, 3, 8, 9, 10, 7. */
+uint32_t yoksimert_text(
+    yoksimert_description description,
+    const uint8_t *bytes,
+    size_t bytes_len,
+    size_t byte_start,
+    uint32_t entry,
+    uint8_t *out,
+    size_t out_len);
+
+/* Compare: whether two records have equal time indices and values. Refused: 2, 9, 10. */
+yoksimert_equal yoksimert_compare(
+    yoksimert_description a,
+    const uint8_t *a_bytes,
+    size_t a_bytes_len,
+    size_t a_byte_start,
+    const uint32_t *a_indices,
+    size_t a_indices_len,
+    size_t a_index_start,
+    yoksimert_description b,
+    const uint8_t *b_bytes,
+    size_t b_bytes_len,
+    size_t b_byte_start,
+    const uint32_t *b_indices,
+    size_t b_indices_len,
+    size_t b_index_start);
+
+/* Look up: the entries that hold at a time index. Refused: 2, 11. */
+yoksimert_offset yoksimert_look_up(const uint32_t *indices, size_t indices_len, uint32_t sought);
+
+#ifdef __cplusplus
+}
+#endif
+
+#endif

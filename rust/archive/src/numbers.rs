@@ -1,0 +1,63 @@
+//! The oracle's types as the archive's numbers, and back.
+
+use crate::ffi::FlatDescription;
+use oracle::{Description, Encoding, Kind, Refusal, States};
+
+pub fn encode(description: Description) -> FlatDescription {
+    let (kind, width, set) = match description.encoding {
+        Encoding::Event => (0, 0, 0),
+        Encoding::Real => (1, 0, 0),
+        Encoding::BitVector { width, max_states } => (2, width, u32::from(max_states.mark())),
+    };
+    FlatDescription {
+        kind,
+        width,
+        set,
+        count: description.count,
+    }
+}
+
+/// # Panics
+/// If the numbers are no description: the archive gives none such with an accepted call.
+pub fn decode(flat: FlatDescription) -> Description {
+    let encoding = match (kind(flat.kind), flat.width, flat.set) {
+        (Kind::Event, 0, 0) => Encoding::Event,
+        (Kind::Real, 0, 0) => Encoding::Real,
+        (Kind::BitVector, width, set) => Encoding::BitVector {
+            width,
+            max_states: states(set),
+        },
+        _ => panic!("{flat:?} is no description"),
+    };
+    Description {
+        encoding,
+        count: flat.count,
+    }
+}
+
+pub fn kind(number: u32) -> Kind {
+    match number {
+        0 => Kind::Event,
+        1 => Kind::Real,
+        2 => Kind::BitVector,
+        _ => panic!("{number} is no kind"),
+    }
+}
+
+pub fn states(number: u32) -> States {
+    match number {
+        0 => States::Two,
+        1 => States::Four,
+        2 => States::Nine,
+        _ => panic!("{number} is no set"),
+    }
+}
+
+/// 0 is no refusal.
+pub fn accepted(number: u32) -> Result<(), Refusal> {
+    match number {
+        0 => Ok(()),
+        1..=15 => Err(Refusal(number as u8)),
+        _ => panic!("{number} is no number of document 01"),
+    }
+}

@@ -1,0 +1,182 @@
+//! The header, the Rust declarations and the Rattle source agree on every function's name, parameters and result, and on every struct's
+//! fields.
+
+use std::collections::BTreeMap;
+use std::fs;
+use std::path::Path;
+
+/// A struct by its fields, or a function by its parameters and its result: names with types, the types in Rust's spelling.
+type Items = BTreeMap<String, Vec<(String, String)>>;
+
+const RESULT: &str = "result";
+
+fn file(path: &str) -> String {
+    let path = Path::new(env!("CARGO_MANIFEST_DIR"))
+        .join("../..")
+        .join(path);
+    fs::read_to_string(&path).unwrap_or_else(|error| panic!("{}: {error}", path.display()))
+}
+
+/// The text without comments, in one line with single spaces.
+fn flattened(text: &str) -> String {
+    let mut rest = text;
+    let mut out = String::new();
+    while let Some(at) = rest.find("/*") {
+        out.push_str(&rest[..at]);
+        rest = rest[at..].split_once("*/").expect("the comment ends").1;
+    }
+    out.push_str(rest);
+    let lines = out
+        .lines()
+        .map(|line| line.split("//").next().unwrap_or_default());
+    lines
+        .flat_map(str::split_whitespace)
+        .collect::<Vec<_>>()
+        .join(" ")
+}
+
+/// What stands between two marks, for each place of the first.
+fn between<'a>(text: &'a str, from: &str, to: &str) -> Vec<&'a str> {
+    let behind = text.split(from).skip(1);
+    behind
+        .map(|rest| rest.split(to).next().unwrap_or_default())
+        .collect()
+}
+
+fn entries<'a>(list: &'a str, separator: char) -> impl Iterator<Item = &'a str> {
+    list.split(separator)
+        .map(str::trim)
+        .filter(|entry| !entry.is_empty())
+}
+
+/// `name: type` of Rust and Rattle; a lent slice is a pointer and a length.
+fn named(entry: &str) -> Vec<(String, String)> {
+    let (name, kind) = entry.split_once(':').expect("a name and a type");
+    let (name, kind) = (name.trim().trim_start_matches("pub "), kind.trim());
+    let slice = |pointer: &str, element: &str| {
+        let element = element.trim_end_matches(']');
+        vec![
+            (name.to_string(), format!("{pointer} {element}")),
+            (format!("{name}_len"), "usize".to_string()),
+        ]
+    };
+    if let Some(element) = kind.strip_prefix("&mut [") {
+        slice("*mut", element)
+    } else if let Some(element) = kind.strip_prefix("&[") {
+        slice("*const", element)
+    } else {
+        vec![(name.to_string(), kind.to_string())]
+    }
+}
+
+/// `type name` of C.
+fn typed(entry: &str) -> (String, String) {
+    let at = entry.rfind([' ', '*']).expect("a type and a name") + 1;
+    let (kind, name) = entry.split_at(at);
+    (name.to_string(), c_type(kind.trim()))
+}
+
+fn c_type(kind: &str) -> String {
+    if let Some(kind) = kind.strip_suffix('*') {
+        let kind = kind.trim();
+        return match kind.strip_prefix("const ") {
+            Some(kind) => format!("*const {}", c_type(kind)),
+            None => format!("*mut {}", c_type(kind)),
+        };
+    }
+    match kind {
+        "uint8_t" => "u8".to_string(),
+        "uint16_t" => "u16".to_string(),
+        "uint32_t" => "u32".to_string(),
+        "uint64_t" => "u64".to_string(),
+        "size_t" => "usize".to_string(),
+        "bool" => "bool".to_string(),
+        _ => c_struct(kind),
+    }
+}
+
+/// `yoksimert_made` is `FlatMade`.
+fn c_struct(name: &str) -> String {
+    let name = name
+        .strip_prefix("yoksimert_")
+        .unwrap_or_else(|| panic!("{name} is no type"));
+    format!("Flat{}{}", name[..1].to_uppercase(), &name[1..])
+}
+
+fn structs(text: &str) -> Items {
+    let items = between(text, "#[repr(C)]", "}");
+    let fields = items.iter().map(|item| {
+        let item = item.split_once("pub struct ").expect("a struct").1;
+        let (name, fields) = item.split_once('{').expect("fields");
+        let fields = entries(fields, ',').flat_map(named).collect();
+        (name.trim().to_string(), fields)
+    });
+    fields.collect()
+}
+
+/// Functions that begin with `before` and whose result stands before `after`.
+fn functions(text: &str, before: &str, after: &str) -> Items {
+    let items = between(text, before, after);
+    let functions = items.iter().map(|item| {
+        let (name, rest) = item.split_once('(').expect("parameters");
+        let (parameters, result) = rest.split_once(')').expect("the parameters end");
+        let result = result.trim().trim_start_matches("-> ").to_string();
+        let mut all: Vec<_> = entries(parameters, ',').flat_map(named).collect();
+        all.push((RESULT.to_string(), result));
+        (name.to_string(), all)
+    });
+    functions.collect()
+}
+
+fn of_rattle() -> Items {
+    let mut items = structs(&flattened(&file("crates/yoksimert/src/lib.rt")));
+    let exports = flattened(&file("crates/yoksimert/src/exports.rt"));
+    let exported = functions(&exports, "pub extern \"C\" fn ", " ensures");
+    assert_eq!(
+        exported.len(),
+        exports.matches("#[no_mangle]").count(),
+        "an exported function with no contract"
+    );
+    items.extend(exported);
+    items
+}
+
+fn of_rust() -> Items {
+    let text = flattened(&file("rust/archive/src/ffi.rs"));
+    let mut items = structs(&text);
+    let block = between(&text, "unsafe extern \"C\" {", "}").concat();
+    items.extend(functions(&block, "fn ", ";"));
+    items
+}
+
+fn of_header() -> Items {
+    let text = flattened(&file("include/yoksimert.h"));
+    let mut items = Items::new();
+    for item in between(&text, "typedef struct ", "}") {
+        let (name, fields) = item.split_once('{').expect("fields");
+        items.insert(
+            c_struct(name.trim()),
+            entries(fields, ';').map(typed).collect(),
+        );
+    }
+    for declaration in text.split([';', '}', '{']) {
+        let Some((head, parameters)) = declaration.split_once('(') else {
+            continue;
+        };
+        let (name, result) = typed(head.trim());
+        let parameters = parameters.split_once(')').expect("the parameters end").0;
+        let listed = entries(parameters, ',').filter(|entry| *entry != "void");
+        let mut all: Vec<_> = listed.map(typed).collect();
+        all.push((RESULT.to_string(), result));
+        items.insert(name, all);
+    }
+    items
+}
+
+#[test]
+fn the_three_texts_agree() {
+    let rattle = of_rattle();
+    assert_eq!(rattle.len(), 6 + 8, "{rattle:#?}");
+    assert_eq!(of_rust(), rattle);
+    assert_eq!(of_header(), rattle);
+}

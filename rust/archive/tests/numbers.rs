@@ -1,0 +1,93 @@
+//! Numbers that are no description are refused with 2, and everything comes back as it was.
+#![cfg(archive)]
+
+use archive::ffi::{self, FlatDescription, FlatRecord};
+
+const KINDS: [u32; 6] = [0, 1, 2, 3, 258, u32::MAX];
+const WIDTHS: [u32; 5] = [0, 1, 3, 4_096, u32::MAX];
+const SETS: [u32; 6] = [0, 1, 2, 3, 256, u32::MAX];
+const COUNTS: [u32; 3] = [0, 1, u32::MAX];
+
+fn is_description(flat: FlatDescription) -> bool {
+    match flat.kind {
+        0 | 1 => flat.width == 0 && flat.set == 0,
+        2 => flat.set <= 2,
+        _ => false,
+    }
+}
+
+fn each(mut take: impl FnMut(FlatDescription)) {
+    for kind in KINDS {
+        for width in WIDTHS {
+            for set in SETS {
+                for count in COUNTS {
+                    take(FlatDescription {
+                        kind,
+                        width,
+                        set,
+                        count,
+                    });
+                }
+            }
+        }
+    }
+}
+
+#[test]
+fn other_numbers_are_refused() {
+    let mut refused = 0;
+    each(|flat| {
+        if is_description(flat) {
+            return;
+        }
+        refused += 1;
+        let (mut bytes, mut indices, mut out) = ([7; 40], [9; 4], [b'q'; 8]);
+        let added = ffi::add_change(flat, &mut bytes, 0, &mut indices, 0, 1, b"1");
+        assert_eq!((added.number, added.next), (2, flat));
+        let added = ffi::add_real(flat, &mut bytes, 0, &mut indices, 0, 1, 1);
+        assert_eq!((added.number, added.next), (2, flat));
+        let entry = ffi::read(flat, &bytes, 0, 0);
+        assert_eq!((entry.number, entry.start, entry.length), (2, 0, 0));
+        assert_eq!(ffi::text(flat, &bytes, 0, 0, &mut out), 2);
+        let record = |description| FlatRecord {
+            description,
+            bytes: &bytes,
+            byte_start: 0,
+            indices: &indices,
+            index_start: 0,
+        };
+        for (a, b) in [
+            (flat, flat),
+            (flat, ffi::fresh_real()),
+            (ffi::fresh_real(), flat),
+        ] {
+            let answer = ffi::compare(record(a), record(b));
+            assert_eq!((answer.number, answer.equal), (2, false));
+        }
+        assert_eq!((bytes, indices, out), ([7; 40], [9; 4], [b'q'; 8]));
+    });
+    assert_eq!(refused, 3 * (2 * 29 + 3 * 5 + 3 * 30));
+}
+
+#[test]
+fn numbers_come_back_from_a_repeat() {
+    each(|flat| {
+        if !is_description(flat)
+            || flat.kind != 2
+            || !(1..=8).contains(&flat.width)
+            || flat.count != 1
+        {
+            return;
+        }
+        let (mut bytes, mut indices) = ([0; 8], [0; 2]);
+        let string = vec![b'0'; flat.width as usize];
+        let added = ffi::add_change(flat, &mut bytes, 0, &mut indices, 0, 5, &string);
+        assert_eq!((added.number, added.next), (0, flat));
+    });
+}
+
+#[test]
+fn a_width_too_large_gives_no_description() {
+    let made = ffi::fresh(4_097);
+    assert_eq!((made.number, is_description(made.description)), (1, false));
+}
