@@ -84,6 +84,12 @@ const EDITS: &[Edit] = &[
     ),
     edit(
         FST,
+        "fn expand_entries(",
+        "pub(crate) fn expand_entries(",
+        WRAPPED,
+    ),
+    edit(
+        FST,
         "    data_bytes: Vec<u8>,",
         "    pub(crate) data_bytes: Vec<u8>,",
         LOADED,

@@ -4,4 +4,5 @@ pub mod Tests
 pub mod Slices
 pub mod Backward
 pub mod Levels
+pub mod Classes
 pub mod Packed

@@ -1,10 +1,11 @@
 // Levels and state sets, after wellen's src/signal/value.rs.
 ghost use mathlib.Core.Path.{_≡_};
 ghost use Prim.Native.Nat.{_+_, _-_, _*_, _/_, _%_, _^_, _≤_, _<_};
+ghost use lib.Dec.{eqb};
 ghost use lib.ListN.{length};
-ghost use Rattle.value.specs.Level.{letterOf, markOf, bitsOf, setOf, lenOf};
+ghost use Rattle.value.specs.Level.{codeOf, fold, letterOf, markOf, bitsOf, codesIn, lenOf};
 ghost use Rattle.value.specs.Level as level;
-ghost use Rattle.value.specs.Answer.{charCode, leastStates, firstByteMask, levelAt, withLevel, LevelIn};
+ghost use Rattle.value.specs.Answer.{charCode, leastStates, holdsOne, holdsAll, firstByteMask, levelAt, withLevel, LevelIn};
 
 // A state set, by how many values a level can have.
 pub enum States {
@@ -25,20 +26,64 @@ pub enum StatesAnswer {
     Foreign,
 }
 
+// Codes by the low five bits of a character, which tell the letters apart. Where they are no letter's, 9, the tab's number.
+pub const LOW_BITS: [u8; 32] =
+    *b"\t\t\t\t\t\t\t\t\x04\t\t\t\x07\x08\t\t\0\x01\t\t\t\x05\t\x06\x02\t\x03\t\t\t\t\t";
+
+// The code of a character that is not foreign.
+fn known_code(value: u8) -> u8
+    ensures { λ r. ⌜ (codeOf (fold value) < 9 → r ≡ codeOf (fold value)) ⌝ }
+{
+    if value & 254 == b'0' {
+        value & 1
+    } else {
+        LOW_BITS[(value & 31) as usize]
+    }
+}
+
 pub fn bit_char_to_num(value: u8) -> CharCode
     ensures { λ r. ⌜ r ≡ charCode value ⌝ }
 {
-    match value {
-        b'0' => CharCode::Code(0),
-        b'1' => CharCode::Code(1),
-        b'x' | b'X' => CharCode::Code(2),
-        b'z' | b'Z' => CharCode::Code(3),
-        b'h' | b'H' => CharCode::Code(4),
-        b'u' | b'U' => CharCode::Code(5),
-        b'w' | b'W' => CharCode::Code(6),
-        b'l' | b'L' => CharCode::Code(7),
-        b'-' => CharCode::Code(8),
-        _ => CharCode::Foreign,
+    if beside_nine(value) == 0 {
+        CharCode::Code(known_code(value))
+    } else {
+        CharCode::Foreign
+    }
+}
+
+// 0 for 0 1, and another number for every other byte. These three have no loads, so that a loop over them is compiled to wide instructions.
+fn beside_two(value: u8) -> u8
+    ensures { λ r. ⌜ eqb r 0 ≡ holdsOne 2 value ⌝ }
+{
+    (value ^ b'0') & 254
+}
+
+// 0 for 0 1 x z.
+fn beside_four(value: u8) -> u8
+    ensures { λ r. ⌜ eqb r 0 ≡ holdsOne 4 value ⌝ }
+{
+    if value & 254 == b'0' {
+        0
+    } else {
+        ((value | 32) & 253) ^ b'x'
+    }
+}
+
+// 0 for 0 1 x z h u w l -.
+fn beside_nine(value: u8) -> u8
+    ensures { λ r. ⌜ eqb r 0 ≡ holdsOne 9 value ⌝ }
+{
+    let small = value | 32;
+    if value & 254 == b'0' {
+        0
+    } else if small & 253 == b'x' {
+        0
+    } else if small & 253 == b'u' {
+        0
+    } else if small & 251 == b'h' {
+        0
+    } else {
+        value ^ b'-'
     }
 }
 
@@ -69,31 +114,42 @@ fn one_bit(n: u32) -> u8
 }
 
 impl States {
-    pub fn from_ascii(value: &[u8]) -> StatesAnswer
-        ensures { λ r. ⌜ r ≡ leastStates (now (value .entry)) ⌝ }
+    // 0 for a character of the set, and another number for every other byte.
+    fn beside(self, value: u8) -> u8
+        ensures { λ r. ⌜ eqb r 0 ≡ holdsOne (codesIn self) value ⌝ }
+    {
+        let states = self;
+        match states {
+            States::Two => beside_two(value),
+            States::Four => beside_four(value),
+            States::Nine => beside_nine(value),
+        }
+    }
+
+    // Whether the set holds every character of a string.
+    fn holds(self, value: &[u8]) -> bool
+        ensures { λ r. ⌜ r ≡ holdsAll self (now (value .entry)) ⌝ }
     {
         let mut union: u8 = 0;
         let mut i = 0;
         while i < value.len() {
-            let CharCode::Code(code) = bit_char_to_num(value[i]) else {
-                return StatesAnswer::Foreign;
-            };
-            union |= code;
+            union |= self.beside(value[i]);
             i += 1;
         }
-        StatesAnswer::Least(States::from_union(union))
+        union == 0
     }
 
-    // The set that holds every code whose bits are among the given ones.
-    fn from_union(union: u8) -> States
-        ensures { λ r. ⌜ r ≡ setOf union ⌝ }
+    pub fn from_ascii(value: &[u8]) -> StatesAnswer
+        ensures { λ r. ⌜ r ≡ leastStates (now (value .entry)) ⌝ }
     {
-        if 4 <= union {
-            States::Nine
-        } else if 2 <= union {
-            States::Four
+        if States::Two.holds(value) {
+            StatesAnswer::Least(States::Two)
+        } else if States::Four.holds(value) {
+            StatesAnswer::Least(States::Four)
+        } else if States::Nine.holds(value) {
+            StatesAnswer::Least(States::Nine)
         } else {
-            States::Two
+            StatesAnswer::Foreign
         }
     }
 

@@ -1,47 +1,56 @@
 -- The working byte and the k-th byte of packed levels, which the functions that store and that compare them share.
 -- Assumes nothing.
 use mathlib.Core.Path.{_≡_, refl, sym, ap, ap₂, _∙_, subst}
-use mathlib.Core.Bool.{Bool, true, false, cond}
-use mathlib.Core.List.{List, [], _∷_, _++_}
+use mathlib.Core.Bool.{Bool, true, false, cond, _&&_}
+use mathlib.Core.List.{List, [], _∷_, _++_, map}
 use Prim.Native.Nat.{ℕ, zero, suc, _+_, _-_, _*_, _/_, _%_, _^_, _≤_, _<_}
 use native.Mathlib.Nat.{pow-suc, zero-lt-suc, mod-eq-of-lt, mul-assoc, suc-mul, zero-mul, zero-add, add-zero, add-comm, mul-le-mul-right, lt-of-lt-of-le, add-mul-div-right, add-mul-mod-self-right, div-lt-iff-lt-mul, pow-le-pow-right}
 use native.Mathlib.Numerals.{add-one}
 use native.Mathlib.Omega.{arith}
-use borrow.Author.Tests.{lt-ltb}
-use lib.Dec.{T, eqb, eqb→eq, ltb}
-use lib.ListN.{length, getD, take, drop, set, length-set, length-map, length-drop, List·getD-map}
-use lib.Seq.{length-take-le, take-add, take-suc, take-all}
-use lib.Bits.{bitOr, bitAnd, or-shifted, or-shifted-r, or-zero-r}
+use lib.Dec.{eqb, leb}
+use lib.ListN.{length, getD, take, drop, set, length-set, length-map, length-drop, take-append-drop, List·getD-map}
+use lib.Seq.{length-take-le, take-add, take-suc, take-all, drop-cons}
+use lib.Bits.{bitOr, or-shifted, or-shifted-r, or-zero-r}
 use lib.Pow.{pow-add, pow-pos, pow-mono, shl-exact}
 use lib.Arith.{digits-mod}
+use borrow.Author.Tests.{lt-leb}
 use Rattle.value.specs.declared.States.{States}
 use Rattle.value.specs.declared.States.the-variants.{Two, Four, Nine}
+use Rattle.value.specs.declared.CharCode.{CharCode}
+use Rattle.value.specs.declared.CharCode.the-variants as code
 use Rattle.value.specs.Digits.{number, digits, Below}
 use Rattle.value.specs.Slice.{part, overlay, same}
-use Rattle.value.specs.Level.{placeIn, fold, foldAll, codeOf, codesOf, bitsOf, lenOf}
-use Rattle.value.proofs.Tests.{by-le, at-below}
-use Rattle.value.proofs.Slices.{part-length, part-at, overlay-nil, overlay-store}
+use Rattle.value.specs.Level.{fold, foldAll, codeOf, codesOf, bitsOf, lenOf, isNoCode}
+use Rattle.value.specs.Answer.{charCode}
+use Rattle.value.proofs.Tests.{by-le}
+use Rattle.value.proofs.Slices.{part-length, part-at, overlay-nil, overlay-one, overlay-overlay, overlay-store}
 use Rattle.value.proofs.Levels.{len-bits}
-use Rattle.value.proofs.Digits.{below-at, below-drop, pow-pow, number-lt, number-append, number-more, number-prefix, digits-at, digits-length, base-pos}
+use Rattle.value.proofs.Classes.{lowBits, low-bits}
+use Rattle.value.proofs.Digits.{below-at, below-drop, pow-pow, number-lt, number-append, number-more, number-prefix, digits-at, digits-length, digits-high, base-pos}
 use Rattle.wavemem.proofs.Compare.{same-is, same-not}
-use Rattle.wavemem.specs.Packed.{packedWith, packedFrom, perByte, OneByte, Packable}
+use Rattle.wavemem.specs.Packed.{packedWith, packedFrom, firstCount, Codes, OneByte, FullByte, ByLowBits, Whole, Packable}
+
+-- ---- the code of a character
+
+pub code-is : (c n : ℕ) → charCode c ≡ code.Code n → n ≡ codeOf (fold c)
+unfolding charCode
+code-is c n e = go (isNoCode (codeOf (fold c))) e
+  where
+    go : (t : Bool) → cond t code.Foreign (code.Code (codeOf (fold c))) ≡ code.Code n → n ≡ codeOf (fold c)
+    go true e = cc
+    go false e = cc
+
+pub not-foreign : (c : ℕ) → codeOf (fold c) < 9 → charCode c ≡ code.Foreign → ⊥
+unfolding charCode
+not-foreign c h e =
+    let f : code.Code (codeOf (fold c)) ≡ code.Foreign = sym (simp (lt-leb 9 (codeOf (fold c)) h)) ∙ e in
+    let z : _≡_ {A = ℕ} 0 1 = cc in
+    omega arith
 
 -- ---- the working byte
 
--- the code of a character of a string
 pub code-at : (s : List ℕ) (i : ℕ) → getD (codesOf (foldAll s)) i (codeOf (fold 0)) ≡ codeOf (fold (getD s i 0))
 code-at s i = List·getD-map codeOf (foldAll s) i (fold 0) ∙ ap codeOf (List·getD-map fold s i 0)
-
--- the lowest bit of a character of the set Two
-pub low-bit : (c : ℕ) → c < 256 → codeOf (fold c) < 2 → bitAnd c 1 ≡ codeOf (fold c)
-unfolding codeOf placeIn fold
-low-bit c l h =
-    eqb→eq (bitAnd c 1) (codeOf (fold c))
-    (cond-true (eqb (bitAnd c 1) (codeOf (fold c))) (ltb (codeOf (fold c)) 2) (lt-ltb (codeOf (fold c)) 2 h)
-    (at-below (λ (k : ℕ). cond (ltb (codeOf (fold k)) 2) (eqb (bitAnd k 1) (codeOf (fold k))) true) 256 tt c l))
-  where
-    cond-true : (b t : Bool) → t ≡ true → T (cond t b true) → T b
-    cond-true b t e = rw e (λ x. x)
 
 pub below-take : (B : ℕ) (ds : List ℕ) → Below B ds → (i : ℕ) → Below B (take i ds)
 below-take B ds h zero = tt
@@ -60,6 +69,10 @@ module _ (b : ℕ) (cs : List ℕ) (below : Below (2 ^ b) cs) (short : length cs
       rw (so-far, shl-exact {a = n} (i * b) b 8 l f, or-shifted n b c k, number-more (2 ^ b) cs i d more, is)
 
 -- ---- the walk over the bytes
+
+-- how many levels a byte holds
+abbrev pub perByte : States → ℕ
+perByte s = 8 / bitsOf s
 
 pub per-bits : (s : States) → perByte s * bitsOf s ≡ 8
 per-bits Two = refl
@@ -167,6 +180,10 @@ meta-on meta k = record { first = λ e. omega arith; later = λ h. refl }
 
 module _ (s : States) (cs : List ℕ) (meta : ℕ) (below : Below (2 ^ bitsOf s) cs) (marked : meta % 64 ≡ 0) (fits : meta < 256)
     (free : 0 < meta → length cs * bitsOf s + 2 ≤ 8 * lenOf (length cs) s) where
+  pub packed-length : length (packedWith (bitsOf s) meta cs) ≡ lenOf (length cs) s
+  unfolding packedWith
+  packed-length = digits-length 256 _ _ ∙ sym (len-bits (length cs) s)
+
   -- where meta data is set, the first byte has two bits free
   top-free : (n : ℕ) → n ≡ lenOf (length cs) s → 0 < n → 0 < meta → number (2 ^ bitsOf s) cs < 64 * 256 ^ (n - 1)
   top-free n e h m =
@@ -304,3 +321,213 @@ module _ (bytes : List ℕ) {s : States} {v : List ℕ} {at meta : ℕ} (ok : Pa
       sym
       (same-not (there s v bytes at) (packedFrom s meta v)
       (λ g. f (sym (part-at bytes at (lenOf (length v) s) k 0 more) ∙ ap (λ (l : List ℕ). getD l k 0) g ∙ sym e)))
+
+-- ---- strings that fill whole bytes
+
+pub per-pos : (s : States) → 0 < perByte s
+per-pos Two = omega arith
+per-pos Four = omega arith
+per-pos Nine = omega arith
+
+module _ {w p n k from : ℕ} (walk : Walk w p n k from (from + p)) where
+  -- characters are left while bytes are
+  pub bytes-left : from < w → k < n
+  bytes-left h =
+      by-le n k
+      (λ g. let z : n - k ≡ 0 = omega arith in let e : from + p + 0 * p ≡ w + p = rw z at (walk .ends) in absurd (omega arith)) (λ g. g)
+
+  pub none-left : 0 < p → w ≤ from → n ≤ k
+  none-left q h = by-le n k (λ g. g) (λ g. absurd (omega (arith, behind walk g)))
+
+pub by-low-bits : ByLowBits lowBits
+by-low-bits = record { here = low-bits }
+
+module _ {s : States} {v : List ℕ} {room at : ℕ} (ok : Whole s v room at) where
+  pub plain : Packable s v room at 0
+  plain = record { codes = ok .codes; short = ok .short; fits = ok .fits; marked = refl; free = λ h. absurd (omega arith) }
+
+  pub first-whole : length v + perByte s - lenOf (length v) s * perByte s ≡ 0 + perByte s
+  first-whole = omega (arith, ok .full)
+
+  module _ {k from : ℕ} (walk : Walk (length v) (perByte s) (lenOf (length v) s) k from (from + perByte s)) (more : from < length v) where
+    pub full-byte : FullByte s (take (from + perByte s - from) (drop from v))
+    full-byte =
+        let m = bytes-left walk more in
+        let h = to-within walk m in
+        record {
+          one = one-byte plain walk m;
+          full = length-take-le (from + perByte s - from) (drop from v) (simp length-drop (omega arith)) ∙ (let z : from + perByte s - from ≡ perByte s = omega arith in z);
+        }
+
+    pub whole-is : (r : ℕ) → r ≡ number (2 ^ bitsOf s) (codesOf (foldAll (take (from + perByte s - from) (drop from v)))) → MetaAt 0 k 0 → r ≡ getD (packedFrom s 0 v) k 0
+    whole-is r e m = sym (or-zero-r r) ∙ is-byte plain walk (bytes-left walk more) 0 r (omega arith) m e
+
+pub stored-whole : {s : States} {v d : List ℕ} {at : ℕ} → Whole s v (length d) at → Stored s v d at 0 d 0 0 (0 + perByte s) 0
+stored-whole {s} {v} {d} {at} ok = subst (λ (t : ℕ). Stored s v d at 0 d 0 0 t 0) (first-whole ok) (stored-start (plain ok))
+
+pub agrees-whole : {s : States} {v : List ℕ} {at : ℕ} (bytes : List ℕ) → Whole s v (length bytes) at → Agrees s v bytes at 0 0 0 (0 + perByte s) 0
+agrees-whole {s} {v} {at} bytes ok = subst (λ (t : ℕ). Agrees s v bytes at 0 0 0 t 0) (first-whole ok) (agrees-start bytes (plain ok))
+
+-- ---- a first byte that is not full
+
+pub codes-drop : (f : ℕ) (v : List ℕ) → codesOf (foldAll (drop f v)) ≡ drop f (codesOf (foldAll v))
+codes-drop zero v = refl
+codes-drop (suc f) [] = refl
+codes-drop (suc f) (c ∷ v) = codes-drop f v
+
+-- the bytes behind the first are those of the levels behind it
+packed-tail : (b meta f m : ℕ) (cs : List ℕ) → f ≤ length cs → (length cs * b + 7) / 8 ≡ suc m → (length cs - f) * b ≡ m * 8
+    → drop 1 (packedWith b meta cs) ≡ packedWith b 0 (drop f cs)
+unfolding packedWith digits
+packed-tail b meta f m cs h e g =
+    let ys = drop f cs in
+    let N = number (2 ^ b) (take f cs) in
+    let l : length ys ≡ length cs - f = length-drop f cs in
+    let far : (2 ^ b) ^ length ys ≡ 256 ^ m = rw l (pow-pow 2 b (length cs - f) ∙ ap (λ (x : ℕ). 2 ^ x) g ∙ sym (pow-pow 2 8 m)) in
+    let n : number (2 ^ b) cs ≡ N * 256 ^ m + number (2 ^ b) ys =
+    ap (number (2 ^ b)) (sym (take-append-drop f cs)) ∙ number-append (2 ^ b) (take f cs) ys ∙ ap (λ (x : ℕ). N * x + number (2 ^ b) ys) far in
+    let q : (length ys * b + 7) / 8 ≡ m = ap (λ (x : ℕ). (x * b + 7) / 8) l ∙ ap (λ (x : ℕ). (x + 7) / 8) g ∙ (let z : (m * 8 + 7) / 8 ≡ m = omega arith in z) in
+    let o : suc m - 1 ≡ m = omega arith in
+    let sum : meta * 256 ^ m + (N * 256 ^ m + number (2 ^ b) ys) ≡ number (2 ^ b) ys + (meta + N) * 256 ^ m = omega arith in
+    let none : 0 * 256 ^ (m - 1) + number (2 ^ b) ys ≡ number (2 ^ b) ys = omega arith in
+    ap (λ (k : ℕ). drop 1 (digits 256 k (meta * 256 ^ (k - 1) + number (2 ^ b) cs))) e
+    ∙ ap (λ (k : ℕ). digits 256 m (meta * 256 ^ k + number (2 ^ b) cs)) o
+    ∙ ap (λ (x : ℕ). digits 256 m (meta * 256 ^ m + x)) n
+    ∙ ap (digits 256 m) sum
+    ∙ digits-high 256 (zero-lt-suc 255) m (number (2 ^ b) ys) (meta + N)
+    ∙ sym (ap (λ (k : ℕ). digits 256 k (0 * 256 ^ (k - 1) + number (2 ^ b) ys)) q ∙ ap (digits 256 m) none)
+
+len-full : (m : ℕ) (s : States) → lenOf (m * perByte s) s ≡ m
+len-full m Two = omega arith
+len-full m Four = omega arith
+len-full m Nine = omega arith
+
+empty : (l : List ℕ) → length l ≡ 0 → l ≡ []
+empty [] e = refl
+empty (x ∷ l) e = absurd (omega arith)
+
+len-none : (s : States) → lenOf 0 s ≡ 0
+len-none Two = refl
+len-none Four = refl
+len-none Nine = refl
+
+-- the first byte, and the string behind it
+module _ {s : States} {v : List ℕ} {room at meta : ℕ} (ok : Packable s v room at meta) where
+  abbrev first : ℕ
+  first = firstCount s (length v)
+
+  module _ (e : first ≡ perByte s) where
+    pub all-whole : Whole s v room at
+    all-whole = record { codes = ok .codes; short = ok .short; fits = ok .fits; full = omega (arith, spans (length v) s, e) }
+
+    -- no bits are free for meta data
+    pub no-meta : meta ≡ 0
+    no-meta =
+        by-le 1 meta
+        (λ h.
+        let l : length v ≡ lenOf (length v) s * perByte s = omega (arith, spans (length v) s, e) in
+        let z : length v * bitsOf s ≡ lenOf (length v) s * 8 =
+        ap (λ (x : ℕ). x * bitsOf s) l ∙ mul-assoc (lenOf (length v) s) (perByte s) (bitsOf s) ∙ ap (λ (x : ℕ). lenOf (length v) s * x) (per-bits s) in
+        absurd (omega (arith, ok .free h)))
+        (λ h. omega arith)
+
+  module _ (e : first ≡ perByte s → ⊥) where
+    -- how many bytes are behind the first
+    abbrev later : ℕ
+    later = lenOf (length v) s - 1
+
+    some : 0 < lenOf (length v) s
+    some =
+        by-le 1 (lenOf (length v) s) (λ h. h)
+        (λ h.
+        let z : lenOf (length v) s ≡ 0 = omega arith in
+        let y : lenOf (length v) s * perByte s ≡ 0 = rw z (zero-mul (perByte s)) in
+        absurd (e (omega (arith, spans (length v) s))))
+
+    behind-first : first + later * perByte s ≡ length v
+    behind-first =
+        let y : lenOf (length v) s * perByte s ≡ later * perByte s + perByte s = ap (λ (x : ℕ). x * perByte s) (omega (arith, some)) ∙ suc-mul later (perByte s) in
+        omega (arith, spans (length v) s)
+
+    rest-length : length (drop first v) ≡ later * perByte s
+    rest-length = length-drop first v ∙ omega (arith, behind-first)
+
+    pub rest-size : lenOf (length v) s ≡ suc (lenOf (length (drop first v)) s)
+    rest-size = rw (rest-length, len-full later s) (omega (arith, some))
+
+    pub rest-whole : Whole s (drop first v) room (at + 1)
+    rest-whole =
+        let f = ok .fits in
+        record {
+          codes = record { known = rw codes-drop (below-drop 9 _ (ok .codes .known) first); below = rw codes-drop (below-drop (2 ^ bitsOf s) _ (ok .codes .below) first) };
+          short = rw rest-length (omega (arith, behind-first, ok .short));
+          fits = omega (arith, rest-size);
+          full = rw (rest-length, len-full later s);
+        }
+
+    pub first-fits : first ≤ length v
+    first-fits = omega (arith, behind-first)
+
+    pub place-fits : at + 1 ≤ room
+    place-fits = omega (arith, some, ok .fits)
+
+    same-first : take (first - 0) (drop 0 v) ≡ take first v
+    same-first = ap (λ (x : ℕ). take x v) (let z : first - 0 ≡ first = omega arith in z)
+
+    pub first-byte : OneByte s (take first v)
+    first-byte = subst (OneByte s) same-first (one-byte ok (walk-start (length v) s) some)
+
+    pub packed-cons : (r : ℕ) → meta < 256 → r ≡ number (2 ^ bitsOf s) (codesOf (foldAll (take first v))) → packedFrom s meta v ≡ bitOr r meta ∷ packedFrom s 0 (drop first v)
+    packed-cons r fits n =
+        let P = packedFrom s meta v in
+        let cs = codesOf (foldAll v) in
+        let l : length cs ≡ length v = length-codes v in
+        let x : bitOr r meta ≡ getD P 0 0 =
+        is-byte ok (walk-start (length v) s) some meta r fits (meta-start meta) (n ∙ ap (λ (t : List ℕ). number (2 ^ bitsOf s) (codesOf (foldAll t))) (sym same-first)) in
+        let g : (length cs - first) * bitsOf s ≡ later * 8 =
+        ap (λ (y : ℕ). y * bitsOf s) (let z : length cs - first ≡ later * perByte s = omega (arith, behind-first) in z)
+        ∙ mul-assoc later (perByte s) (bitsOf s) ∙ ap (λ (y : ℕ). later * y) (per-bits s) in
+        let t : drop 1 P ≡ packedFrom s 0 (drop first v) =
+        packed-tail (bitsOf s) meta first later cs (omega (arith, first-fits)) (sym (len-bits (length cs) s) ∙ rw l (omega (arith, some))) g
+        ∙ ap (packedWith (bitsOf s) 0) (sym (codes-drop first v)) in
+        drop-cons P 0 0 (rw (packed-from-length ok) some) ∙ ap₂ (λ (y : ℕ) (ys : List ℕ). y ∷ ys) (sym x) t
+
+    -- the part of the string that is lent
+    pub rest-is : take (length v - first) (drop first v) ≡ drop first v
+    rest-is = take-all (length v - first) (drop first v) (rw (length-drop first v) (omega arith))
+
+    module _ (l : List ℕ) (long : length l ≡ room) (r : ℕ) (fits : meta < 256) (is : r ≡ number (2 ^ bitsOf s) (codesOf (foldAll (take first v)))) where
+      abbrev rest : List ℕ
+      rest = packedFrom s 0 (drop first v)
+
+      pub first-stored : overlay (set l at (bitOr r meta)) (at + 1) rest ≡ overlay l at (packedFrom s meta v)
+      first-stored =
+          let x = bitOr r meta in
+          ap (λ (o : List ℕ). overlay o (at + 1) rest) (sym (overlay-one l at x (omega (arith, place-fits))))
+          ∙ overlay-overlay l at (x ∷ []) rest (at + 1) (omega arith) (omega (arith, place-fits))
+          ∙ ap (overlay l at) (sym (packed-cons r fits is))
+
+      pub first-compared : same (part at (lenOf (length v) s) l) (packedFrom s meta v) ≡ eqb (getD l at 0) (bitOr r meta) && same (part (at + 1) (lenOf (length (drop first v)) s) l) rest
+      unfolding same part
+      first-compared =
+          ap₂ (λ (n : ℕ) (q : List ℕ). same (take n (drop at l)) q) rest-size (packed-cons r fits is)
+          ∙ ap (λ (q : List ℕ). same (take (suc (lenOf (length (drop first v)) s)) q) (bitOr r meta ∷ rest)) (drop-cons l at 0 (omega (arith, place-fits)))
+          ∙ ap (λ (n : ℕ). eqb (getD l at 0) (bitOr r meta) && same (take (lenOf (length (drop first v)) s) (drop n l)) rest) (sym (add-one at))
+
+      -- where the first byte is the only one
+      module _ (only : first ≡ length v) where
+        none-behind : length (drop first v) ≡ 0
+        none-behind = length-drop first v ∙ omega (arith, only)
+
+        no-rest : rest ≡ []
+        no-rest = empty rest (packed-from-length (plain rest-whole) ∙ ap (λ (n : ℕ). lenOf n s) none-behind ∙ len-none s)
+
+        pub only-size : lenOf (length v) s ≡ 1
+        only-size = rest-size ∙ ap (λ (n : ℕ). suc (lenOf n s)) none-behind ∙ ap suc (len-none s)
+
+        pub only-stored : set l at (bitOr r meta) ≡ overlay l at (packedFrom s meta v)
+        only-stored = sym (overlay-nil (set l at (bitOr r meta)) (at + 1)) ∙ ap (overlay (set l at (bitOr r meta)) (at + 1)) (sym no-rest) ∙ first-stored
+
+        pub only-compared : true ≡ same (part (at + 1) (lenOf (length (drop first v)) s) l) rest
+        unfolding same part
+        only-compared = sym (ap₂ (λ (n : ℕ) (q : List ℕ). same (take (lenOf n s) (drop (at + 1) l)) q) none-behind no-rest ∙ ap (λ (n : ℕ). same (take n (drop (at + 1) l)) []) (len-none s))

@@ -1,52 +1,27 @@
 // Levels packed into bytes, after wellen's src/wavemem.rs.
 ghost use mathlib.Core.Path.{_≡_};
-ghost use Prim.Native.Nat.{_+_, _-_, _*_, _^_, _≤_};
+ghost use Prim.Native.Nat.{_+_, _/_, _^_, _≤_};
 ghost use lib.ListN.{length};
-ghost use Rattle.value.specs.declared.States.the-variants.{Two};
 ghost use Rattle.value.specs.Digits.{number};
 ghost use Rattle.value.specs.Slice.{part, overlay, same};
 ghost use Rattle.value.specs.Level.{foldAll, codesOf, bitsOf, lenOf};
-ghost use Rattle.wavemem.specs.Packed.{perByte, packedFrom, OneByte, Packable};
+ghost use Rattle.wavemem.specs.Packed.{packedFrom, firstCount, OneByte, FullByte, ByLowBits, Whole, Packable};
 use value::CharCode;
 use value::States;
 
-// How levels lie in bytes: in how many, how many a byte holds, and how many of them are in the first.
-struct ByteLayout {
-    len: usize,
-    per_byte: usize,
-    first: usize,
-}
-
-fn byte_layout(states: States, width: usize) -> ByteLayout
-    requires { ⌜ width ≤ 4096 ⌝ }
-    ensures { λ r. ⌜ (r .len ≡ lenOf width states) × (r .«per_byte» ≡ perByte states) × (r .first ≡ width + perByte states - lenOf width states * perByte states) ⌝ }
+// How many levels a byte holds.
+fn bits_in_a_byte(states: States) -> usize
+    ensures { λ r. ⌜ r ≡ 8 / bitsOf states ⌝ }
 {
-    let len = states.bytes_required(width as u32);
-    let per_byte = states.bits_in_a_byte() as usize;
-    ByteLayout {
-        len,
-        per_byte,
-        first: width + per_byte - len * per_byte,
+    match states {
+        States::Two => 8,
+        States::Four => 4,
+        States::Nine => 2,
     }
 }
 
-// The byte of n characters of the set Two. The lowest bit of '0' and of '1' is its code.
-fn two_state_byte(value: &[u8], n: usize) -> u8
-    requires { ⌜ OneByte Two (now value) × (n ≡ length (now value)) ⌝ }
-    ensures { λ r. ⌜ r ≡ number 2 (codesOf (foldAll (now (value .entry)))) ⌝ }
-{
-    let mut working: u8 = 0;
-    let mut i = 0;
-    while i < n {
-        let code = value[i] & 1;
-        i += 1;
-        working = (working << 1) | code;
-    }
-    working
-}
-
-// The byte of characters of any set, by their codes.
-fn n_state_byte(states: States, value: &[u8]) -> u8
+// The byte of so few characters that one byte holds them. None is foreign.
+fn byte_from_ascii(states: States, value: &[u8]) -> u8
     requires { ⌜ OneByte states (now value) ⌝ }
     ensures { λ r. ⌜ r ≡ number (2 ^ bitsOf states) (codesOf (foldAll (now (value .entry)))) ⌝ }
 {
@@ -63,21 +38,139 @@ fn n_state_byte(states: States, value: &[u8]) -> u8
     working
 }
 
-// The byte of so few characters that one byte holds them. None is foreign.
-fn byte_from_ascii(states: States, value: &[u8]) -> u8
-    requires { ⌜ OneByte states (now value) ⌝ }
+// The same where the characters are known, by a table of codes.
+fn byte_by_low_bits(states: States, codes: &[u8; 32], value: &[u8]) -> u8
+    requires { ⌜ OneByte states (now value) × ByLowBits (now codes) ⌝ }
     ensures { λ r. ⌜ r ≡ number (2 ^ bitsOf states) (codesOf (foldAll (now (value .entry)))) ⌝ }
 {
-    if let States::Two = states {
-        // A full byte by itself: its loop has a fixed count and is unrolled.
-        if value.len() == 8 {
-            two_state_byte(value, 8)
-        } else {
-            two_state_byte(value, value.len())
-        }
-    } else {
-        n_state_byte(states, value)
+    let bits = states.bits();
+    let mut working: u8 = 0;
+    let mut i = 0;
+    while i < value.len() {
+        let low = value[i] & 31;
+        i += 1;
+        working = (working << bits) | codes[low as usize];
     }
+    working
+}
+
+// Eight bytes as one number, the first one highest. Each has its own shift, so that it is compiled to one load.
+fn word(value: &[u8]) -> u64
+    requires { ⌜ length (now value) ≡ 8 ⌝ }
+    ensures { λ r. ⌜ r ≡ number 256 (now (value .entry)) ⌝ }
+{
+    let mut word: u64 = 0;
+    let mut shift: u32 = 64;
+    let mut i = 0;
+    while i < value.len() {
+        shift -= 8;
+        word |= wide(value[i]) << shift;
+        i += 1;
+    }
+    word
+}
+
+fn wide(byte: u8) -> u64
+    ensures { λ r. ⌜ r ≡ byte ⌝ }
+{
+    byte as u64
+}
+
+// The byte of eight characters 0 and 1: their lowest bits, pushed together.
+fn byte_of_bits(value: &[u8]) -> u8
+    requires { ⌜ FullByte States.Two (now value) ⌝ }
+    ensures { λ r. ⌜ r ≡ number 2 (codesOf (foldAll (now (value .entry)))) ⌝ }
+{
+    let x = word(value) & 0x0101_0101_0101_0101;
+    let y = x | (x >> 7);
+    let z = y | (y >> 14);
+    ((z | (z >> 28)) & 255) as u8
+}
+
+// The byte of as many known characters as a byte holds.
+fn whole_byte(states: States, codes: &[u8; 32], value: &[u8]) -> u8
+    requires { ⌜ FullByte states (now value) × ByLowBits (now codes) ⌝ }
+    ensures { λ r. ⌜ r ≡ number (2 ^ bitsOf states) (codesOf (foldAll (now (value .entry)))) ⌝ }
+{
+    match states {
+        States::Two => byte_of_bits(value),
+        States::Four => byte_by_low_bits(States::Four, codes, value),
+        States::Nine => byte_by_low_bits(States::Nine, codes, value),
+    }
+}
+
+// Stores the levels of a string that fills whole bytes. Returns the place behind them.
+fn write_bytes(states: States, codes: &[u8; 32], value: &[u8], out: &mut [u8], at: usize) -> usize
+    requires { ⌜ Whole states (now value) (length (now out)) at × ByLowBits (now codes) ⌝ }
+    ensures { λ r. ⌜ r ≡ at + lenOf (length (now (value .entry))) states ⌝ }
+    ensures { λ _. ⌜ now (out .exit) ≡ overlay (now (out .entry)) at (packedFrom states 0 (now (value .entry))) ⌝ }
+{
+    let per_byte = bits_in_a_byte(states);
+    let mut from = 0;
+    let mut k = 0;
+    while from < value.len() {
+        let to = from + per_byte;
+        out[at + k] = whole_byte(states, codes, &value[from..to]);
+        from = to;
+        k += 1;
+    }
+    at + k
+}
+
+// Whether the bytes from a place on are those that `write_bytes` would store there.
+fn equals_bytes(states: States, codes: &[u8; 32], value: &[u8], bytes: &[u8], at: usize) -> bool
+    requires { ⌜ Whole states (now value) (length (now bytes)) at × ByLowBits (now codes) ⌝ }
+    ensures { λ r. ⌜ r ≡ same (part at (lenOf (length (now (value .entry))) states) (now (bytes .entry))) (packedFrom states 0 (now (value .entry))) ⌝ }
+{
+    let per_byte = bits_in_a_byte(states);
+    let mut from = 0;
+    let mut k = 0;
+    while from < value.len() {
+        let to = from + per_byte;
+        if bytes[at + k] != whole_byte(states, codes, &value[from..to]) {
+            return false;
+        }
+        from = to;
+        k += 1;
+    }
+    true
+}
+
+// `write_bytes` for each set apart, so that each is compiled for its own number of bits.
+fn write_whole(states: States, value: &[u8], out: &mut [u8], at: usize) -> usize
+    requires { ⌜ Whole states (now value) (length (now out)) at ⌝ }
+    ensures { λ r. ⌜ r ≡ at + lenOf (length (now (value .entry))) states ⌝ }
+    ensures { λ _. ⌜ now (out .exit) ≡ overlay (now (out .entry)) at (packedFrom states 0 (now (value .entry))) ⌝ }
+{
+    let codes = value::LOW_BITS;
+    match states {
+        States::Two => write_bytes(States::Two, &codes, value, out, at),
+        States::Four => write_bytes(States::Four, &codes, value, out, at),
+        States::Nine => write_bytes(States::Nine, &codes, value, out, at),
+    }
+}
+
+// `equals_bytes` for each set apart.
+fn equals_whole(states: States, value: &[u8], bytes: &[u8], at: usize) -> bool
+    requires { ⌜ Whole states (now value) (length (now bytes)) at ⌝ }
+    ensures { λ r. ⌜ r ≡ same (part at (lenOf (length (now (value .entry))) states) (now (bytes .entry))) (packedFrom states 0 (now (value .entry))) ⌝ }
+{
+    let codes = value::LOW_BITS;
+    match states {
+        States::Two => equals_bytes(States::Two, &codes, value, bytes, at),
+        States::Four => equals_bytes(States::Four, &codes, value, bytes, at),
+        States::Nine => equals_bytes(States::Nine, &codes, value, bytes, at),
+    }
+}
+
+// How many characters the first byte has.
+fn first_count(states: States, width: usize) -> usize
+    requires { ⌜ width ≤ 4096 ⌝ }
+    ensures { λ r. ⌜ r ≡ firstCount states width ⌝ }
+{
+    let len = states.bytes_required(width as u32);
+    let per_byte = bits_in_a_byte(states);
+    width + per_byte - len * per_byte
 }
 
 // Stores the levels of a string from a place on, with meta data in the top of the first byte. Returns the place behind them.
@@ -92,21 +185,15 @@ pub fn write_n_state_from_ascii(
     ensures { λ r. ⌜ r ≡ at + lenOf (length (now (value .entry))) states ⌝ }
     ensures { λ _. ⌜ now (out .exit) ≡ overlay (now (out .entry)) at (packedFrom states meta_data (now (value .entry))) ⌝ }
 {
-    let layout = byte_layout(states, value.len());
-    let len = layout.len;
-    let per_byte = layout.per_byte;
-    let mut meta = meta_data;
-    let mut from = 0;
-    let mut to = layout.first;
-    let mut k = 0;
-    while k < len {
-        out[at + k] = byte_from_ascii(states, &value[from..to]) | meta;
-        meta = 0;
-        from = to;
-        to += per_byte;
-        k += 1;
+    let first = first_count(states, value.len());
+    if first == bits_in_a_byte(states) {
+        return write_whole(states, value, out, at);
     }
-    at + len
+    out[at] = byte_from_ascii(states, &value[..first]) | meta_data;
+    if first == value.len() {
+        return at + 1;
+    }
+    write_whole(states, &value[first..], out, at + 1)
 }
 
 // Whether the bytes from a place on are those that `write_n_state_from_ascii` would store there.
@@ -120,21 +207,15 @@ pub fn equals_n_state_from_ascii(
     requires { ⌜ Packable states (now value) (length (now bytes)) at meta_data ⌝ }
     ensures { λ r. ⌜ r ≡ same (part at (lenOf (length (now (value .entry))) states) (now (bytes .entry))) (packedFrom states meta_data (now (value .entry))) ⌝ }
 {
-    let layout = byte_layout(states, value.len());
-    let len = layout.len;
-    let per_byte = layout.per_byte;
-    let mut meta = meta_data;
-    let mut from = 0;
-    let mut to = layout.first;
-    let mut k = 0;
-    while k < len {
-        if bytes[at + k] != (byte_from_ascii(states, &value[from..to]) | meta) {
-            return false;
-        }
-        meta = 0;
-        from = to;
-        to += per_byte;
-        k += 1;
+    let first = first_count(states, value.len());
+    if first == bits_in_a_byte(states) {
+        return equals_whole(states, value, bytes, at);
     }
-    true
+    if bytes[at] != (byte_from_ascii(states, &value[..first]) | meta_data) {
+        return false;
+    }
+    if first == value.len() {
+        return true;
+    }
+    equals_whole(states, &value[first..], bytes, at + 1)
 }

@@ -2,9 +2,10 @@
 
 use crate::panics::refusing;
 use crate::stand_ins::{FstSignalHandle, FstSignalValue};
-use crate::wellen::fst::{SignalWriter, get_bytes_per_entry, get_len_and_meta};
+use crate::wellen::fst::{SignalWriter, expand_entries, get_bytes_per_entry, get_len_and_meta};
 use crate::wellen::signal::transform::{DerivedBitVecSignal, transform_bv_signal};
 use crate::wellen::signal::{ChangeData, FixedWidthEncoding, SignalValueRef};
+use crate::wellen::wavemem::write_n_state_from_ascii;
 use crate::wellen::{Signal, SignalEncoding, SignalRef, States as WellenStates};
 use crate::{Pieces, Refused, Used, Value};
 use oracle::{Change, Derivation, Description, Encoding, Offset, Side, States};
@@ -271,4 +272,19 @@ pub fn derive(derivation: &Derivation, inputs: &[Record]) -> Result<Used, Refuse
         bytes: out.bytes().to_vec(),
         indices: out.0.time_indices().to_vec(),
     })
+}
+
+/// wellen's packer by itself, for benchmarks: a panic is not caught.
+pub fn pack(states: States, value: &[u8], out: &mut Vec<u8>) {
+    write_n_state_from_ascii(to_wellen(states), value, |byte| out.push(byte), None);
+}
+
+/// The least set of a string, `None` with a foreign character, for benchmarks.
+pub fn least(value: &[u8]) -> Option<States> {
+    WellenStates::from_ascii(value).map(from_wellen)
+}
+
+/// wellen's widening by itself, for benchmarks: a panic is not caught.
+pub fn expand(from: States, to: States, old: &[u8], entries: usize, width: u32) -> Vec<u8> {
+    expand_entries(to_wellen(from), to_wellen(to), old, entries, width)
 }

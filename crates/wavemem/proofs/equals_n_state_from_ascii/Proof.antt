@@ -1,115 +1,140 @@
--- `wavemem::equals_n_state_from_ascii` meets its contract: each turn compares the next byte.
+-- `wavemem::equals_n_state_from_ascii` meets its contract: the first byte where it is not full, and then whole bytes.
 -- Assumes nothing.
-use mathlib.Core.Path.{_≡_}
-use Prim.Native.Nat.{_-_, _<_}
+use mathlib.Core.Path.{_≡_, refl, sym, _∙_}
+use mathlib.Core.Bool.{_&&_}
+use Prim.Native.Nat.{_+_}
 use native.Mathlib.Omega.{arith}
 use borrow.Author.Needs.{needs}
+use borrow.Author.Tests.{eq-eqb, ne-eqb}
 use denote.Ref.{now}
+use lib.Dec.{eqb}
 use lib.Bits.{bitOr}
-use lib.ListN.{length, getD}
+use lib.ListN.{length, getD, drop}
+use lib.Seq.{length-take-le}
+use Rattle.value.specs.Slice.{part, same}
 use Rattle.value.specs.Level.{lenOf}
-use Rattle.wavemem.specs.Packed.{packedFrom}
-use Rattle.wavemem.proofs.Packing.{per-small, to-within, from-to, one-byte, is-byte, Agrees, agrees-start, agrees-on, agrees-end, differs}
+use Rattle.wavemem.specs.Packed.{packedFrom, firstCount}
+use Rattle.wavemem.proofs.Packing.{perByte, all-whole, no-meta, first-fits, place-fits, first-byte, rest-whole, rest-is, first-compared, only-compared}
 use Rattle.wavemem.proofs.equals_n_state_from_ascii.Statement.{statement}
 use Rattle.wavemem.proofs.equals_n_state_from_ascii.Tie as tie
 
-abbrev Inv-loop : tie.InvT-loop
-Inv-loop states value bytes at meta-data len per-byte meta₀ from₀ to₀ k₀ meta from to k = Agrees states value bytes at meta-data meta from to k
+first-count-requires : tie.Need-first-count-requires
+first-count-requires c κs = search needs
 
-abbrev μ-loop : tie.MeasureT-loop
-μ-loop states value bytes at meta-data len per-byte meta₀ from₀ to₀ k₀ meta from to k = lenOf (length value) states - k
+bits-in-a-byte-requires : tie.Need-bits-in-a-byte-requires
+bits-in-a-byte-requires c κs = search needs
 
-byte-layout-requires : tie.Need-byte-layout-requires Inv-loop μ-loop
-byte-layout-requires c κs = search needs
+-- the function's entry, and whether the first byte is full
+abbrev start : tie.After-bits-in-a-byte → tie.Start
+start b = b .before .before .before .before
 
-loop-holds : tie.Need-loop-holds Inv-loop μ-loop
-loop-holds c =
-    let s = c .before .before .before in
-    rw (c .byte-layout .ensures .2) (agrees-start (now (s .args .bytes)) (s .pre))
+count : (b : tie.After-bits-in-a-byte) → b .before .first-count .result ≡ firstCount (start b .args .states) (length (now (start b .args .value)))
+count b = b .before .first-count .ensures
 
--- the function's entry, and the bytes that are left
-abbrev start : tie.At-loop Inv-loop μ-loop → tie.Start Inv-loop μ-loop
-start a = a .before .before .before .before
+full : (c : tie.Then1) → firstCount (start (c .before) .args .states) (length (now (start (c .before) .args .value))) ≡ perByte (start (c .before) .args .states)
+full c = sym (count (c .before)) ∙ c .if1 .taken ∙ c .before .bits-in-a-byte .ensures
 
-more : (c : tie.In-loop Inv-loop μ-loop) → c .before .loop .k < lenOf (length (now (start (c .before) .args .value))) (start (c .before) .args .states)
-more c = omega (arith, c .loop-test .taken, c .before .before .byte-layout .ensures .0)
+short : (c : tie.Else1) → firstCount (start (c .before) .args .states) (length (now (start (c .before) .args .value))) ≡ perByte (start (c .before) .args .states) → ⊥
+short c e = c .if1 .left (count (c .before) ∙ e ∙ sym (c .before .bits-in-a-byte .ensures))
 
-add-if1 : tie.Need-add-if1 Inv-loop μ-loop
-add-if1 c = omega (arith, more c, start (c .before) .pre .fits)
+equals-whole-requires : tie.Need-equals-whole-requires
+equals-whole-requires c κs = all-whole (start (c .before) .pre) (full c)
 
-shared-slice-read-if1 : tie.Need-shared-slice-read-if1 Inv-loop μ-loop
-shared-slice-read-if1 c = omega (arith, more (c .before), start (c .before .before) .pre .fits)
-
-sub-byte-from-ascii : tie.Need-sub-byte-from-ascii Inv-loop μ-loop
-sub-byte-from-ascii c = from-to (c .before .before .loop .inv .walk) (more (c .before))
-
-part-byte-from-ascii-start : tie.Need-part-byte-from-ascii-start Inv-loop μ-loop
-part-byte-from-ascii-start c = from-to (c .before .before .loop .inv .walk) (more (c .before))
-
-part-byte-from-ascii-end : tie.Need-part-byte-from-ascii-end Inv-loop μ-loop
-part-byte-from-ascii-end c = to-within (c .before .before .loop .inv .walk) (more (c .before))
-
-byte-from-ascii-requires : tie.Need-byte-from-ascii-requires Inv-loop μ-loop
-byte-from-ascii-requires c κs = one-byte (start (c .before .before .before) .pre) (c .before .before .before .loop .inv .walk) (more (c .before .before))
-
--- what is compared
-right : (c : tie.After-byte-from-ascii Inv-loop μ-loop)
-    → let a = c .before .before .before .before in
-    bitOr (c .byte-from-ascii .result) (a .loop .meta) ≡ getD (packedFrom (start a .args .states) (start a .args .meta-data) (now (start a .args .value))) (a .loop .k) 0
-right c =
-    let a = c .before .before .before .before in
-    is-byte (start a .pre) (a .loop .inv .walk) (more (c .before .before .before)) (a .loop .meta) (c .byte-from-ascii .result) (omega arith) (a .loop .inv .mark) (c .byte-from-ascii .ensures)
-
-returns : tie.Need-returns Inv-loop μ-loop
+returns : tie.Need-returns
 returns c =
-    let i = c .before .before .before .before in
-    let s = start (i .before) in
-    differs (now (s .args .bytes)) (s .pre) _ (more i) (right (c .before)) (c .if1 .taken)
+    let t = c .before in
+    rw (no-meta (start (t .before) .pre) (full t)) (c .equals-whole .ensures)
 
-add-to : tie.Need-add-to Inv-loop μ-loop
-add-to c =
-    let i = c .before .before .before .before in
-    let a = i .before in
-    omega (arith, to-within (a .loop .inv .walk) (more i), per-small (start a .args .states), a .before .byte-layout .ensures .1, start a .pre .short)
+shared-slice-read-if2 : tie.Need-shared-slice-read-if2
+shared-slice-read-if2 c =
+    let e = c .before in
+    omega (arith, place-fits (start (e .before) .pre) (short e))
 
-add-k : tie.Need-add-k Inv-loop μ-loop
-add-k c =
-    let i = c .before .before .before .before in
-    omega (arith, more i, start (i .before) .pre .fits)
+slice-aggregate-byte-from-ascii : tie.Need-slice-aggregate-byte-from-ascii
+slice-aggregate-byte-from-ascii c =
+    let e = c .before .before in
+    sym (length-take-le _ _ (rw (count (e .before)) (first-fits (start (e .before) .pre) (short e))))
 
-loop-less : tie.Need-loop-less Inv-loop μ-loop
-loop-less c = omega (arith, more (c .before .before .before .before))
+byte-from-ascii-requires : tie.Need-byte-from-ascii-requires
+byte-from-ascii-requires c κs =
+    let e = c .before .before in
+    rw (count (e .before)) (first-byte (start (e .before) .pre) (short e))
 
-loop-again : tie.Need-loop-again Inv-loop μ-loop
-loop-again c =
-    let i = c .before .before .before .before in
-    let a = i .before in
-    let s = start a in
-    rw (a .before .byte-layout .ensures .1) (agrees-on (now (s .args .bytes)) (s .pre) _ (a .loop .inv) (more i) (right (c .before)) (c .if1 .left))
+-- what is compared: the first byte, and the rest
+abbrev entry : tie.After-byte-from-ascii → tie.Else1
+entry a = a .before .before .before
 
-returns-2 : tie.Need-returns-2 Inv-loop μ-loop
-returns-2 c =
-    let a = c .before in
-    let s = start a in
-    agrees-end (now (s .args .bytes)) (s .pre) (a .loop .inv) (omega (arith, a .before .byte-layout .ensures .0, c .loop-test .left))
+compared : (a : tie.After-byte-from-ascii)
+    → let s = start (entry a .before) in
+    let f = firstCount (s .args .states) (length (now (s .args .value))) in
+    same (part (s .args .at) (lenOf (length (now (s .args .value))) (s .args .states)) (now (s .args .bytes))) (packedFrom (s .args .states) (s .args .meta-data) (now (s .args .value)))
+    ≡ eqb (getD (now (s .args .bytes)) (s .args .at) 0) (bitOr (a .byte-from-ascii .result) (s .args .meta-data))
+    && same (part (s .args .at + 1) (lenOf (length (drop f (now (s .args .value)))) (s .args .states)) (now (s .args .bytes))) (packedFrom (s .args .states) 0 (drop f (now (s .args .value))))
+compared a =
+    let e = entry a in
+    let s = start (e .before) in
+    first-compared (s .pre) (short e) (now (s .args .bytes)) refl (a .byte-from-ascii .result) (omega arith) (rw (count (e .before)) at (a .byte-from-ascii .ensures))
+
+returns-2 : tie.Need-returns-2
+returns-2 c = sym (compared (c .before) ∙ rw (ne-eqb _ _ (c .if2 .taken)))
+
+returns-3 : tie.Need-returns-3
+returns-3 c =
+    let z = c .before in
+    let a = z .before in
+    let e = entry a in
+    let s = start (e .before) in
+    sym
+    (compared a
+    ∙ rw (eq-eqb _ _ (z .if2 .left))
+    (sym
+    (only-compared (s .pre) (short e) (now (s .args .bytes)) refl (a .byte-from-ascii .result) (omega arith) (rw (count (e .before)) at (a .byte-from-ascii .ensures))
+    (rw (count (e .before)) at (c .if3 .taken)))))
+
+sub-equals-whole : tie.Need-sub-equals-whole
+sub-equals-whole c =
+    let e = c .before .before .before .before .before in
+    rw (count (e .before)) (first-fits (start (e .before) .pre) (short e))
+
+part-equals-whole-start : tie.Need-part-equals-whole-start
+part-equals-whole-start c =
+    let e = c .before .before .before .before .before in
+    rw (count (e .before)) (first-fits (start (e .before) .pre) (short e))
+
+part-equals-whole-end : tie.Need-part-equals-whole-end
+part-equals-whole-end c = search needs
+
+add-equals-whole : tie.Need-add-equals-whole
+add-equals-whole c = search needs
+
+equals-whole-requires-2 : tie.Need-equals-whole-requires-2
+equals-whole-requires-2 c κs =
+    let e = c .before .before .before .before .before .before in
+    let s = start (e .before) in
+    rw (count (e .before), rest-is (s .pre) (short e)) (rest-whole (s .pre) (short e))
+
+returns-4 : tie.Need-returns-4
+returns-4 c =
+    let z = c .before .before .before in
+    let e = entry (z .before) in
+    (rw (count (e .before), rest-is (start (e .before) .pre) (short e)) at (c .equals-whole2 .ensures)) ∙ sym (compared (z .before) ∙ rw (eq-eqb _ _ (z .if2 .left)))
 
 pub equals-n-state-from-ascii-spec : {M : Type 1} → statement M
 equals-n-state-from-ascii-spec =
     tie.close
     (tie.spec
-    Inv-loop
-    μ-loop
-    byte-layout-requires
-    loop-holds
-    add-if1
-    shared-slice-read-if1
-    sub-byte-from-ascii
-    part-byte-from-ascii-start
-    part-byte-from-ascii-end
-    byte-from-ascii-requires
+    first-count-requires
+    bits-in-a-byte-requires
+    equals-whole-requires
     returns
-    add-to
-    add-k
-    loop-less
-    loop-again
-    returns-2)
+    shared-slice-read-if2
+    slice-aggregate-byte-from-ascii
+    byte-from-ascii-requires
+    returns-2
+    returns-3
+    sub-equals-whole
+    part-equals-whole-start
+    part-equals-whole-end
+    add-equals-whole
+    equals-whole-requires-2
+    returns-4)

@@ -1,111 +1,151 @@
--- `wavemem::write_n_state_from_ascii` meets its contract: each turn stores the next byte.
+-- `wavemem::write_n_state_from_ascii` meets its contract: the first byte where it is not full, and then whole bytes.
 -- Assumes nothing.
-use mathlib.Core.Path.{ap}
-use Prim.Native.Nat.{ℕ, _-_, _+_, _<_}
+use mathlib.Core.Path.{_≡_, refl, sym, ap, _∙_}
+use Prim.Native.Nat.{ℕ, _+_}
 use native.Mathlib.Omega.{arith}
 use borrow.Author.Needs.{needs}
 use denote.Ref.{now}
-use lib.ListN.{length}
-use Rattle.value.specs.Level.{lenOf}
-use Rattle.wavemem.proofs.Packing.{per-small, to-within, from-to, one-byte, is-byte, Stored, stored-start, stored-on, stored-end}
+use lib.ListN.{length, length-set}
+use lib.Seq.{length-take-le}
+use Rattle.value.specs.Slice.{overlay}
+use Rattle.value.proofs.Slices.{overlay-length}
+use Rattle.wavemem.specs.Packed.{packedFrom, firstCount}
+use Rattle.wavemem.proofs.Packing.{perByte, packed-from-length, all-whole, no-meta, first-fits, place-fits, first-byte, rest-whole, rest-size, rest-is, first-stored, only-size, only-stored}
 use Rattle.wavemem.proofs.write_n_state_from_ascii.Statement.{statement}
 use Rattle.wavemem.proofs.write_n_state_from_ascii.Tie as tie
 
-abbrev Inv-loop : tie.InvT-loop
-Inv-loop states value out₀ at meta-data len per-byte meta₀ from₀ to₀ k₀ out meta from to k = Stored states value out₀ at meta-data out meta from to k
+first-count-requires : tie.Need-first-count-requires
+first-count-requires c κs = search needs
 
-abbrev μ-loop : tie.MeasureT-loop
-μ-loop states value out₀ at meta-data len per-byte meta₀ from₀ to₀ k₀ out meta from to k = lenOf (length value) states - k
+bits-in-a-byte-requires : tie.Need-bits-in-a-byte-requires
+bits-in-a-byte-requires c κs = search needs
 
-byte-layout-requires : tie.Need-byte-layout-requires Inv-loop μ-loop
-byte-layout-requires c κs = search needs
+-- the function's entry, and whether the first byte is full
+abbrev start : tie.After-bits-in-a-byte → tie.Start
+start b = b .before .before .before .before
 
-loop-holds : tie.Need-loop-holds Inv-loop μ-loop
-loop-holds c =
-    rw (c .byte-layout .ensures .2) (stored-start (c .before .before .before .pre))
+count : (b : tie.After-bits-in-a-byte) → b .before .first-count .result ≡ firstCount (start b .args .states) (length (now (start b .args .value)))
+count b = b .before .first-count .ensures
 
--- the function's entry, and the bytes that are left
-abbrev start : tie.At-loop Inv-loop μ-loop → tie.Start Inv-loop μ-loop
-start a = a .before .before .before .before
+full : (c : tie.Then1) → firstCount (start (c .before) .args .states) (length (now (start (c .before) .args .value))) ≡ perByte (start (c .before) .args .states)
+full c = sym (count (c .before)) ∙ c .if1 .taken ∙ c .before .bits-in-a-byte .ensures
 
-more : (c : tie.In-loop Inv-loop μ-loop) → c .before .loop .k < lenOf (length (now (start (c .before) .args .value))) (start (c .before) .args .states)
-more c = omega (arith, c .loop-test .taken, c .before .before .byte-layout .ensures .0)
+short : (c : tie.Else1) → firstCount (start (c .before) .args .states) (length (now (start (c .before) .args .value))) ≡ perByte (start (c .before) .args .states) → ⊥
+short c e = c .if1 .left (count (c .before) ∙ e ∙ sym (c .before .bits-in-a-byte .ensures))
 
-sub-byte-from-ascii : tie.Need-sub-byte-from-ascii Inv-loop μ-loop
-sub-byte-from-ascii c = from-to (c .before .loop .inv .walk) (more c)
+write-whole-requires : tie.Need-write-whole-requires
+write-whole-requires c κs = all-whole (start (c .before .before) .pre) (full (c .before))
 
-part-byte-from-ascii-start : tie.Need-part-byte-from-ascii-start Inv-loop μ-loop
-part-byte-from-ascii-start c = from-to (c .before .loop .inv .walk) (more c)
+same-length : tie.Need-same-length
+same-length c = search needs
 
-part-byte-from-ascii-end : tie.Need-part-byte-from-ascii-end Inv-loop μ-loop
-part-byte-from-ascii-end c = to-within (c .before .loop .inv .walk) (more c)
-
-byte-from-ascii-requires : tie.Need-byte-from-ascii-requires Inv-loop μ-loop
-byte-from-ascii-requires c κs = one-byte (start (c .before .before) .pre) (c .before .before .loop .inv .walk) (more (c .before))
-
-add-out : tie.Need-add-out Inv-loop μ-loop
-add-out c =
-    let a = c .before .before .before in
-    omega (arith, more (c .before .before), start a .pre .fits)
-
-slice-write-out : tie.Need-slice-write-out Inv-loop μ-loop
-slice-write-out c =
-    let a = c .before .before .before in
-    omega (arith, more (c .before .before), start a .pre .fits, a .loop .inv .long)
-
-add-to : tie.Need-add-to Inv-loop μ-loop
-add-to c =
-    let a = c .before .before .before in
-    omega (arith, to-within (a .loop .inv .walk) (more (c .before .before)), per-small (start a .args .states), a .before .byte-layout .ensures .1, start a .pre .short)
-
-add-k : tie.Need-add-k Inv-loop μ-loop
-add-k c =
-    let a = c .before .before .before in
-    omega (arith, more (c .before .before), start a .pre .fits)
-
-loop-less : tie.Need-loop-less Inv-loop μ-loop
-loop-less c = omega (arith, more (c .before .before))
-
-loop-again : tie.Need-loop-again Inv-loop μ-loop
-loop-again c =
-    let a = c .before .before .before in
-    let m = more (c .before .before) in
-    rw (a .before .byte-layout .ensures .1)
-    (stored-on (start a .pre) _ (a .loop .inv) m
-    (is-byte (start a .pre) (a .loop .inv .walk) m (a .loop .meta) (c .byte-from-ascii .result) (omega arith) (a .loop .inv .mark) (c .byte-from-ascii .ensures)))
-
-add-result : tie.Need-add-result Inv-loop μ-loop
-add-result c =
-    let a = c .before in
-    omega (arith, a .before .byte-layout .ensures .0, start a .pre .fits)
-
-same-length : tie.Need-same-length Inv-loop μ-loop
-same-length c = c .before .loop .inv .long
-
-returns : tie.Need-returns Inv-loop μ-loop
+returns : tie.Need-returns
 returns c =
+    let w = c .before .before in
+    let t = w .before .before in
+    rw (no-meta (start (t .before) .pre) (full t)) (w .write-whole .ensures)
+
+slice-aggregate-byte-from-ascii : tie.Need-slice-aggregate-byte-from-ascii
+slice-aggregate-byte-from-ascii c =
+    let b = c .before .before in
+    sym (length-take-le _ _ (rw (count b) (first-fits (start b .pre) (short (c .before)))))
+
+byte-from-ascii-requires : tie.Need-byte-from-ascii-requires
+byte-from-ascii-requires c κs =
+    let b = c .before .before in
+    rw (count b) (first-byte (start b .pre) (short (c .before)))
+
+slice-write-out : tie.Need-slice-write-out
+slice-write-out c =
+    let e = c .before .before in
+    omega (arith, place-fits (start (e .before) .pre) (short e))
+
+add-result : tie.Need-add-result
+add-result c = search needs
+
+same-length-2 : tie.Need-same-length-2
+same-length-2 c = search needs
+
+returns-2 : tie.Need-returns-2
+returns-2 c =
     let a = c .before in
-    let e = a .before .byte-layout .ensures .0 in
-    (ap (λ (n : ℕ). start a .args .at + n) e, stored-end (start a .pre) (a .loop .inv) (omega (arith, e, c .loop-test .left)))
+    let e = a .before .before in
+    let s = start (e .before) in
+    let is = rw (count (e .before)) at (a .byte-from-ascii .ensures) in
+    let only = rw (count (e .before)) at (c .if2 .taken) in (
+      ap (λ (n : ℕ). s .args .at + n) (sym (only-size (s .pre) (short e) (now (s .args .out)) refl (a .byte-from-ascii .result) (omega arith) is only)),
+      only-stored (s .pre) (short e) (now (s .args .out)) refl (a .byte-from-ascii .result) (omega arith) is only,
+    )
+
+sub-write-whole : tie.Need-sub-write-whole
+sub-write-whole c =
+    let e = c .before .before .before in
+    rw (count (e .before)) (first-fits (start (e .before) .pre) (short e))
+
+part-write-whole-start : tie.Need-part-write-whole-start
+part-write-whole-start c =
+    let e = c .before .before .before in
+    rw (count (e .before)) (first-fits (start (e .before) .pre) (short e))
+
+part-write-whole-end : tie.Need-part-write-whole-end
+part-write-whole-end c = search needs
+
+add-write-whole : tie.Need-add-write-whole
+add-write-whole c = search needs
+
+write-whole-requires-2 : tie.Need-write-whole-requires-2
+write-whole-requires-2 c κs =
+    let e = c .before .before .before .before .before in
+    let s = start (e .before) in
+    rw (count (e .before), rest-is (s .pre) (short e), length-set) (rest-whole (s .pre) (short e))
+
+-- the first byte that is not full, and the bytes that were stored behind it
+abbrev entry : tie.After-write-whole2 → tie.Else1
+entry w = w .before .before .before .before .before .before
+
+stored : (w : tie.After-write-whole2)
+    → let s = start (entry w .before) in
+    w .write-whole2 .last .1 .1 .0 ≡ overlay (now (s .args .out)) (s .args .at) (packedFrom (s .args .states) (s .args .meta-data) (now (s .args .value)))
+stored w =
+    let e = entry w in
+    let s = start (e .before) in
+    let a = w .before .before .before .before in
+    (rw (count (e .before), rest-is (s .pre) (short e)) at (w .write-whole2 .ensures .1))
+    ∙ first-stored (s .pre) (short e) (now (s .args .out)) refl (a .byte-from-ascii .result) (omega arith) (rw (count (e .before)) at (a .byte-from-ascii .ensures))
+
+same-length-3 : tie.Need-same-length-3
+same-length-3 c =
+    let w = c .before .before in
+    let s = start (entry w .before) in
+    ap length (stored w) ∙ overlay-length (now (s .args .out)) _ (s .args .at) (rw (packed-from-length (s .pre)) (s .pre .fits))
+
+returns-3 : tie.Need-returns-3
+returns-3 c =
+    let w = c .before .before in
+    let e = entry w in
+    let s = start (e .before) in
+    let n = rw (count (e .before), rest-is (s .pre) (short e)) at (w .write-whole2 .ensures .0) in
+    (omega (arith, n, rest-size (s .pre) (short e)), stored w)
 
 pub write-n-state-from-ascii-spec : {M : Type 1} → statement M
 write-n-state-from-ascii-spec =
     tie.close
     (tie.spec
-    Inv-loop
-    μ-loop
-    byte-layout-requires
-    loop-holds
-    sub-byte-from-ascii
-    part-byte-from-ascii-start
-    part-byte-from-ascii-end
-    byte-from-ascii-requires
-    add-out
-    slice-write-out
-    add-to
-    add-k
-    loop-less
-    loop-again
-    add-result
+    first-count-requires
+    bits-in-a-byte-requires
+    write-whole-requires
     same-length
-    returns)
+    returns
+    slice-aggregate-byte-from-ascii
+    byte-from-ascii-requires
+    slice-write-out
+    add-result
+    same-length-2
+    returns-2
+    sub-write-whole
+    part-write-whole-start
+    part-write-whole-end
+    add-write-whole
+    write-whole-requires-2
+    same-length-3
+    returns-3)

@@ -1,0 +1,29 @@
+-- `bench::bench_pack` asks what the packer asks.
+-- Assumes nothing.
+use borrow.Author.Needs.{needs}
+use Rattle.bench.proofs.bench_pack.Statement.{statement}
+use Rattle.bench.proofs.bench_pack.Tie as tie
+use Rattle.bench.proofs.bench_pack.Reads as reads
+use Rattle.bench.proofs.bench_pack.Lts as lts
+use Rattle.bench.proofs.states_of.Reads as states-of-reads
+use Rattle.wavemem.proofs.write_n_state_from_ascii.Reads as write-n-state-from-ascii-reads
+
+-- src/lib.rt:33:39
+states-of-requires : tie.Need-states-of-requires
+states-of-requires c κs = search needs
+
+-- src/lib.rt:33:5
+write-n-state-from-ascii-requires : tie.Need-write-n-state-from-ascii-requires
+write-n-state-from-ascii-requires c κs = rw (c .before .states-of .ensures) (c .before .before .before .before .pre)
+
+-- src/lib.rt:29:1
+same-length : tie.Need-same-length
+same-length c = search needs
+
+-- src/lib.rt:29:1
+returns : tie.Need-returns
+returns c = search needs
+
+pub bench-pack-spec : {M : Type 1} → statement M
+bench-pack-spec =
+    tie.close (tie.spec states-of-requires write-n-state-from-ascii-requires same-length returns)

@@ -1,0 +1,53 @@
+// The inner functions that the benchmarks time from Rust, under plain numbers. Rust tests what each requires before it calls.
+ghost use mathlib.Core.Path.{_≡_};
+ghost use lib.ListN.{length};
+ghost use Rattle.value.specs.Level.{setAt};
+ghost use Rattle.wavemem.specs.Packed.{Packable};
+ghost use Rattle.layout.specs.Expand.{Widenable};
+use value::States;
+use value::StatesAnswer;
+
+fn states_of(mark: u32) -> States
+    ensures { λ r. ⌜ r ≡ setAt mark ⌝ }
+{
+    match mark {
+        0 => States::Two,
+        1 => States::Four,
+        _ => States::Nine,
+    }
+}
+
+// The mark of a string's least set, and 3 for a string with a foreign character.
+#[no_mangle]
+pub extern "C" fn bench_least(value: &[u8]) -> u32 {
+    match States::from_ascii(value) {
+        StatesAnswer::Least(states) => states.mark() as u32,
+        StatesAnswer::Foreign => 3,
+    }
+}
+
+#[no_mangle]
+pub extern "C" fn bench_pack(mark: u32, value: &[u8], out: &mut [u8]) -> usize
+    requires { ⌜ Packable (setAt mark) (now value) (length (now out)) 0 0 ⌝ }
+{
+    wavemem::write_n_state_from_ascii(states_of(mark), value, out, 0, 0)
+}
+
+// 1 where the bytes are those that `bench_pack` would store, and else 0.
+#[no_mangle]
+pub extern "C" fn bench_equals(mark: u32, value: &[u8], bytes: &[u8]) -> u32
+    requires { ⌜ Packable (setAt mark) (now value) (length (now bytes)) 0 0 ⌝ }
+{
+    if wavemem::equals_n_state_from_ascii(states_of(mark), value, bytes, 0, 0) {
+        1
+    } else {
+        0
+    }
+}
+
+#[no_mangle]
+pub extern "C" fn bench_expand(from: u32, to: u32, data: &mut [u8], entries: usize, bits: u32)
+    requires { ⌜ Widenable (setAt from) (setAt to) 0 entries bits (length (now «data»)) ⌝ }
+{
+    layout::expand::expand_entries(states_of(from), states_of(to), data, 0, entries, bits)
+}

@@ -1,0 +1,174 @@
+-- The least set of a string by tests of whole strings: the smallest set that holds every character.
+-- Assumes nothing.
+use mathlib.Core.Path.{_≡_, refl, sym, ap, ap₂, _∙_}
+use mathlib.Core.Bool.{Bool, true, false, not, _&&_, _||_, true≢false}
+use mathlib.Core.List.{List, [], _∷_, _++_}
+use Prim.Native.Nat.{ℕ, _+_, _≤_, _<_}
+use native.Mathlib.Nat.{lt-of-lt-of-le}
+use native.Mathlib.Omega.{arith}
+use borrow.Author.Tests.{eqb-true, leb-true, leb-false, lt-ltb, lt-leb, eq-eqb, ne-eqb}
+use lib.Dec.{T, eqb, leb, ltb}
+use lib.Bits.{bitOr, bitAnd, or-add-and, or-zero-l, and-le-r}
+use lib.ListN.{length, getD, take}
+use Rattle.value.specs.declared.States.{States}
+use Rattle.value.specs.declared.States.the-variants.{Two, Four, Nine}
+use Rattle.value.specs.declared.CharCode.the-variants as code
+use Rattle.value.specs.declared.StatesAnswer.the-variants as answer
+use Rattle.value.specs.Slice.{any}
+use Rattle.value.specs.Level.{codeOf, fold, foldAll, codesOf, placeIn, markOf, codesIn, setOf, leastOf}
+use Rattle.value.specs.Answer.{charCode, leastStates, holdsOne, holdsAll}
+use Rattle.value.proofs.Tests.{or-left, or-right, by-eq, allBelow, at-below, implies, implied, both, both-same}
+use Rattle.value.proofs.Slices.{any-snoc}
+use Rattle.value.specs.Digits.{Below}
+use Rattle.value.proofs.Levels.{mark-inj, mark-join, mark-small, set-two, set-four, set-nine, by-set, codes-more, least-states}
+
+-- ---- one character
+
+not-true : (t : Bool) → true ≡ not t → t ≡ false
+not-true true e = absurd (true≢false e)
+not-true false e = refl
+
+not-false : (t : Bool) → false ≡ not t → t ≡ true
+not-false true e = refl
+not-false false e = absurd (true≢false (sym e))
+
+-- a rule of bytes under a condition, computed at each of them
+pub each-byte : (when rule : ℕ → Bool) → T (allBelow (λ (n : ℕ). implies (when n) (rule n)) 256) → (c : ℕ) → c < 256 → when c ≡ true → rule c ≡ true
+each-byte when rule t c h e = implied (when c) (rule c) (at-below (λ (n : ℕ). implies (when n) (rule n)) 256 t c h) e
+
+-- the table of codes by low bits
+abbrev pub lowBits : List ℕ
+lowBits = 9 ∷ 9 ∷ 9 ∷ 9 ∷ 9 ∷ 9 ∷ 9 ∷ 9 ∷ 4 ∷ 9 ∷ 9 ∷ 9 ∷ 7 ∷ 8 ∷ 9 ∷ 9 ∷ 0 ∷ 1 ∷ 9 ∷ 9 ∷ 9 ∷ 5 ∷ 9 ∷ 6 ∷ 2 ∷ 9 ∷ 3 ∷ 9 ∷ 9 ∷ 9 ∷ 9 ∷ 9 ∷ []
+
+pub low-bits : (c : ℕ) → c < 256 → codeOf (fold c) < 9 → getD lowBits (bitAnd c 31) 0 ≡ codeOf (fold c)
+unfolding codeOf placeIn fold
+low-bits c h k =
+    eqb-true (getD lowBits (bitAnd c 31) 0) (codeOf (fold c))
+    (each-byte (λ (n : ℕ). ltb (codeOf (fold n)) 9) (λ (n : ℕ). eqb (getD lowBits (bitAnd n 31) 0) (codeOf (fold n))) tt c h (lt-ltb (codeOf (fold c)) 9 k))
+
+-- 0 and 1, and the characters of these codes
+pub low-bit : (c : ℕ) → c < 256 → bitAnd c 254 ≡ 48 → codeOf (fold c) < 9 → bitAnd c 1 ≡ codeOf (fold c)
+unfolding codeOf placeIn fold
+low-bit c h e k =
+    eqb-true (bitAnd c 1) (codeOf (fold c))
+    (each-byte (λ (n : ℕ). eqb (bitAnd n 254) 48) (λ (n : ℕ). eqb (bitAnd n 1) (codeOf (fold n))) tt c h (eq-eqb (bitAnd c 254) 48 e))
+
+pub binary-bit : (c : ℕ) → c < 256 → codeOf (fold c) < 2 → bitAnd c 1 ≡ codeOf (fold c)
+unfolding codeOf placeIn fold
+binary-bit c h k =
+    eqb-true (bitAnd c 1) (codeOf (fold c))
+    (each-byte (λ (n : ℕ). ltb (codeOf (fold n)) 2) (λ (n : ℕ). eqb (bitAnd n 1) (codeOf (fold n))) tt c h (lt-ltb (codeOf (fold c)) 2 k))
+
+-- a number that is 0 exactly for the characters of a set
+pub beside-byte : (when : ℕ → Bool) (f : ℕ → ℕ) (m : ℕ)
+    → T (allBelow (λ (n : ℕ). implies (when n) (both (eqb (f n) 0) (holdsOne m n))) 256)
+    → (c : ℕ) → c < 256 → when c ≡ true → eqb (f c) 0 ≡ holdsOne m c
+beside-byte when f m t c h e = both-same (eqb (f c) 0) (holdsOne m c) (each-byte when (λ (n : ℕ). both (eqb (f n) 0) (holdsOne m n)) t c h e)
+
+known-is : (c : ℕ) → true ≡ holdsOne 9 c → codeOf (fold c) < 9
+unfolding holdsOne
+known-is c e = leb-false 9 (codeOf (fold c)) (not-true (leb 9 (codeOf (fold c))) e)
+
+pub known-char : (c n : ℕ) → true ≡ holdsOne 9 c → (codeOf (fold c) < 9 → n ≡ codeOf (fold c)) → code.Code n ≡ charCode c
+unfolding charCode
+known-char c n e f = rw (f (known-is c e), lt-leb 9 (codeOf (fold c)) (known-is c e))
+
+pub foreign-char : (c : ℕ) → false ≡ holdsOne 9 c → code.Foreign ≡ charCode c
+unfolding charCode holdsOne
+foreign-char c e = rw (not-false (leb 9 (codeOf (fold c))) e)
+
+-- ---- a string
+
+or-none : (a b : ℕ) → eqb (bitOr a b) 0 ≡ eqb a 0 && eqb b 0
+or-none a b =
+    by-eq a 0 (λ e. rw (e, or-zero-l b))
+    (λ e.
+    let s : bitOr a b + bitAnd a b ≡ a + b = or-add-and a b in
+    let l : bitAnd a b ≤ b = and-le-r a b in
+    rw (ne-eqb a 0 e, ne-eqb (bitOr a b) 0 (λ z. e (omega arith))))
+
+not-or : (a b : Bool) → not (a || b) ≡ not a && not b
+not-or true b = refl
+not-or false b = refl
+
+pub holds-none : (s : States) → true ≡ holdsAll s []
+unfolding holdsAll any
+holds-none s = refl
+
+-- one character more
+pub holds-more : (s : States) (v : List ℕ) (i u k : ℕ) → i < length v → eqb u 0 ≡ holdsAll s (take i v) → eqb k 0 ≡ holdsOne (codesIn s) (getD v i 0)
+    → eqb (bitOr u k) 0 ≡ holdsAll s (take (i + 1) v)
+unfolding holdsAll holdsOne
+holds-more s v i u k h e f =
+    let cs : List ℕ = codesOf (foldAll (take i v)) in
+    let c : ℕ = codeOf (fold (getD v i 0)) in
+    or-none u k
+    ∙ ap₂ (λ (a b : Bool). a && b) e f
+    ∙ sym (not-or (any (leb (codesIn s)) cs) (leb (codesIn s) c))
+    ∙ ap not (sym (any-snoc (leb (codesIn s)) cs c) ∙ ap (λ (l : List ℕ). any (leb (codesIn s)) l) (sym (codes-more v i h)))
+
+-- ---- the least set
+
+below-any : (n : ℕ) (cs : List ℕ) → any (leb n) cs ≡ false → Below n cs
+unfolding any
+below-any n [] e = tt
+below-any n (c ∷ cs) e = (leb-false n c (or-left (leb n c) (any (leb n) cs) e), below-any n cs (or-right (leb n c) (any (leb n) cs) e))
+
+-- a smaller bound of digits is a bound
+below-mono : (B C : ℕ) (cs : List ℕ) → B ≤ C → Below B cs → Below C cs
+below-mono B C [] h b = tt
+below-mono B C (c ∷ cs) h b = (lt-of-lt-of-le (b .0) h, below-mono B C cs h (b .1))
+
+set-within : (N : States) (c : ℕ) → c < codesIn N → markOf (setOf c) ≤ markOf N
+set-within Two c h = rw (set-two c h) (omega arith)
+set-within Four c h = by-set c (λ l. rw (set-two c l) (omega arith)) (λ l m. rw (set-four c l m) (omega arith)) (λ l. absurd (omega arith))
+set-within Nine c h = mark-small (setOf c)
+
+set-beyond : (N : States) (c : ℕ) → markOf N < 2 → codesIn N ≤ c → markOf N < markOf (setOf c)
+set-beyond Two c n h = by-set c (λ l. absurd (omega arith)) (λ l m. rw (set-four c l m) (omega arith)) (λ l. rw (set-nine c l) (omega arith))
+set-beyond Four c n h = rw (set-nine c h) (omega arith)
+set-beyond Nine c n h = absurd (omega arith)
+
+least-within : (N : States) (cs : List ℕ) → Below (codesIn N) cs → markOf (leastOf cs) ≤ markOf N
+unfolding leastOf
+least-within N [] b = omega arith
+least-within N (c ∷ cs) b =
+    omega (arith, mark-join (setOf c) (leastOf cs), set-within N c (b .0), least-within N cs (b .1))
+
+least-beyond : (N : States) (cs : List ℕ) → markOf N < 2 → any (leb (codesIn N)) cs ≡ true → markOf N < markOf (leastOf cs)
+unfolding leastOf any
+least-beyond N [] n e = absurd (true≢false (sym e))
+least-beyond N (c ∷ cs) n e = go (leb (codesIn N) c) refl e (least-beyond N cs n)
+  where
+    go : (t : Bool) → leb (codesIn N) c ≡ t → t || any (leb (codesIn N)) cs ≡ true → (any (leb (codesIn N)) cs ≡ true → markOf N < markOf (leastOf cs))
+        → markOf N < markOf (leastOf (c ∷ cs))
+    go true p q ih = omega (arith, mark-join (setOf c) (leastOf cs), set-beyond N c n (leb-true (codesIn N) c p))
+    go false p q ih = omega (arith, mark-join (setOf c) (leastOf cs), ih q)
+
+module _ (v : List ℕ) where
+  abbrev codes : List ℕ
+  codes = codesOf (foldAll v)
+
+  within : (N : States) → true ≡ holdsAll N v → Below (codesIn N) codes
+  unfolding holdsAll
+  within N e = below-any (codesIn N) codes (not-true (any (leb (codesIn N)) codes) e)
+
+  beyond : (N : States) → false ≡ holdsAll N v → any (leb (codesIn N)) codes ≡ true
+  unfolding holdsAll
+  beyond N e = not-false (any (leb (codesIn N)) codes) e
+
+  is : (N : States) → codesIn N ≤ 9 → true ≡ holdsAll N v → markOf (leastOf codes) ≡ markOf N → leastStates v ≡ answer.Least N
+  is N h e m = least-states v (below-mono (codesIn N) 9 codes h (within N e)) ∙ ap answer.Least (mark-inj (leastOf codes) N m)
+
+  pub is-two : true ≡ holdsAll Two v → leastStates v ≡ answer.Least Two
+  is-two e = is Two (omega arith) e (omega (arith, least-within Two codes (within Two e)))
+
+  pub is-four : false ≡ holdsAll Two v → true ≡ holdsAll Four v → leastStates v ≡ answer.Least Four
+  is-four d e = is Four (omega arith) e (omega (arith, least-within Four codes (within Four e), least-beyond Two codes (omega arith) (beyond Two d)))
+
+  pub is-nine : false ≡ holdsAll Four v → true ≡ holdsAll Nine v → leastStates v ≡ answer.Least Nine
+  is-nine d e = is Nine (omega arith) e (omega (arith, mark-small (leastOf codes), least-beyond Four codes (omega arith) (beyond Four d)))
+
+  pub is-foreign : false ≡ holdsAll Nine v → leastStates v ≡ answer.Foreign
+  unfolding leastStates
+  is-foreign e = rw (beyond Nine e)

@@ -1,0 +1,185 @@
+//! The packer, the least set, the repeat test, and entries widened.
+
+use crate::archive::{self, Packable, entry_size};
+use crate::timing::best;
+use oracle::States;
+use std::hint::black_box;
+use std::time::Duration;
+
+const SETS: [States; 3] = [States::Two, States::Four, States::Nine];
+
+/// A string of a set's letters, without order.
+fn string(states: States, width: usize, seed: u64) -> Vec<u8> {
+    let letters: &[u8] = match states {
+        States::Two => b"01",
+        States::Four => b"01xz",
+        States::Nine => b"01xzhuwl-",
+    };
+    let mut state = seed;
+    (0..width)
+        .map(|_| {
+            state = state
+                .wrapping_mul(6_364_136_223_846_793_005)
+                .wrapping_add(1);
+            letters[(state >> 33) as usize % letters.len()]
+        })
+        .collect()
+}
+
+const WIDTHS: [usize; 7] = [1, 3, 8, 32, 64, 256, 4096];
+const STRINGS: u64 = 64;
+
+/// A table of ns a character, a row for each set and width. `measure` times one row: so many turns over the strings,
+/// here and in wellen.
+fn table(title: &str, measure: impl Fn(States, &[Vec<u8>], usize) -> [Duration; 2]) {
+    println!("\n{title}: ns a character\n");
+    println!("| set | width | yoksimert | wellen | wellen / yoksimert |\n|---|---|---|---|---|");
+    for states in SETS {
+        for width in WIDTHS {
+            let strings: Vec<Vec<u8>> = (0..STRINGS)
+                .map(|seed| string(states, width, seed))
+                .collect();
+            let turns = 1 + 400_000 / (width * strings.len());
+            let characters = (turns * width * strings.len()) as f64;
+            let [ours, theirs] =
+                measure(states, &strings, turns).map(|time| time.as_nanos() as f64);
+            println!(
+                "| {states:?} | {width} | {:.2} | {:.2} | {:.1} |",
+                ours / characters,
+                theirs / characters,
+                theirs / ours
+            );
+        }
+    }
+}
+
+/// The shortest time of so many turns over some items.
+fn turns_over<T>(turns: usize, items: &[T], mut call: impl FnMut(usize, &T)) -> Duration {
+    best(
+        || (),
+        || {
+            for _ in 0..turns {
+                for (i, item) in items.iter().enumerate() {
+                    call(i, black_box(item));
+                }
+            }
+        },
+    )
+}
+
+fn packables(states: States, strings: &[Vec<u8>]) -> Vec<Packable<'_>> {
+    strings
+        .iter()
+        .map(|value| Packable::new(states, value))
+        .collect()
+}
+
+/// The packer beside wellen's `write_n_state_from_ascii`.
+pub fn pack() {
+    table("pack", |states, strings, turns| {
+        let mut out = vec![0u8; 4096];
+        let mut vector = Vec::with_capacity(4096);
+        [
+            turns_over(turns, &packables(states, strings), |_, packable| {
+                black_box(packable.pack(&mut out));
+            }),
+            turns_over(turns, strings, |_, value| {
+                vector.clear();
+                reference::pack(states, value, &mut vector);
+                black_box(&vector);
+            }),
+        ]
+    });
+}
+
+/// The least set beside wellen's `States::from_ascii`.
+pub fn least() {
+    table("least set", |_, strings, turns| {
+        [
+            turns_over(turns, strings, |_, value| {
+                black_box(archive::least(value));
+            }),
+            turns_over(turns, strings, |_, value| {
+                black_box(reference::least(value));
+            }),
+        ]
+    });
+}
+
+/// A string compared with its own bytes, beside wellen's way: packed, and then the bytes compared.
+pub fn repeats() {
+    table("repeat test", |states, strings, turns| {
+        let packables = packables(states, strings);
+        let entry = |packable: &Packable| {
+            let mut bytes = vec![0u8; 2048];
+            let length = packable.pack(&mut bytes);
+            (bytes, length)
+        };
+        let entries: Vec<(Vec<u8>, usize)> = packables.iter().map(entry).collect();
+        let mut vector = Vec::with_capacity(4096);
+        [
+            turns_over(turns, &packables, |i, packable| {
+                assert!(packable.equals(&entries[i].0));
+            }),
+            turns_over(turns, strings, |i, value| {
+                vector.clear();
+                reference::pack(states, value, &mut vector);
+                let (bytes, length) = &entries[i];
+                assert!(vector[..] == bytes[..*length]);
+            }),
+        ]
+    });
+}
+
+/// GB/s of widened bytes beside wellen's `expand_entries` and a plain move of as many bytes.
+pub fn widen() {
+    println!("\nwiden: GB/s of bytes written\n");
+    println!(
+        "| from | to | width | yoksimert | wellen | memmove | yoksimert / memmove |\n|---|---|---|---|---|---|---|"
+    );
+    let raises = [
+        (States::Two, States::Four),
+        (States::Two, States::Nine),
+        (States::Four, States::Nine),
+    ];
+    for (from, to) in raises {
+        for width in [8u32, 64, 256, 4096] {
+            widen_at(from, to, width);
+        }
+    }
+}
+
+fn widen_at(from: States, to: States, width: u32) {
+    let (small, large) = (entry_size(width, from), entry_size(width, to));
+    let entries = (4_000_000 / large).clamp(1, 1_048_576);
+    let old: Vec<u8> = (0..entries * small).map(|i| (i * 7 % 61) as u8).collect();
+    let written = entries * large;
+    let data = std::cell::RefCell::new(vec![0u8; written]);
+    let restore = || data.borrow_mut()[..old.len()].copy_from_slice(&old);
+    let ours = best(restore, || {
+        archive::expand(from, to, &mut data.borrow_mut(), entries, width);
+        black_box(&data);
+    });
+    let theirs = best(
+        || (),
+        || {
+            black_box(reference::expand(from, to, black_box(&old), entries, width));
+        },
+    );
+    let mut plain = vec![1u8; written + 64];
+    let moved = best(
+        || (),
+        || {
+            plain.copy_within(0..written, 64);
+            black_box(&plain);
+        },
+    );
+    let rate = |time: Duration| written as f64 / time.as_nanos() as f64;
+    println!(
+        "| {from:?} | {to:?} | {width} | {:.2} | {:.2} | {:.2} | {:.2} |",
+        rate(ours),
+        rate(theirs),
+        rate(moved),
+        rate(ours) / rate(moved)
+    );
+}

@@ -1,0 +1,29 @@
+//! Times, the best of several rounds.
+
+use std::time::{Duration, Instant};
+
+const ROUNDS: u32 = 15;
+
+/// The shortest time of a round. `prepare` is not timed.
+pub fn best(mut prepare: impl FnMut(), mut round: impl FnMut()) -> Duration {
+    let mut shortest = Duration::MAX;
+    for _ in 0..ROUNDS {
+        prepare();
+        let start = Instant::now();
+        round();
+        shortest = shortest.min(start.elapsed());
+    }
+    shortest
+}
+
+/// What the machine was doing when the run began.
+pub fn machine() -> String {
+    let read = |path| std::fs::read_to_string(path).unwrap_or_default();
+    let model = read("/proc/cpuinfo")
+        .lines()
+        .find_map(|line| line.strip_prefix("model name\t: ").map(str::to_string))
+        .unwrap_or_else(|| "unknown processor".to_string());
+    let load = read("/proc/loadavg");
+    let load = load.split(' ').next().unwrap_or("unknown").to_string();
+    format!("machine: {model}, load {load} over the last minute; best of {ROUNDS} rounds")
+}
