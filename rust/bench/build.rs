@@ -1,14 +1,20 @@
-//! `cfg(wellen)`: whether the reference was built with wellen's source. `cfg(archive)`: whether `rt staticlib bench` has been run.
+//! `cfg(wellen)`: whether the reference was built with wellen's source. `cfg(archive)` and `cfg(inner)`: whether the archives
+//! `libyoksimert.a` and `libbench.a` were there.
 
 use std::path::Path;
 
 fn main() {
-    println!("cargo::rustc-check-cfg=cfg(wellen)");
-    println!("cargo::rustc-check-cfg=cfg(archive)");
-    println!("cargo::rerun-if-env-changed=DEP_WELLEN_PRESENT");
-    if std::env::var_os("DEP_WELLEN_PRESENT").is_some() {
-        println!("cargo::rustc-cfg=wellen");
+    for (name, variable) in [
+        ("wellen", "DEP_WELLEN_PRESENT"),
+        ("archive", "DEP_YOKSIMERT_PRESENT"),
+    ] {
+        println!("cargo::rustc-check-cfg=cfg({name})");
+        println!("cargo::rerun-if-env-changed={variable}");
+        if std::env::var_os(variable).is_some() {
+            println!("cargo::rustc-cfg={name}");
+        }
     }
+    println!("cargo::rustc-check-cfg=cfg(inner)");
     let here = std::env::var("CARGO_MANIFEST_DIR").expect("cargo sets CARGO_MANIFEST_DIR");
     let folder = Path::new(&here).join("../../target/staticlib");
     println!(
@@ -16,7 +22,7 @@ fn main() {
         folder.join("libbench.a").display()
     );
     if folder.join("libbench.a").is_file() {
-        println!("cargo::rustc-cfg=archive");
+        println!("cargo::rustc-cfg=inner");
         println!("cargo::rustc-link-search=native={}", folder.display());
         println!("cargo::rustc-link-lib=static=bench");
     }

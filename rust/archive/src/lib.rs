@@ -14,6 +14,8 @@ pub mod ffi;
 mod numbers;
 #[cfg(archive)]
 pub use calls::{add_change, compare, fresh, fresh_real, look_up, read, text};
+#[cfg(archive)]
+pub use numbers::decode;
 
 /// Whether the archive was there when this crate was built. Crates that depend on this one see it in their build scripts, as
 /// `DEP_YOKSIMERT_PRESENT`.

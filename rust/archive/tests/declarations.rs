@@ -43,7 +43,7 @@ fn between<'a>(text: &'a str, from: &str, to: &str) -> Vec<&'a str> {
         .collect()
 }
 
-fn entries<'a>(list: &'a str, separator: char) -> impl Iterator<Item = &'a str> {
+fn entries(list: &str, separator: char) -> impl Iterator<Item = &str> {
     list.split(separator)
         .map(str::trim)
         .filter(|entry| !entry.is_empty())

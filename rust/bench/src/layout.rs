@@ -1,30 +1,11 @@
 //! The packer, the least set, the repeat test, and entries widened.
 
-use crate::archive::{self, Packable, entry_size};
+use crate::inner::{self, Packable, entry_size};
+use crate::strings::{SETS, string};
 use crate::timing::best;
 use oracle::States;
 use std::hint::black_box;
 use std::time::Duration;
-
-const SETS: [States; 3] = [States::Two, States::Four, States::Nine];
-
-/// A string of a set's letters, without order.
-fn string(states: States, width: usize, seed: u64) -> Vec<u8> {
-    let letters: &[u8] = match states {
-        States::Two => b"01",
-        States::Four => b"01xz",
-        States::Nine => b"01xzhuwl-",
-    };
-    let mut state = seed;
-    (0..width)
-        .map(|_| {
-            state = state
-                .wrapping_mul(6_364_136_223_846_793_005)
-                .wrapping_add(1);
-            letters[(state >> 33) as usize % letters.len()]
-        })
-        .collect()
-}
 
 const WIDTHS: [usize; 7] = [1, 3, 8, 32, 64, 256, 4096];
 const STRINGS: u64 = 64;
@@ -97,7 +78,7 @@ pub fn least() {
     table("least set", |_, strings, turns| {
         [
             turns_over(turns, strings, |_, value| {
-                black_box(archive::least(value));
+                black_box(inner::least(value));
             }),
             turns_over(turns, strings, |_, value| {
                 black_box(reference::least(value));
@@ -157,7 +138,7 @@ fn widen_at(from: States, to: States, width: u32) {
     let data = std::cell::RefCell::new(vec![0u8; written]);
     let restore = || data.borrow_mut()[..old.len()].copy_from_slice(&old);
     let ours = best(restore, || {
-        archive::expand(from, to, &mut data.borrow_mut(), entries, width);
+        inner::expand(from, to, &mut data.borrow_mut(), entries, width);
         black_box(&data);
     });
     let theirs = best(

@@ -1,25 +1,39 @@
-//! `bench [layout]`: times of the proved functions beside wellen's, both at release, the best of several rounds.
+//! `bench [layout | records]`: times of the proved functions beside wellen's, both at release, the best of several rounds.
 
-#[cfg(all(wellen, archive))]
-mod archive;
-#[cfg(all(wellen, archive))]
+#[cfg(all(wellen, archive, inner))]
+mod inner;
+#[cfg(all(wellen, archive, inner))]
 mod layout;
-#[cfg(all(wellen, archive))]
+#[cfg(all(wellen, archive, inner))]
+mod records;
+#[cfg(all(wellen, archive, inner))]
+mod strings;
+#[cfg(all(wellen, archive, inner))]
 mod timing;
 
-#[cfg(all(wellen, archive))]
+#[cfg(all(wellen, archive, inner))]
 fn main() {
+    let which = std::env::args().nth(1).unwrap_or_default();
     println!("{}", timing::machine());
-    layout::pack();
-    layout::least();
-    layout::repeats();
-    layout::widen();
+    if which != "records" {
+        layout::pack();
+        layout::least();
+        layout::repeats();
+        layout::widen();
+    }
+    if which != "layout" {
+        records::add();
+        records::raise();
+        records::read();
+        records::compare();
+        records::look_up();
+    }
 }
 
-#[cfg(not(all(wellen, archive)))]
+#[cfg(not(all(wellen, archive, inner)))]
 fn main() {
     eprintln!(
-        "bench: build the archive first (rt staticlib bench), and set WELLEN_SRC to the folder that holds wellen's src/fst.rs"
+        "bench: build the archives first (rt staticlib yoksimert, rt staticlib bench), and set WELLEN_SRC to the folder that holds wellen's src/fst.rs"
     );
     std::process::exit(2);
 }

@@ -16,6 +16,11 @@ pub fn best(mut prepare: impl FnMut(), mut round: impl FnMut()) -> Duration {
     shortest
 }
 
+/// ns for each of so many.
+pub fn per(time: Duration, many: usize) -> f64 {
+    time.as_nanos() as f64 / many as f64
+}
+
 /// What the machine was doing when the run began.
 pub fn machine() -> String {
     let read = |path| std::fs::read_to_string(path).unwrap_or_default();

@@ -184,6 +184,24 @@ impl Record {
         })
     }
 
+    /// An entry read with nothing between the caller and wellen, for benchmarks: a panic is not caught. The number of level bytes.
+    pub fn read_unguarded(&self, entry: u32) -> usize {
+        match self.value(entry) {
+            SignalValueRef::BitVec(vector) => vector.data.len(),
+            _ => 0,
+        }
+    }
+
+    /// The text of an entry in the same way.
+    pub fn text_unguarded(&self, entry: u32) -> Option<String> {
+        self.value(entry).to_bit_string()
+    }
+
+    /// A look-up in the same way. The first entry found.
+    pub fn look_up_unguarded(&self, sought: u32) -> Option<usize> {
+        self.0.get_offset(sought).map(|offset| offset.start)
+    }
+
     fn value(&self, entry: u32) -> SignalValueRef<'_> {
         self.0.data().get_value_at(entry as usize)
     }

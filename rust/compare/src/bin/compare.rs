@@ -56,9 +56,11 @@ mod comparison {
     pub fn run(wanted: Wanted) -> ExitCode {
         let seed = wanted.seed;
         println!("compare: seed {seed}");
-        for (present, name) in [(cfg!(wellen), "wellen"), (cfg!(archive), "the archive")] {
+        let wellen = "wellen is left out: set WELLEN_SRC to the folder that holds src/fst.rs";
+        let archive = "the archive is left out: run `rt staticlib yoksimert`";
+        for (present, missing) in [(cfg!(wellen), wellen), (cfg!(archive), archive)] {
             if !present {
-                println!("compare: {name} is missing and left out");
+                println!("compare: {missing}");
             }
         }
         let mut checker = Checker::default();

@@ -1,0 +1,303 @@
+//! The operations of the archive beside wellen's: changes added, a raise, entries read, records compared, indices looked up.
+
+use crate::strings::{SETS, string};
+use crate::timing::{best, per};
+use archive::ffi::{self, FlatDescription};
+use oracle::{Record, States};
+use std::hint::black_box;
+
+const MILLION: usize = 1_000_000;
+
+/// A record of the archive with its slices.
+struct Recorder {
+    description: FlatDescription,
+    bytes: Vec<u8>,
+    indices: Vec<u32>,
+}
+
+impl Recorder {
+    fn new(width: u32, byte_room: usize, index_room: usize) -> Self {
+        Self {
+            description: ffi::fresh(width).description,
+            bytes: vec![0; byte_room],
+            indices: vec![0; index_room],
+        }
+    }
+
+    fn add(&mut self, index: u32, value: &[u8]) {
+        let added = ffi::add_change(
+            self.description,
+            &mut self.bytes,
+            0,
+            &mut self.indices,
+            0,
+            index,
+            value,
+        );
+        assert_eq!(added.number, 0, "the slices have room");
+        self.description = added.next;
+    }
+
+    fn record(&self) -> Record<'_> {
+        Record {
+            description: archive::decode(self.description),
+            bytes: &self.bytes,
+            byte_start: 0,
+            indices: &self.indices,
+            index_start: 0,
+        }
+    }
+}
+
+/// ns a change: strings of one set, none of which repeats the last, into a record that has seen the set.
+pub fn add() {
+    println!("\nadd a change: ns a change\n");
+    println!("| set | width | yoksimert | wellen | wellen / yoksimert |\n|---|---|---|---|---|");
+    for states in SETS {
+        for width in [1usize, 3, 8, 32, 64, 256, 4096] {
+            add_at(states, width);
+        }
+    }
+}
+
+fn add_at(states: States, width: usize) {
+    let strings: Vec<Vec<u8>> = (0..64).map(|seed| string(states, width, seed)).collect();
+    let turns = (2_000_000 / width).clamp(500, 20_000);
+    let changes = || (0..turns).map(|turn| (turn as u32, &strings[turn % strings.len()]));
+    let room = turns * (width / 2 + 2);
+    let mut recorder = Recorder::new(width as u32, room, turns);
+    let start = recorder.description;
+    let ours = best(
+        || (),
+        || {
+            recorder.description = start;
+            for (index, value) in changes() {
+                recorder.add(index, black_box(value));
+            }
+        },
+    );
+    let theirs = best(
+        || (),
+        || {
+            let mut writer = reference::Writer::fresh(width as u32);
+            for (index, value) in changes() {
+                writer.add_string_unguarded(index, black_box(value));
+            }
+            black_box(writer);
+        },
+    );
+    let (ours, theirs) = (per(ours, turns), per(theirs, turns));
+    println!(
+        "| {states:?} | {width} | {ours:.1} | {theirs:.1} | {:.1} |",
+        theirs / ours
+    );
+}
+
+/// ms of the change that raises the set of a record of a million entries.
+pub fn raise() {
+    println!("\nraise: ms of the change that lays a million entries out anew\n");
+    println!(
+        "| width | from | to | yoksimert | wellen | wellen / yoksimert |\n|---|---|---|---|---|---|"
+    );
+    for (width, last) in [
+        (1usize, States::Nine),
+        (8, States::Four),
+        (8, States::Nine),
+        (64, States::Four),
+    ] {
+        let values = [string(States::Two, width, 1), string(States::Two, width, 2)];
+        let values = if values[0] == values[1] {
+            [vec![b'0'; width], vec![b'1'; width]]
+        } else {
+            values
+        };
+        let letter = if last == States::Four { b'x' } else { b'h' };
+        let raising = vec![letter; width];
+        let room = (MILLION + 1) * (width / 2 + 2);
+        let full = std::cell::RefCell::new(Recorder::new(width as u32, room, MILLION + 1));
+        let fill = || {
+            let mut recorder = full.borrow_mut();
+            recorder.description = ffi::fresh(width as u32).description;
+            for entry in 0..MILLION {
+                recorder.add(entry as u32, &values[entry % 2]);
+            }
+        };
+        let ours = best(fill, || {
+            full.borrow_mut().add(MILLION as u32, black_box(&raising))
+        });
+        let writer = std::cell::RefCell::new(reference::Writer::fresh(width as u32));
+        let fill = || {
+            let mut fresh = reference::Writer::fresh(width as u32);
+            for entry in 0..MILLION {
+                fresh.add_string_unguarded(entry as u32, &values[entry % 2]);
+            }
+            *writer.borrow_mut() = fresh;
+        };
+        let theirs = best(fill, || {
+            writer
+                .borrow_mut()
+                .add_string_unguarded(MILLION as u32, black_box(&raising));
+        });
+        let (ours, theirs) = (per(ours, MILLION), per(theirs, MILLION));
+        println!(
+            "| {width} | Two | {last:?} | {ours:.2} | {theirs:.2} | {:.1} |",
+            theirs / ours
+        );
+    }
+}
+
+/// A record of so many entries, and the same of wellen's.
+fn filled(states: States, width: usize, entries: usize) -> (Recorder, reference::Record) {
+    let strings: Vec<Vec<u8>> = (0..64).map(|seed| string(states, width, seed)).collect();
+    let mut recorder = Recorder::new(width as u32, entries * (width / 2 + 2), entries);
+    for entry in 0..entries {
+        recorder.add(entry as u32, &strings[entry % strings.len()]);
+    }
+    let record = recorder.record();
+    let used = record.description.count as usize;
+    let wellen = reference::Record::new(
+        record.description,
+        &record.bytes[..used * crate::inner::entry_size(width as u32, largest(&record))],
+        &record.indices[..used],
+    );
+    let wellen = wellen.expect("wellen takes the record");
+    (recorder, wellen)
+}
+
+fn largest(record: &Record<'_>) -> States {
+    match record.description.encoding {
+        oracle::Encoding::BitVector { max_states, .. } => max_states,
+        oracle::Encoding::Event | oracle::Encoding::Real => States::Two,
+    }
+}
+
+/// ns an entry read and turned into text.
+pub fn read() {
+    println!("\nread and text: ns an entry\n");
+    println!(
+        "| set | width | read | wellen | ratio | text | wellen | ratio |\n|---|---|---|---|---|---|---|---|"
+    );
+    for states in SETS {
+        for width in [1usize, 8, 64, 256] {
+            let entries = 20_000;
+            let (recorder, wellen) = filled(states, width, entries);
+            let (flat, count) = (recorder.description, recorder.record().description.count);
+            let read = best(
+                || (),
+                || {
+                    for entry in 0..count {
+                        black_box(ffi::read(flat, &recorder.bytes, 0, black_box(entry)));
+                    }
+                },
+            );
+            let wellen_read = best(
+                || (),
+                || {
+                    for entry in 0..count {
+                        black_box(wellen.read_unguarded(black_box(entry)));
+                    }
+                },
+            );
+            let mut out = vec![0u8; width];
+            let text = best(
+                || (),
+                || {
+                    for entry in 0..count {
+                        black_box(ffi::text(
+                            flat,
+                            &recorder.bytes,
+                            0,
+                            black_box(entry),
+                            &mut out,
+                        ));
+                    }
+                },
+            );
+            let wellen_text = best(
+                || (),
+                || {
+                    for entry in 0..count {
+                        black_box(wellen.text_unguarded(black_box(entry)));
+                    }
+                },
+            );
+            let count = count as usize;
+            let (read, wellen_read) = (per(read, count), per(wellen_read, count));
+            let (text, wellen_text) = (per(text, count), per(wellen_text, count));
+            println!(
+                "| {states:?} | {width} | {read:.1} | {wellen_read:.1} | {:.1} | {text:.1} | {wellen_text:.1} | {:.1} |",
+                wellen_read / read,
+                wellen_text / text
+            );
+        }
+    }
+}
+
+/// ms for two equal records of a million entries.
+pub fn compare() {
+    println!("\ncompare: ms for two equal records of a million entries\n");
+    println!("| set | width | yoksimert | wellen | wellen / yoksimert |\n|---|---|---|---|---|");
+    for (states, width) in [
+        (States::Two, 8),
+        (States::Four, 8),
+        (States::Nine, 8),
+        (States::Two, 64),
+    ] {
+        let (recorder, wellen) = filled(states, width, MILLION);
+        let (other, other_wellen) = filled(states, width, MILLION);
+        let ours = best(
+            || (),
+            || {
+                let equal = archive::compare(&recorder.record(), &other.record());
+                assert_eq!(black_box(equal), Ok(true));
+            },
+        );
+        let theirs = best(
+            || (),
+            || {
+                assert_eq!(black_box(wellen.equals(&other_wellen)), Ok(true));
+            },
+        );
+        let (ours, theirs) = (per(ours, MILLION), per(theirs, MILLION));
+        println!(
+            "| {states:?} | {width} | {ours:.2} | {theirs:.2} | {:.1} |",
+            theirs / ours
+        );
+    }
+}
+
+/// ns a look-up. wellen does not try whether an index falls; the archive's answer includes that scan.
+pub fn look_up() {
+    println!("\nlook up: ns an answer, the scan for falling indices included (wellen has none)\n");
+    println!("| indices | yoksimert | wellen |\n|---|---|---|");
+    for length in [10u32, 1_000, 1_000_000] {
+        let indices: Vec<u32> = (0..length).map(|entry| 3 * entry).collect();
+        let description = oracle::fresh(0).map(|d| oracle::Description { count: length, ..d });
+        let events = reference::Record::new(description.expect("width 0 stands"), &[], &indices);
+        let events = events.expect("wellen takes the record");
+        let seeks = (1_000_000 / length).clamp(20, 10_000);
+        let sought = |seek: u32| seek.wrapping_mul(2_654_435_761) % (3 * length);
+        let ours = best(
+            || (),
+            || {
+                for seek in 0..seeks {
+                    black_box(ffi::look_up(&indices, black_box(sought(seek))));
+                }
+            },
+        );
+        let theirs = best(
+            || (),
+            || {
+                for seek in 0..seeks {
+                    black_box(events.look_up_unguarded(black_box(sought(seek))));
+                }
+            },
+        );
+        let seeks = seeks as usize;
+        println!(
+            "| {length} | {:.1} | {:.1} |",
+            per(ours, seeks),
+            per(theirs, seeks)
+        );
+    }
+}
