@@ -136,14 +136,17 @@ pub struct FlatRecord<'a> {
     pub index_start: usize,
 }
 
+#[inline]
 pub fn fresh(width: u32) -> FlatMade {
     yoksimert_fresh(width)
 }
 
+#[inline]
 pub fn fresh_real() -> FlatDescription {
     yoksimert_fresh_real()
 }
 
+#[inline]
 pub fn add_change(
     description: FlatDescription,
     bytes: &mut [u8],
@@ -170,6 +173,7 @@ pub fn add_change(
     }
 }
 
+#[inline]
 pub fn add_real(
     description: FlatDescription,
     bytes: &mut [u8],
@@ -195,6 +199,7 @@ pub fn add_real(
     }
 }
 
+#[inline]
 pub fn read(
     description: FlatDescription,
     bytes: &[u8],
@@ -205,6 +210,7 @@ pub fn read(
     unsafe { yoksimert_read(description, bytes.as_ptr(), bytes.len(), byte_start, entry) }
 }
 
+#[inline]
 pub fn text(
     description: FlatDescription,
     bytes: &[u8],
@@ -226,6 +232,7 @@ pub fn text(
     }
 }
 
+#[inline]
 pub fn compare(a: FlatRecord, b: FlatRecord) -> FlatEqual {
     // SAFETY: four slices, each by its own pointer and length, which are read alone.
     unsafe {
@@ -248,6 +255,7 @@ pub fn compare(a: FlatRecord, b: FlatRecord) -> FlatEqual {
     }
 }
 
+#[inline]
 pub fn look_up(indices: &[u32], sought: u32) -> FlatOffset {
     // SAFETY: one slice, by its own pointer and length, which is read alone.
     unsafe { yoksimert_look_up(indices.as_ptr(), indices.len(), sought) }
