@@ -3,3 +3,4 @@ pub mod Answer
 pub mod Steps
 pub mod Derive
 pub mod Tests
+pub mod Stepping

@@ -3,7 +3,9 @@ use fst::Description;
 use fst::Verdict;
 
 pub mod derivation;
+pub mod derive;
 pub mod piece;
+pub mod steps;
 pub mod tests;
 
 // One piece of a derivation: `width` wires of input number `signal` from bit `lsb` up.

@@ -116,7 +116,7 @@ fn is_late(indices: &[u32]) -> bool
     indices[0] != 0
 }
 
-// Whether the mark of an entry is no set's that the record can hold.
+// Whether the mark of an entry is 3 or above the largest set's.
 fn any_bad_mark(description: Description, used: &[u8]) -> bool
     requires { ⌜ isBadBytes description 0 (now used) ≡ false ⌝ }
     ensures { λ r. ⌜ ((indices : List ℕ) → length indices ≡ description .count → r ≡ markIsBad (keptWith description (now (used .entry)) indices)) ⌝ }
@@ -157,6 +157,7 @@ fn fails(test: InputTest, input: Input, bytes: &[u8], indices: &[u32]) -> bool
     }
 }
 
+// Whether one of the inputs fails a test.
 fn any_fails(test: InputTest, inputs: Inputs, bytes: &[u8], indices: &[u32]) -> bool
     requires { ⌜ (isFirst test ≡ false → any (isBadInput (now bytes) (now indices)) (inputsOf inputs) ≡ false) ⌝ }
     ensures { λ r. ⌜ r ≡ any (failsBy test (now (bytes .entry)) (now (indices .entry))) (inputsOf inputs) ⌝ }

@@ -1,0 +1,90 @@
+-- What an input shows: its own set, the bytes of its levels, the levels that a piece picks.
+-- Assumes nothing.
+use mathlib.Core.Path.{_≡_, refl, sym, ap, ap₂, _∙_}
+use mathlib.Core.Bool.{Bool, true, false, cond}
+use mathlib.Core.List.{List, [], _∷_, _++_, map}
+use Prim.Native.Nat.{ℕ, zero, suc, _+_, _-_, _*_, _^_, _≤_, _<_}
+use native.Mathlib.Omega.{arith}
+use lib.Dec.{ltb}
+use lib.ListN.{length, take, drop, getD, length-map}
+use Rattle.value.specs.declared.States.{States}
+use Rattle.value.specs.declared.States.the-variants.{Two}
+use Rattle.value.specs.Level.{markOf, bitsOf, lenOf, setAt, join}
+use Rattle.value.specs.Digits.{Below}
+use Rattle.value.proofs.Digits.{digits-length}
+use Rattle.signal.proofs.Decoding.{codes-below}
+use Rattle.fst.specs.declared.Encoding.{Encoding}
+use Rattle.fst.specs.declared.Encoding.the-variants.{Event, Real, BitVector}
+use Rattle.fst.proofs.Encoding.{the-type}
+use denote.Enum.Declared.{tagOf}
+use types.Run.{OneOf}
+use mathlib.Core.Logic.{⊎-elim}
+use Rattle.signal.specs.declared.OwnStates.the-variants as own
+use Rattle.signal.specs.Decode.{markIn, setIn, levelPart, levelsIn, hasBadMark}
+use Rattle.signal.specs.Read.{widthOf, hasNoText}
+use Rattle.signal.specs.Parts.{ownStates, codesAt, Levels, Whole}
+use Rattle.signal.proofs.Reading.{vector, some, Owned, owned}
+
+module _ (w : ℕ) (M : States) (v : List ℕ) where
+  -- the own set of an entry whose mark is good
+  pub owned-good : Whole (BitVector w M) v → hasBadMark (BitVector w M) v ≡ false → Owned w M v (setAt (markIn M v))
+  unfolding ownStates hasBadMark
+  owned-good h g = owned w M v h (setAt (markIn M v)) (rw g)
+
+-- neither an event nor a real has a mark
+pub set-none : (e : Encoding) (v : List ℕ) → OneOf (0 ∷ 1 ∷ []) (tagOf the-type e) → Two ≡ setIn e v
+unfolding setIn
+set-none Event v o = refl
+set-none Real v o = refl
+set-none (BitVector w M) v o = absurd (⊎-elim (λ z. omega arith) (λ z. omega arith) o)
+
+pub part-none : (e : Encoding) (v : List ℕ) → OneOf (0 ∷ 1 ∷ []) (tagOf the-type e) → v ≡ levelPart e v
+unfolding levelPart
+part-none Event v o = refl
+part-none Real v o = refl
+part-none (BitVector w M) v o = absurd (⊎-elim (λ z. omega arith) (λ z. omega arith) o)
+
+-- an entry u of a bit vector, and what the code finds in it
+module _ (e : Encoding) (v : List ℕ) (h : Whole e v) (w : ℕ) (M : States) (q : e ≡ BitVector w M) (u : List ℕ) (r : u ≡ v) where
+  pub marked : 0 < length u
+  marked = rw r (some w M v (vector q h))
+
+  module _ (m : ℕ) (S : States) (k : m ≡ markIn M u) (f : S ≡ setAt m) where
+    told : S ≡ setAt (markIn M v)
+    told = f ∙ ap setAt (k ∙ ap (markIn M) r)
+
+    pub set-told : S ≡ setIn e v
+    unfolding setIn
+    set-told = told ∙ sym (ap (λ (x : Encoding). setIn x v) q)
+
+    module _ (g : hasBadMark e v ≡ false) where
+      good : Owned w M v (setAt (markIn M v))
+      good = owned-good w M v (vector q h) (rw q at g)
+
+      pub part-fits : lenOf w S ≤ length u
+      part-fits = rw (told, r) (good .within)
+
+      pub part-told : (p : List ℕ) → p ≡ drop (length u - lenOf w S) u → p ≡ levelPart e v
+      part-told p z = z ∙ rw (told, r, q) (good .part)
+
+-- the levels of an entry, by what the code finds in it
+pub levels-of : (e : Encoding) (v : List ℕ) → hasNoText e ≡ false → Whole e v → hasBadMark e v ≡ false
+    → (w : ℕ) (S : States) (l : List ℕ) → w ≡ widthOf e → S ≡ setIn e v → l ≡ levelPart e v
+    → Levels w S l × (codesAt w S l ≡ levelsIn e v)
+unfolding hasNoText setIn
+levels-of Event v t h g w S l a b c = let z : _≡_ {A = ℕ} 0 1 = cc in absurd (omega arith)
+levels-of Real v t h g w S l a b c = let z : _≡_ {A = ℕ} 0 1 = cc in absurd (omega arith)
+levels-of (BitVector x M) v t h g w S l a b c = let o = owned-good x M v h g in rw (a, b, c) (o .levels, o .codes)
+
+pub levels-length : (e : Encoding) (v : List ℕ) → length (levelsIn e v) ≡ widthOf e
+unfolding levelsIn
+levels-length Event v = refl
+levels-length Real v = refl
+levels-length (BitVector w M) v = digits-length _ w _
+
+-- an entry's levels are its set's
+pub levels-below : (e : Encoding) (v : List ℕ) → Below (2 ^ bitsOf (setIn e v)) (levelsIn e v)
+unfolding levelsIn setIn
+levels-below Event v = tt
+levels-below Real v = tt
+levels-below (BitVector w M) v = codes-below w (setAt (markIn M v)) _

@@ -1,0 +1,54 @@
+-- `transform::derive::derive` meets its contract.
+-- Assumes nothing.
+use mathlib.Core.Path.{_≡_, sym, ap, _∙_}
+use denote.Ref.{now}
+use Rattle.transform.specs.Tests.{verdictReply}
+use Rattle.transform.proofs.InputTestsInOrder.{derivable}
+use Rattle.transform.proofs.SteppingDerive.{refused-first}
+use borrow.Author.Needs.{needs}
+use Rattle.transform.proofs.derive.derive.Statement.{statement}
+use Rattle.transform.proofs.derive.derive.Tie as tie
+
+first-refusal-requires : tie.Need-first-refusal-requires
+first-refusal-requires c κs = search needs
+
+enum-told : tie.Need-enum-told
+enum-told c = search needs
+
+derive-all-requires : tie.Need-derive-all-requires
+derive-all-requires c κs =
+    let f = c .before .before .before .before in
+    let s = f .before .before .before .before .before in
+    derivable (s .args .derivation) (s .args .inputs) (now (s .args .bytes)) (now (s .args .indices)) (sym (f .first-refusal .ensures) ∙ ap verdictReply (c .before .before .enum-told .given .1))
+
+enum-known-verdict : tie.Need-enum-known-verdict
+enum-known-verdict c = search needs
+
+same-length : tie.Need-same-length
+same-length c = search needs
+
+same-length-2 : tie.Need-same-length-2
+same-length-2 c = search needs
+
+returns : tie.Need-returns
+returns c = search needs
+
+returns-2 : tie.Need-returns-2
+returns-2 c =
+    let f = c .before .before .before in
+    let s = f .before .before .before .before .before in
+    refused-first (s .args .derivation) (s .args .inputs) (now (s .args .bytes)) (now (s .args .indices)) (now (s .args .out-bytes)) (now (s .args .out-indices)) _
+    (sym (f .first-refusal .ensures) ∙ ap verdictReply (c .before .verdict .given .1))
+
+pub derive-spec : {M : Type 1} → statement M
+derive-spec =
+    tie.close
+    (tie.spec
+    first-refusal-requires
+    enum-told
+    derive-all-requires
+    enum-known-verdict
+    same-length
+    same-length-2
+    returns
+    returns-2)

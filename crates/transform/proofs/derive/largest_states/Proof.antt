@@ -1,0 +1,76 @@
+-- `transform::derive::largest_states` meets its contract: what is held is the largest set of the inputs passed.
+-- Assumes nothing.
+use mathlib.Core.Path.{_≡_, sym, ap, _∙_}
+use Prim.Native.Nat.{ℕ, suc, _-_, _≤_, _<_}
+use native.Mathlib.Omega.{arith}
+use borrow.Author.Needs.{needs}
+use lib.ListN.{drop}
+use Rattle.transform.specs.Derive.{inputsOf}
+use Rattle.transform.specs.Stepping.{largestOver}
+use Rattle.transform.proofs.InputTests.{slotted}
+use Rattle.transform.proofs.Stepping.{over-none, over-more}
+use Rattle.transform.proofs.derive.largest_states.Statement.{statement}
+use Rattle.transform.proofs.derive.largest_states.Tie as tie
+
+abbrev Inv-loop : tie.InvT-loop
+Inv-loop inputs states₀ i₀ states i = (i ≤ inputs .count) × (states ≡ largestOver (drop i (inputsOf inputs)))
+
+abbrev μ-loop : tie.MeasureT-loop
+μ-loop inputs states₀ i₀ states i = i
+
+cast-i : tie.Need-cast-i Inv-loop μ-loop
+cast-i c = search needs
+
+loop-holds : tie.Need-loop-holds Inv-loop μ-loop
+loop-holds c = (omega arith, over-none (c .args .t1) (c .pre) (slotted (c .args .t1) _ (c .good .0)))
+
+sub-i : tie.Need-sub-i Inv-loop μ-loop
+sub-i c = omega arith
+
+mul-input : tie.Need-mul-input Inv-loop μ-loop
+mul-input c = omega arith
+
+element-copy-out-input : tie.Need-element-copy-out-input Inv-loop μ-loop
+element-copy-out-input c = omega arith
+
+largest-in-requires : tie.Need-largest-in-requires Inv-loop μ-loop
+largest-in-requires c κs = search needs
+
+join-requires : tie.Need-join-requires Inv-loop μ-loop
+join-requires c κs = search needs
+
+loop-less : tie.Need-loop-less Inv-loop μ-loop
+loop-less c = omega arith
+
+loop-again : tie.Need-loop-again Inv-loop μ-loop
+loop-again c =
+    let n = c .before in
+    let l = n .before .before .before .before in
+    let s = l .before in (
+      omega arith,
+      c .join .ensures
+          ∙ over-more (s .args .t1) (s .pre) (slotted (s .args .t1) _ (s .good .0)) (l .loop .i - 1) (omega arith) _ _ (n .largest-in .ensures) (l .loop .i) (omega arith) (l .loop .inv .1),
+    )
+
+returns : tie.Need-returns Inv-loop μ-loop
+returns c =
+    let l = c .before in
+    let z : l .loop .i ≡ 0 = omega arith in
+    l .loop .inv .1 ∙ ap (λ (i : ℕ). largestOver (drop i (inputsOf (l .before .args .t1)))) z
+
+pub largest-states-spec : {M : Type 1} → statement M
+largest-states-spec =
+    tie.close
+    (tie.spec
+    Inv-loop
+    μ-loop
+    cast-i
+    loop-holds
+    sub-i
+    mul-input
+    element-copy-out-input
+    largest-in-requires
+    join-requires
+    loop-less
+    loop-again
+    returns)

@@ -1,0 +1,199 @@
+-- Inner: where a walk stands in its inputs, what comes next, and what the inputs then show.
+-- Assumes nothing.
+use mathlib.Core.Path.{_≡_}
+use Prim.Native.Nat.{ℕ, zero, suc, _+_, _-_, _*_, _≤_, _<_}
+use mathlib.Core.Bool.{Bool, true, false, cond}
+use mathlib.Core.List.{List, [], _∷_, _++_, map}
+use lib.Dec.{eqb}
+use lib.ListN.{length, drop, getD, set}
+use Rattle.value.specs.declared.States.{States}
+use Rattle.value.specs.declared.States.the-variants.{Two}
+use Rattle.value.specs.Slice.{part, overlay, same, sum}
+use Rattle.value.specs.Level.{markOf, bitsOf, join}
+use Rattle.value.specs.Answer.{withLevel}
+use Rattle.layout.specs.Entry.{entrySize, entryOf}
+use Rattle.fst.specs.Change.{repeats}
+use Rattle.fst.specs.Record.{largestIn}
+use Rattle.runs.specs.Runs.{Step, indexOf, entriesOf}
+use Rattle.signal.specs.declared.NextIndex.{NextIndex}
+use Rattle.signal.specs.declared.NextIndex.the-variants.{Absent, At}
+use Rattle.signal.specs.Offset.{headOf}
+use Rattle.signal.specs.Decode.{entryAt, setIn, levelsIn, hasBadMark}
+use Rattle.signal.specs.Read.{widthOf, hasNoText}
+use Rattle.signal.specs.Parts.{Whole, Inside}
+use Rattle.transform.specs.declared.Input.{Input}
+use Rattle.transform.specs.declared.Inputs.{Inputs}
+use Rattle.transform.specs.declared.Extract.{Extract}
+use Rattle.transform.specs.declared.DerivedBitVecSignal.{DerivedBitVecSignal}
+use Rattle.transform.specs.declared.steps.Position.{Position}
+use Rattle.transform.specs.Piece.{extractOf, endOf, widthOf as pieceWidth}
+use Rattle.transform.specs.Steps.{smaller}
+use Rattle.transform.specs.Derive.{inputsOf, pickedOf, largestAmong}
+use Rattle.transform.specs.Tests.{keptAll, Derivable}
+
+-- each element of a list has a property
+abbrev pub All : {A : Type 0} → (A → Type 0) → List A → Type 0
+All P [] = Unit
+All P (x ∷ l) = P x × All P l
+
+-- an input of which so many entries have begun: it shows the last of them, and the others are to come
+pub record Cursor : Type 0 where
+  pub input : Input
+  pub begun : ℕ
+
+abbrev pub cursor : Input → ℕ → Cursor
+cursor i k = record { input = i; begun = k }
+
+abbrev pub cursors : List Input → List ℕ → List Cursor
+cursors [] ks = []
+cursors (i ∷ is) [] = []
+cursors (i ∷ is) (k ∷ ks) = cursor i k ∷ cursors is ks
+
+abbrev pub cursorsOf : Inputs → Position → List Cursor
+cursorsOf inputs p = cursors (inputsOf inputs) (p .begun)
+
+-- ---- by the indices
+
+-- an input's time indices lie within the lent ones
+abbrev pub Reaches : List ℕ → Input → Type 0
+Reaches indices i = i .«index_start» + i .description .count ≤ length indices
+
+pub record Indexable (inputs : Inputs) (indices : List ℕ) : Type 0 where
+  pub few : inputs .count ≤ 8
+  pub reach : All (Reaches indices) (inputsOf inputs)
+
+-- the index of an input's next entry
+unfoldable pub nextIn : List ℕ → Cursor → NextIndex
+nextIn indices c = headOf (drop (c .begun) (part (c .input .«index_start») (c .input .description .count) indices))
+
+unfoldable pub soonest : List ℕ → List Cursor → NextIndex
+soonest indices [] = Absent
+soonest indices (c ∷ cs) = smaller (nextIn indices c) (soonest indices cs)
+
+-- one entry on, where the next one carries an index
+abbrev pub begunAt : ℕ → ℕ → NextIndex → ℕ
+begunAt i k Absent = k
+begunAt i k (At j) = cond (eqb j i) (k + 1) k
+
+abbrev pub advanced : List ℕ → ℕ → Cursor → Cursor
+advanced indices i c = cursor (c .input) (begunAt i (c .begun) (nextIn indices c))
+
+-- ---- by the bytes
+
+-- the entry that an input shows: its bytes, its set and its levels
+abbrev pub shownBytes : List ℕ → Cursor → List ℕ
+shownBytes bytes c = entryAt (c .input .description) (c .input .«byte_start») bytes (c .begun - 1)
+
+abbrev pub setNow : List ℕ → Cursor → States
+setNow bytes c = setIn (c .input .description .encoding) (shownBytes bytes c)
+
+abbrev pub levelsNow : List ℕ → Cursor → List ℕ
+levelsNow bytes c = levelsIn (c .input .description .encoding) (shownBytes bytes c)
+
+abbrev pub widthNow : Cursor → ℕ
+widthNow c = widthOf (c .input .description .encoding)
+
+unfoldable pub largestNow : List ℕ → List Cursor → States
+largestNow bytes [] = Two
+largestNow bytes (c ∷ cs) = join (setNow bytes c) (largestNow bytes cs)
+
+unfoldable pub pickedNow : List ℕ → List Cursor → List Extract → List ℕ
+pickedNow bytes cs [] = []
+pickedNow bytes cs (e ∷ es) = pickedOf e (getD (map (levelsNow bytes) cs) (e .signal) []) ++ pickedNow bytes cs es
+
+-- an input of a bit vector shows an entry, which lies within the bytes and whose mark is a set's
+pub record Showing (bytes : List ℕ) (c : Cursor) : Type 0 where
+  pub begun : 1 ≤ c .begun
+  pub vector : hasNoText (c .input .description .encoding) ≡ false
+  pub inside : Inside (c .input .description) (c .input .«byte_start») bytes (c .begun - 1)
+  pub whole : Whole (c .input .description .encoding) (shownBytes bytes c)
+  pub marked : hasBadMark (c .input .description .encoding) (shownBytes bytes c) ≡ false
+
+pub record AllShowing (inputs : Inputs) (bytes : List ℕ) (p : Position) : Type 0 where
+  pub few : inputs .count ≤ 8
+  pub shown : All (Showing bytes) (cursorsOf inputs p)
+
+-- ---- an entry stored level by level
+
+-- big-endian bytes with levels put in, highest first, where so many levels are still to be put in
+unfoldable pub filled : ℕ → ℕ → List ℕ → List ℕ → List ℕ
+filled b left [] out = out
+filled b left (c ∷ cs) out = filled b (left - 1) cs (withLevel b (left - 1) c out)
+
+-- a piece lies within its input's width, whose set is not above the step's, and its levels are among those that are left
+pub record Picks (bytes : List ℕ) (c : Cursor) (e : Extract) (S : States) (left size : ℕ) : Type 0 where
+  pub shows : Showing bytes c
+  pub within : endOf e ≤ widthNow c
+  pub under : markOf (setNow bytes c) ≤ markOf S
+  pub some : e .width ≤ left
+  pub few : left ≤ 4096
+  pub room : left * bitsOf S ≤ 8 * size
+
+abbrev pub PieceIn : List Cursor → Extract → Type 0
+PieceIn cs e = (e .signal < length cs) × (endOf e ≤ getD (map widthNow cs) (e .signal) 0)
+
+abbrev pub Under : List ℕ → States → Cursor → Type 0
+Under bytes S c = markOf (setNow bytes c) ≤ markOf S
+
+-- the pieces of a step and its set
+pub record Stepped (inputs : Inputs) (bytes : List ℕ) (p : Position) (packed : List ℕ) (S : States) (width : ℕ) : Type 0 where
+  pub shown : AllShowing inputs bytes p
+  pub pieces : All (PieceIn (cursorsOf inputs p)) (map extractOf packed)
+  pub under : All (Under bytes S) (cursorsOf inputs p)
+  pub whole : sum (map pieceWidth (map extractOf packed)) ≡ width
+  pub wide : 1 ≤ width
+  pub narrow : width ≤ 4096
+
+-- ---- a step taken, and kept unless it repeats the last
+
+-- what taking the step at an index asks, wherever the inputs then stand
+pub record Takeable (inputs : Inputs) (bytes indices : List ℕ) (p : Position) (packed : List ℕ) (M : States) (width index : ℕ) : Type 0 where
+  pub indexed : Indexable inputs indices
+  pub steps : (q : Position) → length (q .begun) ≡ 8 → cursorsOf inputs q ≡ map (advanced indices index) (cursorsOf inputs p)
+      → Stepped inputs bytes q packed (largestNow bytes (cursorsOf inputs q)) width × (markOf (largestNow bytes (cursorsOf inputs q)) ≤ markOf M)
+
+-- where it then stands, and its entry
+pub record Taken (inputs : Inputs) (bytes indices : List ℕ) (p : Position) (packed : List ℕ) (M : States) (width index : ℕ) (q : Position) (entry : List ℕ) : Type 0 where
+  pub places : length (q .begun) ≡ 8
+  pub on : cursorsOf inputs q ≡ map (advanced indices index) (cursorsOf inputs p)
+  pub stored : entry ≡ entryOf width M (largestNow bytes (cursorsOf inputs q)) (pickedNow bytes (cursorsOf inputs q) (map extractOf packed))
+
+-- does an entry repeat the last of so many
+unfoldable pub repeatsLast : ℕ → List ℕ → List ℕ → Bool
+repeatsLast zero last entry = false
+repeatsLast (suc n) last entry = same last entry
+
+-- so many entries of one size are stored, and there is room for one more unless it repeats the last
+pub record Appendable (count : ℕ) (entry bytes indices : List ℕ) : Type 0 where
+  pub small : length entry ≤ 2049
+  pub few : count ≤ 8388608
+  pub stored : count * length entry ≤ length bytes
+  pub room : repeats (length entry) count bytes entry ≡ false → (count * length entry + length entry ≤ length bytes) × (count < length indices)
+
+pub record Appended (count : ℕ) (entry : List ℕ) (index : ℕ) (bytes indices : List ℕ) (r : ℕ) (bytes′ indices′ : List ℕ) : Type 0 where
+  pub counted : r ≡ cond (repeats (length entry) count bytes entry) count (count + 1)
+  pub stored : bytes′ ≡ cond (repeats (length entry) count bytes entry) bytes (overlay bytes (count * length entry) entry)
+  pub indexed : indices′ ≡ cond (repeats (length entry) count bytes entry) indices (set indices count index)
+
+-- ---- all steps
+
+-- what the two walks over the steps are given
+pub record Walkable (d : DerivedBitVecSignal) (inputs : Inputs) (bytes indices : List ℕ) (M : States) (entry : List ℕ) : Type 0 where
+  pub derivable : Derivable d inputs bytes indices
+  pub largest : M ≡ largestAmong (keptAll bytes indices inputs)
+  pub sized : length entry ≡ entrySize (d .width) M
+
+-- the derived list has room in the slices
+pub record Roomy (steps : List Step) (size : ℕ) (bytes indices : List ℕ) : Type 0 where
+  pub stored : length steps * size ≤ length bytes
+  pub indexed : length steps ≤ length indices
+
+-- the steps laid over the slices, and nothing else altered
+pub record Stored (width : ℕ) (M : States) (steps : List Step) (bytes indices bytes′ indices′ : List ℕ) : Type 0 where
+  pub entries : bytes′ ≡ overlay bytes 0 (entriesOf width M steps)
+  pub times : indices′ ≡ overlay indices 0 (map indexOf steps)
+
+-- the largest of the inputs' largest sets
+unfoldable pub largestOver : List Input → States
+largestOver [] = Two
+largestOver (i ∷ is) = join (largestIn (i .description .encoding)) (largestOver is)

@@ -1,0 +1,238 @@
+// Stepping over the inputs of a derivation, apart from what a step yields.
+ghost use mathlib.Core.Path.{_≡_};
+ghost use mathlib.Core.List.{map};
+ghost use Prim.Native.Nat.{_*_, _≤_, _<_};
+ghost use lib.ListN.{length};
+ghost use Rattle.value.specs.Level.{bitsOf, markOf};
+ghost use Rattle.layout.specs.Entry.{entrySize, entryOf};
+ghost use Rattle.signal.specs.Decode.{levelPart};
+ghost use Rattle.signal.specs.Read.{widthOf};
+ghost use Rattle.transform.specs.Derive.{pickedOf};
+ghost use Rattle.transform.specs.Piece.{extractOf};
+ghost use Rattle.transform.specs.Steps.{smaller};
+ghost use Rattle.transform.specs.Stepping.{Reaches, Indexable, cursor, cursorsOf, nextIn, soonest, begunAt, advanced};
+ghost use Rattle.transform.specs.Stepping.{shownBytes, setNow, levelsNow, largestNow, pickedNow, Showing, AllShowing, filled, Picks, Stepped};
+use crate::Extract;
+use crate::Input;
+use crate::Inputs;
+use fst::Encoding;
+use layout::entry::push_zeros;
+use signal::NextIndex;
+use signal::decode::code_at;
+use signal::decode::level_part;
+use signal::decode::mark_in;
+use signal::decode::states_of;
+use signal::read::entry_at;
+use value::States;
+
+// How many entries of each input have begun. An input shows the last of these, and the next one is the entry of that number.
+pub struct Position {
+    pub begun: [u32; 8],
+}
+
+fn smaller(a: NextIndex, b: NextIndex) -> NextIndex
+    ensures { λ r. ⌜ r ≡ smaller a b ⌝ }
+{
+    let NextIndex::At(i) = a else {
+        return b;
+    };
+    let NextIndex::At(j) = b else {
+        return a;
+    };
+    if j < i { b } else { a }
+}
+
+// The index of an input's next entry.
+fn next_of(input: Input, indices: &[u32], begun: u32) -> NextIndex
+    requires { ⌜ Reaches (now indices) input ⌝ }
+    ensures { λ r. ⌜ r ≡ nextIn (now (indices .entry)) (cursor input begun) ⌝ }
+{
+    if begun < input.description.count {
+        let at = input.index_start + begun as usize;
+        return NextIndex::At(indices[at]);
+    }
+    NextIndex::Absent
+}
+
+// The smallest index among the inputs' next entries.
+pub fn next_index(inputs: Inputs, indices: &[u32], position: Position) -> NextIndex
+    requires { ⌜ Indexable inputs (now indices) ⌝ }
+    ensures { λ r. ⌜ r ≡ soonest (now (indices .entry)) (cursorsOf inputs position) ⌝ }
+{
+    let mut next = NextIndex::Absent;
+    let mut i = inputs.count as usize;
+    while 0 < i {
+        i -= 1;
+        let input = inputs.slots[i];
+        next = smaller(next_of(input, indices, position.begun[i]), next);
+    }
+    next
+}
+
+// How many entries of an input have begun once the step at an index is taken.
+fn begun_at(input: Input, indices: &[u32], begun: u32, index: u32) -> u32
+    requires { ⌜ Reaches (now indices) input ⌝ }
+    ensures { λ r. ⌜ r ≡ begunAt index begun (nextIn (now (indices .entry)) (cursor input begun)) ⌝ }
+{
+    let NextIndex::At(next) = next_of(input, indices, begun) else {
+        return begun;
+    };
+    if next == index { begun + 1 } else { begun }
+}
+
+// Every input whose next entry carries the index moves on by one.
+pub fn advance(inputs: Inputs, indices: &[u32], position: Position, index: u32) -> Position
+    requires { ⌜ Indexable inputs (now indices) ⌝ }
+    ensures { λ r. ⌜ (cursorsOf inputs r ≡ map (advanced (now (indices .entry)) index) (cursorsOf inputs position)) × (length (r .begun) ≡ 8) ⌝ }
+{
+    let mut begun = position.begun;
+    let mut i = inputs.count as usize;
+    while 0 < i {
+        i -= 1;
+        let input = inputs.slots[i];
+        begun[i] = begun_at(input, indices, begun[i], index);
+    }
+    Position { begun }
+}
+
+// The own set of the entry that an input shows.
+fn shown_states(input: Input, bytes: &[u8], begun: u32) -> States
+    requires { ⌜ Showing (now bytes) (cursor input begun) ⌝ }
+    ensures { λ r. ⌜ r ≡ setNow (now (bytes .entry)) (cursor input begun) ⌝ }
+{
+    let description = input.description;
+    let entry = entry_at(description, bytes, input.byte_start, begun - 1);
+    let encoding = description.encoding;
+    let Encoding::BitVector {
+        width: _,
+        max_states,
+    } = encoding
+    else {
+        return States::Two;
+    };
+    states_of(mark_in(max_states, entry))
+}
+
+// The bytes that hold its levels.
+fn shown_levels<'a>(input: Input, bytes: &'a [u8], begun: u32) -> &'a [u8]
+    requires { ⌜ Showing (now bytes) (cursor input begun) ⌝ }
+    ensures { λ r. ⌜ now r ≡ levelPart (input .description .encoding) (shownBytes (now (bytes .entry)) (cursor input begun)) ⌝ }
+{
+    let description = input.description;
+    let entry = entry_at(description, bytes, input.byte_start, begun - 1);
+    let encoding = description.encoding;
+    let Encoding::BitVector { width, max_states } = encoding else {
+        return entry;
+    };
+    level_part(width, states_of(mark_in(max_states, entry)), entry)
+}
+
+// How many levels an entry has.
+fn width_of(encoding: Encoding) -> u32
+    ensures { λ r. ⌜ r ≡ widthOf encoding ⌝ }
+{
+    match encoding {
+        Encoding::Event => 0,
+        Encoding::Real => 0,
+        Encoding::BitVector {
+            width,
+            max_states: _,
+        } => width,
+    }
+}
+
+// The largest of the sets that the inputs show.
+pub fn step_states(inputs: Inputs, bytes: &[u8], position: Position) -> States
+    requires { ⌜ AllShowing inputs (now bytes) position ⌝ }
+    ensures { λ r. ⌜ r ≡ largestNow (now (bytes .entry)) (cursorsOf inputs position) ⌝ }
+{
+    let mut states = States::Two;
+    let mut i = inputs.count as usize;
+    while 0 < i {
+        i -= 1;
+        let input = inputs.slots[i];
+        states = States::join(shown_states(input, bytes, position.begun[i]), states);
+    }
+    states
+}
+
+// Stores the levels of one piece, highest first, where `left` levels are still to be stored.
+fn write_piece(
+    extract: Extract,
+    input: Input,
+    bytes: &[u8],
+    begun: u32,
+    states: States,
+    left: u32,
+    out: &mut [u8],
+)
+    requires { ⌜ Picks (now bytes) (cursor input begun) extract states left (length (now out)) ⌝ }
+    ensures { λ _. ⌜ now (out .exit) ≡ filled (bitsOf states) left (pickedOf extract (levelsNow (now (bytes .entry)) (cursor input begun))) (now (out .entry)) ⌝ }
+{
+    let description = input.description;
+    let encoding = description.encoding;
+    let width = width_of(encoding);
+    let own = shown_states(input, bytes, begun);
+    let levels = shown_levels(input, bytes, begun);
+    let count = extract.width as u32;
+    let first = width - (extract.lsb + count);
+    let mut j = 0;
+    while j < count {
+        let code = code_at(width, own, levels, first + j);
+        states.set_bit(out, left - 1 - j, code);
+        j += 1;
+    }
+}
+
+// Stores the levels of all pieces, highest first.
+fn write_pieces(
+    width: u32,
+    pieces: &[u64],
+    inputs: Inputs,
+    bytes: &[u8],
+    position: Position,
+    states: States,
+    out: &mut [u8],
+)
+    requires { ⌜ Stepped inputs (now bytes) position (now pieces) states width × (width * bitsOf states ≤ 8 * length (now out)) ⌝ }
+    ensures { λ _. ⌜ now (out .exit) ≡ filled (bitsOf states) width (pickedNow (now (bytes .entry)) (cursorsOf inputs position) (map extractOf (now (pieces .entry)))) (now (out .entry)) ⌝ }
+{
+    let mut left = width;
+    let mut i = 0;
+    while i < pieces.len() {
+        let extract = Extract::from_u64(pieces[i]);
+        let signal = extract.signal as usize;
+        let input = inputs.slots[signal];
+        write_piece(
+            extract,
+            input,
+            bytes,
+            position.begun[signal],
+            states,
+            left,
+            out,
+        );
+        left -= extract.width as u32;
+        i += 1;
+    }
+}
+
+// Stores the entry of a step in bytes that are as many as an entry takes.
+pub fn write_step(
+    width: u32,
+    pieces: &[u64],
+    inputs: Inputs,
+    bytes: &[u8],
+    position: Position,
+    max_states: States,
+    states: States,
+    out: &mut [u8],
+)
+    requires { ⌜ Stepped inputs (now bytes) position (now pieces) states width × (markOf states ≤ markOf «max_states») × (length (now out) ≡ entrySize width «max_states») ⌝ }
+    ensures { λ _. ⌜ now (out .exit) ≡ entryOf width «max_states» states (pickedNow (now (bytes .entry)) (cursorsOf inputs position) (map extractOf (now (pieces .entry)))) ⌝ }
+{
+    let size = out.len();
+    push_zeros(out, 0, size);
+    out[0] = states.mark() << 6;
+    write_pieces(width, pieces, inputs, bytes, position, states, out);
+}
