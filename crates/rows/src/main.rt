@@ -1,11 +1,17 @@
-// Rows 1 to 8 of document 01 and the edges of its Add a change, run on the code. Each call writes a line: the number, the count, the
-// mark of the largest set, the bytes and the indices, whole. Two bytes aa and three indices 46 stand before the record, and what is
-// behind the used part is aa and 46 too.
+// The twelve rows of document 01 and its edges, run on the code. Each change writes a line: the number, the count, the mark of the
+// largest set, the bytes and the indices, whole. Two bytes aa and three indices 46 stand before the record, and what is behind the used
+// part is aa and 46 too. A look-up writes its number, start, entries, whether equal, and the next index or `-`.
 ghost use Prim.Native.Nat.{_<_};
 use fst::Added;
 use fst::Description;
 use fst::Encoding;
 use fst::Made;
+use signal::DataOffset;
+use signal::NextIndex;
+use signal::OffsetAnswer;
+use transform::DerivedBitVecSignal;
+use transform::Input;
+use transform::Inputs;
 
 // The character of a hexadecimal digit.
 fn digit(n: u8) -> u8
@@ -164,6 +170,85 @@ fn row_8() {
     string(g, &mut bytes, &mut indices, 6, b"0");
 }
 
+fn write_absent() {
+    io::write_all(1, b" -");
+}
+
+fn write_offset(offset: DataOffset) {
+    write_byte(0);
+    write_byte((offset.start % 256) as u8);
+    write_byte((offset.elements % 256) as u8);
+    if offset.time_match {
+        io::write_all(1, b" equal");
+    } else {
+        io::write_all(1, b" unequal");
+    }
+    let next = offset.next_index;
+    match next {
+        NextIndex::At(index) => write_byte(low_byte(index)),
+        NextIndex::Absent => write_absent(),
+    }
+    io::write_all(1, b"\n");
+}
+
+fn look_up(indices: &[u32], sought: u32) {
+    match signal::offset::get_offset(indices, sought) {
+        OffsetAnswer::At(offset) => write_offset(offset),
+        OffsetAnswer::Nothing => title(b" none"),
+        OffsetAnswer::Refused(refusal) => {
+            write_byte(refusal.number());
+            io::write_all(1, b"\n");
+        }
+    }
+}
+
+fn rows_9_to_11() {
+    title(b"rows 9 to 11");
+    look_up(&[0, 5, 5, 9], 6);
+    look_up(&[0, 5, 5, 9], 9);
+    look_up(&[3], 2);
+}
+
+// A slice of bit 0 of a record at 2 and 3, into five bytes bb and five indices 50.
+fn slice_of_bit_0(description: Description, bytes: &[u8], indices: &[u32]) {
+    let mut out_bytes = [0xbbu8; 5];
+    let mut out_indices = [0x50u32; 5];
+    let input = Input {
+        description,
+        byte_start: 2,
+        index_start: 3,
+    };
+    let inputs = Inputs {
+        count: 1,
+        slots: [input; 8],
+    };
+    let joined = DerivedBitVecSignal::new_slice(7, 0, 0);
+    let slice = joined.next;
+    let made = transform::derive::derive(
+        slice,
+        inputs,
+        bytes,
+        indices,
+        &mut out_bytes,
+        &mut out_indices,
+    );
+    write_fresh(made);
+    write_bytes(&out_bytes);
+    io::write_all(1, b" |");
+    write_indices(&out_indices);
+    io::write_all(1, b"\n");
+}
+
+fn row_12() {
+    let mut bytes = [0xaau8; 6];
+    let mut indices = [0x46u32; 7];
+    title(b"row 12");
+    let d = fresh(2);
+    let e = string(d, &mut bytes, &mut indices, 0, b"x1");
+    let f = string(e, &mut bytes, &mut indices, 4, b"01");
+    slice_of_bit_0(f, &bytes, &indices);
+}
+
 // Row 5 in 4 bytes, and in 3.
 fn edge_room() {
     let mut four = [0xaau8; 6];
@@ -251,6 +336,8 @@ fn main() {
     row_6();
     row_7();
     row_8();
+    rows_9_to_11();
+    row_12();
     edge_room();
     edge_widened();
     edge_real();
