@@ -35,6 +35,8 @@ use Rattle.signal.specs.declared.NextIndex.the-variants.{Absent, At}
 use Rattle.signal.specs.Decode.{entriesFrom, entriesIn, entryAt, markIn, setIn, levelPart, levelsIn, hasBadMark}
 use Rattle.signal.specs.Offset.{falls, headOf}
 use Rattle.signal.specs.Read.{widthOf}
+use Rattle.signal.proofs.ReadBack as back
+use Rattle.signal.proofs.ReadBack.{Tells}
 use Rattle.transform.specs.declared.Extract.{Extract}
 use Rattle.transform.specs.declared.DerivedBitVecSignal.{DerivedBitVecSignal}
 use Rattle.transform.specs.declared.Inputs.{Inputs}
@@ -636,6 +638,11 @@ module _ (a : Accepted) where
       go : Result (given made-record) tests → Left (tried tests (given made-record))
       go (through ps q) = subst Left (sym q) found
       go (stopped n q) = λ h. never n q h
+
+  -- entry k of the record tells the own set and the string of step k
+  pub read-back-derived : (k : ℕ) (s : Step) → k < length listOf
+      → Tells (a .derivation .width) (largestAmong ksOf) (entryAt (recordOf .description) 0 (recordOf .bytes) k) (getD listOf k s)
+  read-back-derived k s h = rw derived-is-laid-out (back.read-back (a .derivation .width) accepted-width (largestAmong ksOf) listOf accepted-sound k s h)
 
 -- two accepted Derives of one width leave equal records just where their largest sets and their derived lists are equal
 pub demand-3-derived : (a b : Accepted) → a .derivation .width ≡ b .derivation .width
