@@ -1,22 +1,10 @@
-//! Links the archive that `rt staticlib yoksimert` writes. Without it the crate is built without the calls (`cfg(archive)` off).
-
-use std::path::Path;
+//! `cfg(archive)`: whether the proved archive was there when the crate `yoksimert` was built.
 
 fn main() {
-    let here = std::env::var("CARGO_MANIFEST_DIR").expect("cargo sets CARGO_MANIFEST_DIR");
-    let folder = Path::new(&here).join("../../target/staticlib");
-    let archive = folder.join("libyoksimert.a");
+    let variable = "DEP_YOKSIMERT_PRESENT";
     println!("cargo::rustc-check-cfg=cfg(archive)");
-    println!("cargo::rerun-if-changed={}", archive.display());
-    if archive.is_file() {
-        println!("cargo::rustc-link-search=native={}", folder.display());
-        println!("cargo::rustc-link-lib=static=yoksimert");
+    println!("cargo::rerun-if-env-changed={variable}");
+    if std::env::var_os(variable).is_some() {
         println!("cargo::rustc-cfg=archive");
-        println!("cargo::metadata=PRESENT=1");
-    } else {
-        println!(
-            "cargo::warning=no {}: run `rt staticlib yoksimert`",
-            archive.display()
-        );
     }
 }

@@ -1,22 +1,22 @@
 //! The archive's operations with the oracle's types in and out. What the archive is proved to leave on a refusal is asserted.
 
-use crate::ffi::{self, FlatAdded, FlatRecord};
 use crate::numbers::{accepted, decode, encode, kind, states};
 use oracle::{Change, Description, Entry, Offset, Record, Refusal};
+use yoksimert::raw::{self, FlatAdded, FlatRecord};
 
 /// The empty record of a width; width 0 makes an event.
 ///
 /// # Errors
 /// 1.
 pub fn fresh(width: u32) -> Result<Description, Refusal> {
-    let made = ffi::fresh(width);
+    let made = raw::fresh(width);
     accepted(made.number)?;
     Ok(decode(made.description))
 }
 
 /// The empty record of reals.
 pub fn fresh_real() -> Description {
-    decode(ffi::fresh_real())
+    decode(raw::fresh_real())
 }
 
 /// Adds a change and hands back the next description.
@@ -35,10 +35,10 @@ pub fn add_change(
     let flat = encode(d);
     let FlatAdded { number, next } = match change {
         Change::Text(string) => {
-            ffi::add_change(flat, bytes, byte_start, indices, index_start, index, string)
+            raw::add_change(flat, bytes, byte_start, indices, index_start, index, string)
         }
         Change::Real(bits) => {
-            ffi::add_real(flat, bytes, byte_start, indices, index_start, index, *bits)
+            raw::add_real(flat, bytes, byte_start, indices, index_start, index, *bits)
         }
     };
     if number != 0 {
@@ -53,7 +53,7 @@ pub fn add_change(
 /// # Errors
 /// 2, 8, 9.
 pub fn read(d: Description, bytes: &[u8], byte_start: usize, entry: u32) -> Result<Entry, Refusal> {
-    let answer = ffi::read(encode(d), bytes, byte_start, entry);
+    let answer = raw::read(encode(d), bytes, byte_start, entry);
     if answer.number != 0 {
         let rest = (answer.kind, answer.set, answer.start, answer.length);
         assert_eq!(rest, (0, 0, 0, 0), "refused, and an entry");
@@ -77,7 +77,7 @@ pub fn text(
     entry: u32,
     out: &mut [u8],
 ) -> Result<(), Refusal> {
-    accepted(ffi::text(encode(d), bytes, byte_start, entry, out))
+    accepted(raw::text(encode(d), bytes, byte_start, entry, out))
 }
 
 /// Whether both lists of index and value agree.
@@ -85,7 +85,7 @@ pub fn text(
 /// # Errors
 /// 2 for the first record, then for the second; 9 and 10 in each pair up to the first difference.
 pub fn compare(a: &Record, b: &Record) -> Result<bool, Refusal> {
-    let answer = ffi::compare(flat(a), flat(b));
+    let answer = raw::compare(flat(a), flat(b));
     if answer.number != 0 {
         assert!(!answer.equal, "refused, and equal");
     }
@@ -108,7 +108,7 @@ fn flat<'a>(record: &Record<'a>) -> FlatRecord<'a> {
 /// # Errors
 /// 2, 11.
 pub fn look_up(indices: &[u32], sought: u32) -> Result<Option<Offset>, Refusal> {
-    let answer = ffi::look_up(indices, sought);
+    let answer = raw::look_up(indices, sought);
     if !answer.found {
         let rest = (answer.start, answer.elements, answer.time_match);
         assert_eq!(rest, (0, 0, false), "nothing found, and a place");

@@ -1,7 +1,7 @@
 //! The oracle's types as the archive's numbers, and back.
 
-use crate::ffi::FlatDescription;
 use oracle::{Description, Encoding, Kind, Refusal, States};
+use yoksimert::raw::FlatDescription;
 
 pub fn encode(description: Description) -> FlatDescription {
     let (kind, width, set) = match description.encoding {

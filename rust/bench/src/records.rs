@@ -2,9 +2,9 @@
 
 use crate::strings::{SETS, string};
 use crate::timing::{best, per};
-use archive::ffi::{self, FlatDescription};
 use oracle::{Record, States};
 use std::hint::black_box;
+use yoksimert::raw::{self, FlatDescription};
 
 const MILLION: usize = 1_000_000;
 
@@ -18,14 +18,14 @@ struct Recorder {
 impl Recorder {
     fn new(width: u32, byte_room: usize, index_room: usize) -> Self {
         Self {
-            description: ffi::fresh(width).description,
+            description: raw::fresh(width).description,
             bytes: vec![0; byte_room],
             indices: vec![0; index_room],
         }
     }
 
     fn add(&mut self, index: u32, value: &[u8]) {
-        let added = ffi::add_change(
+        let added = raw::add_change(
             self.description,
             &mut self.bytes,
             0,
@@ -117,7 +117,7 @@ pub fn raise() {
         let full = std::cell::RefCell::new(Recorder::new(width as u32, room, MILLION + 1));
         let fill = || {
             let mut recorder = full.borrow_mut();
-            recorder.description = ffi::fresh(width as u32).description;
+            recorder.description = raw::fresh(width as u32).description;
             for entry in 0..MILLION {
                 recorder.add(entry as u32, &values[entry % 2]);
             }
@@ -186,7 +186,7 @@ pub fn read() {
                 || (),
                 || {
                     for entry in 0..count {
-                        black_box(ffi::read(flat, &recorder.bytes, 0, black_box(entry)));
+                        black_box(raw::read(flat, &recorder.bytes, 0, black_box(entry)));
                     }
                 },
             );
@@ -203,7 +203,7 @@ pub fn read() {
                 || (),
                 || {
                     for entry in 0..count {
-                        black_box(ffi::text(
+                        black_box(raw::text(
                             flat,
                             &recorder.bytes,
                             0,
@@ -281,7 +281,7 @@ pub fn look_up() {
             || (),
             || {
                 for seek in 0..seeks {
-                    black_box(ffi::look_up(&indices, black_box(sought(seek))));
+                    black_box(raw::look_up(&indices, black_box(sought(seek))));
                 }
             },
         );

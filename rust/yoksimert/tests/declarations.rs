@@ -142,7 +142,7 @@ fn of_rattle() -> Items {
 }
 
 fn of_rust() -> Items {
-    let text = flattened(&file("rust/archive/src/ffi.rs"));
+    let text = flattened(&file("rust/yoksimert/src/raw.rs"));
     let mut items = structs(&text);
     let block = between(&text, "unsafe extern \"C\" {", "}").concat();
     items.extend(functions(&block, "fn ", ";"));

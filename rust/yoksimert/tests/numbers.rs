@@ -1,7 +1,7 @@
 //! Numbers that are no description are refused with 2, and everything comes back as it was.
 #![cfg(archive)]
 
-use archive::ffi::{self, FlatDescription, FlatRecord};
+use yoksimert::raw::{self, FlatDescription, FlatRecord};
 
 const KINDS: [u32; 6] = [0, 1, 2, 3, 258, u32::MAX];
 const WIDTHS: [u32; 5] = [0, 1, 3, 4_096, u32::MAX];
@@ -42,13 +42,13 @@ fn other_numbers_are_refused() {
         }
         refused += 1;
         let (mut bytes, mut indices, mut out) = ([7; 40], [9; 4], [b'q'; 8]);
-        let added = ffi::add_change(flat, &mut bytes, 0, &mut indices, 0, 1, b"1");
+        let added = raw::add_change(flat, &mut bytes, 0, &mut indices, 0, 1, b"1");
         assert_eq!((added.number, added.next), (2, flat));
-        let added = ffi::add_real(flat, &mut bytes, 0, &mut indices, 0, 1, 1);
+        let added = raw::add_real(flat, &mut bytes, 0, &mut indices, 0, 1, 1);
         assert_eq!((added.number, added.next), (2, flat));
-        let entry = ffi::read(flat, &bytes, 0, 0);
+        let entry = raw::read(flat, &bytes, 0, 0);
         assert_eq!((entry.number, entry.start, entry.length), (2, 0, 0));
-        assert_eq!(ffi::text(flat, &bytes, 0, 0, &mut out), 2);
+        assert_eq!(raw::text(flat, &bytes, 0, 0, &mut out), 2);
         let record = |description| FlatRecord {
             description,
             bytes: &bytes,
@@ -58,10 +58,10 @@ fn other_numbers_are_refused() {
         };
         for (a, b) in [
             (flat, flat),
-            (flat, ffi::fresh_real()),
-            (ffi::fresh_real(), flat),
+            (flat, raw::fresh_real()),
+            (raw::fresh_real(), flat),
         ] {
-            let answer = ffi::compare(record(a), record(b));
+            let answer = raw::compare(record(a), record(b));
             assert_eq!((answer.number, answer.equal), (2, false));
         }
         assert_eq!((bytes, indices, out), ([7; 40], [9; 4], [b'q'; 8]));
@@ -81,13 +81,13 @@ fn numbers_come_back_from_a_repeat() {
         }
         let (mut bytes, mut indices) = ([0; 8], [0; 2]);
         let string = vec![b'0'; flat.width as usize];
-        let added = ffi::add_change(flat, &mut bytes, 0, &mut indices, 0, 5, &string);
+        let added = raw::add_change(flat, &mut bytes, 0, &mut indices, 0, 5, &string);
         assert_eq!((added.number, added.next), (0, flat));
     });
 }
 
 #[test]
 fn a_width_too_large_gives_no_description() {
-    let made = ffi::fresh(4_097);
+    let made = raw::fresh(4_097);
     assert_eq!((made.number, is_description(made.description)), (1, false));
 }
