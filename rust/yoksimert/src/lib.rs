@@ -1,13 +1,43 @@
-//! Line records over the proved archive `libyoksimert.a`.
+//! Line records over the proved archive `libyoksimert.a`, under the names of the Rust crate wellen.
+//!
+//! A [`SignalWriter`] packs changes into a record, a [`Signal`] is read, looked up and compared.
+//! Every answer is computed by the archive; this crate keeps the vectors and turns numbers into types. A call that cannot be answered
+//! gives a [`Refusal`]; none panics.
 //!
 //! `build.rs` looks for the archive in `target/staticlib` of the repository, where `rt staticlib yoksimert` writes it.
 
 #![deny(unsafe_code)]
+#![warn(missing_docs)]
 
 #[cfg(archive)]
 #[allow(unsafe_code, reason = "the calls through C's interface")]
 pub mod raw;
+#[cfg(archive)]
+mod refusal;
+#[cfg(archive)]
+mod signal;
+#[cfg(archive)]
+mod value;
+#[cfg(archive)]
+mod writer;
 
-/// Whether the archive was there when this crate was built; without it the crate has nothing but this constant. Crates that depend on
-/// this one see it in their build scripts, as `DEP_YOKSIMERT_PRESENT`.
+#[cfg(archive)]
+pub use refusal::Refusal;
+#[cfg(archive)]
+pub use signal::{DataOffset, FixedWidthEncoding, Signal};
+#[cfg(archive)]
+pub use value::{BitVecRef, SignalValueRef, States};
+#[cfg(archive)]
+pub use writer::{FstSignalValue, SignalWriter};
+
+/// A place in the list of times.
+pub type TimeTableIdx = u32;
+/// A place in the list of times that is not the first.
+pub type NonZeroTimeTableIdx = std::num::NonZeroU32;
+
+/// The most entries of a record.
+pub const MAXIMUM: usize = 1_048_576;
+
+/// Whether the archive was there when this crate was built; without it the crate has no calls. Crates that depend on this one see it in
+/// their build scripts, as `DEP_YOKSIMERT_PRESENT`.
 pub const PRESENT: bool = cfg!(archive);

@@ -1,58 +1,89 @@
-//! The archive's functions as `include/yoksimert.h` declares them, and each once more with slices.
+//! The archive's calls with plain numbers and lent slices, for those who keep their own vectors.
 //!
-//! A lent slice crosses as a pointer and a number of elements. The functions are proved to end, to read and write nothing but what
+//! The header `include/yoksimert.h` says what the numbers mean. In each answer `number` is 0 where the call is accepted, and else the
+//! number of the [`Refusal`](crate::Refusal); the slices are then as they were. Starts count elements from a slice's beginning.
+//!
+//! Here is all unsafe code of the crate. A lent slice crosses as a pointer and a number of elements. The functions are proved to end, to read and write nothing but what
 //! they are lent, and to take any numbers; each is called with a slice's own pointer and length, so every such call is sound. No
 //! function keeps a pointer.
 
+/// A record without its bytes and time indices. Other numbers than these are no description, and refused with 2.
 #[repr(C)]
 #[derive(Clone, Copy, PartialEq, Eq, Debug)]
 pub struct FlatDescription {
+    /// 0 event, 1 real, 2 bit vector
     pub kind: u32,
+    /// The number of wires; 0 for an event or a real
     pub width: u32,
+    /// The mark of the largest set; 0 for an event or a real
     pub set: u32,
+    /// The number of entries
     pub count: u32,
 }
 
+/// The answer of Fresh.
 #[repr(C)]
 #[derive(Clone, Copy, PartialEq, Eq, Debug)]
 pub struct FlatMade {
+    /// 0, or the refusal
     pub number: u32,
+    /// The empty record; on a refusal the kind is 3, which is none
     pub description: FlatDescription,
 }
 
+/// The answer of Add a change.
 #[repr(C)]
 #[derive(Clone, Copy, PartialEq, Eq, Debug)]
 pub struct FlatAdded {
+    /// 0, or the refusal
     pub number: u32,
+    /// The description for the next call; on a refusal the given one
     pub next: FlatDescription,
 }
 
+/// The answer of Read. On a refusal all but the number is 0.
 #[repr(C)]
 #[derive(Clone, Copy, PartialEq, Eq, Debug)]
 pub struct FlatEntry {
+    /// 0, or the refusal
     pub number: u32,
+    /// The record's kind
     pub kind: u32,
+    /// The mark of the entry's own set
     pub set: u32,
+    /// Where its levels begin in the lent bytes
     pub start: usize,
+    /// How many bytes they take
     pub length: usize,
 }
 
+/// The answer of Compare.
 #[repr(C)]
 #[derive(Clone, Copy, PartialEq, Eq, Debug)]
 pub struct FlatEqual {
+    /// 0, or the refusal
     pub number: u32,
+    /// On a refusal false
     pub equal: bool,
 }
 
+/// The answer of Look up. Where nothing is found, all but the number is 0.
 #[repr(C)]
 #[derive(Clone, Copy, PartialEq, Eq, Debug)]
 pub struct FlatOffset {
+    /// 0, or the refusal
     pub number: u32,
+    /// Whether there is an index not above the sought one
     pub found: bool,
+    /// The first entry of the greatest such index
     pub start: usize,
+    /// How many entries carry it, modulo 65,536
     pub elements: u16,
+    /// Whether it is the sought one
     pub time_match: bool,
+    /// Whether there is a greater index
     pub has_next: bool,
+    /// The next greater index, or 0
     pub next_index: u32,
 }
 
@@ -127,25 +158,33 @@ unsafe extern "C" {
 }
 
 /// A record by numbers, with the slices that it is lent.
-#[derive(Clone, Copy)]
+#[derive(Clone, Copy, Debug)]
 pub struct FlatRecord<'a> {
+    /// Kind, width, largest set and count
     pub description: FlatDescription,
+    /// The lent bytes
     pub bytes: &'a [u8],
+    /// Where the entries begin
     pub byte_start: usize,
+    /// The lent time indices
     pub indices: &'a [u32],
+    /// Where the record's indices begin
     pub index_start: usize,
 }
 
+/// Fresh: the empty record of a width; width 0 makes an event. Refused: 1.
 #[inline]
 pub fn fresh(width: u32) -> FlatMade {
     yoksimert_fresh(width)
 }
 
+/// Fresh: the empty record of reals.
 #[inline]
 pub fn fresh_real() -> FlatDescription {
     yoksimert_fresh_real()
 }
 
+/// Add a change: a string, one character for each level. Refused: 2, 3, 4, 5, 6, 7.
 #[inline]
 pub fn add_change(
     description: FlatDescription,
@@ -173,6 +212,7 @@ pub fn add_change(
     }
 }
 
+/// Add a change: a real, by the 64 bits of its double. Refused: 2, 3, 6, 7.
 #[inline]
 pub fn add_real(
     description: FlatDescription,
@@ -199,6 +239,7 @@ pub fn add_real(
     }
 }
 
+/// Read an entry. Refused: 2, 8, 9.
 #[inline]
 pub fn read(
     description: FlatDescription,
@@ -210,6 +251,7 @@ pub fn read(
     unsafe { yoksimert_read(description, bytes.as_ptr(), bytes.len(), byte_start, entry) }
 }
 
+/// Text of an entry, into the first bytes of `out`; the answer is the number. Refused: 2, 3, 8, 9, 10, 7.
 #[inline]
 pub fn text(
     description: FlatDescription,
@@ -232,6 +274,7 @@ pub fn text(
     }
 }
 
+/// Compare: whether two records have equal time indices and values. Refused: 2, 9, 10.
 #[inline]
 pub fn compare(a: FlatRecord, b: FlatRecord) -> FlatEqual {
     // SAFETY: four slices, each by its own pointer and length, which are read alone.
@@ -255,6 +298,7 @@ pub fn compare(a: FlatRecord, b: FlatRecord) -> FlatEqual {
     }
 }
 
+/// Look up: the entries that hold at a time index. Refused: 2, 11.
 #[inline]
 pub fn look_up(indices: &[u32], sought: u32) -> FlatOffset {
     // SAFETY: one slice, by its own pointer and length, which is read alone.

@@ -1,0 +1,182 @@
+//! What an entry holds, after wellen's src/signal/value.rs.
+
+use crate::refusal::accepted;
+use crate::{Refusal, Signal, raw};
+use std::fmt::{self, Debug, Display, Formatter};
+
+/// How many values a level may have.
+#[derive(Clone, Copy, PartialEq, Eq, PartialOrd, Ord, Hash, Debug, Default)]
+pub enum States {
+    /// `0` and `1`
+    #[default]
+    Two,
+    /// Also `x` and `z` (IEEE 1364)
+    Four,
+    /// Also `h`, `u`, `w`, `l` and `-` (IEEE 1164)
+    Nine,
+}
+
+impl States {
+    /// The mark of the set in an entry: 0, 1 or 2.
+    #[must_use]
+    pub fn mark(self) -> u8 {
+        self as u8
+    }
+
+    /// The archive gives no number above 2.
+    pub(crate) fn of_number(number: u32) -> Self {
+        match number {
+            0 => Self::Two,
+            1 => Self::Four,
+            _ => Self::Nine,
+        }
+    }
+}
+
+/// The value of a change, where it stands in its record.
+///
+/// Two values are equal if they are of the same kind and have equal levels, whatever their largest sets; reals are compared by `==`.
+#[derive(Clone, Copy, PartialEq, Debug)]
+pub enum SignalValueRef<'a> {
+    /// That the event took place.
+    Event,
+    /// Levels, the first wire's highest.
+    BitVec(BitVecRef<'a>),
+    /// A real.
+    Real(f64),
+}
+
+impl<'a> SignalValueRef<'a> {
+    /// Whether this is an event's.
+    #[must_use]
+    pub fn is_event(&self) -> bool {
+        matches!(self, Self::Event)
+    }
+
+    /// The levels, unless it is a real or an event.
+    #[must_use]
+    pub fn as_bit_vec(&self) -> Option<BitVecRef<'a>> {
+        match self {
+            Self::BitVec(levels) => Some(*levels),
+            _ => None,
+        }
+    }
+
+    /// The number of levels; none for a real.
+    #[must_use]
+    pub fn width(&self) -> Option<u32> {
+        match self {
+            Self::Event => Some(0),
+            Self::BitVec(levels) => Some(levels.width()),
+            Self::Real(_) => None,
+        }
+    }
+
+    /// The entry's own set, the least that held its string.
+    #[must_use]
+    pub fn states(&self) -> Option<States> {
+        self.as_bit_vec().map(|levels| levels.states())
+    }
+
+    /// One character for each level; none for a real or an event, or where [`BitVecRef::bit_string`] is refused.
+    #[must_use]
+    pub fn to_bit_string(&self) -> Option<String> {
+        self.as_bit_vec()?.bit_string().ok()
+    }
+}
+
+/// The levels' characters, the real's number, or `Event`.
+impl Display for SignalValueRef<'_> {
+    fn fmt(&self, f: &mut Formatter<'_>) -> fmt::Result {
+        match self {
+            Self::Event => f.pad("Event"),
+            Self::BitVec(levels) => Display::fmt(levels, f),
+            Self::Real(value) => Display::fmt(value, f),
+        }
+    }
+}
+
+/// The levels of an entry.
+#[derive(Clone, Copy)]
+pub struct BitVecRef<'a> {
+    pub(crate) signal: &'a Signal,
+    pub(crate) entry: u32,
+    pub(crate) width: u32,
+    pub(crate) states: States,
+    pub(crate) data: &'a [u8],
+}
+
+impl<'a> BitVecRef<'a> {
+    /// The number of levels.
+    #[must_use]
+    pub fn width(&self) -> u32 {
+        self.width
+    }
+
+    /// The entry's own set.
+    #[must_use]
+    pub fn states(&self) -> States {
+        self.states
+    }
+
+    /// That part of the record's bytes which holds the levels. A mark that shares its first byte is included.
+    #[must_use]
+    pub fn bytes(&self) -> &'a [u8] {
+        self.data
+    }
+
+    /// The levels as a big-endian number, if the own set is Two.
+    #[must_use]
+    pub fn be_bytes(&self) -> Option<&'a [u8]> {
+        (self.states == States::Two).then_some(self.data)
+    }
+
+    /// One small letter or digit for each level.
+    ///
+    /// # Errors
+    /// [`Refusal::BadCode`], which no record of a [`SignalWriter`](crate::SignalWriter) gives.
+    pub fn bit_string(&self) -> Result<String, Refusal> {
+        let mut text = vec![0; self.width as usize];
+        self.write_bit_string(&mut text)?;
+        Ok(text.into_iter().map(char::from).collect())
+    }
+
+    /// Writes the characters into the first bytes of `out`, and leaves the rest as it is.
+    ///
+    /// # Errors
+    /// [`Refusal::BadCode`], which no record of a [`SignalWriter`](crate::SignalWriter) gives; [`Refusal::NoRoom`] if `out` is shorter
+    /// than the width.
+    pub fn write_bit_string(&self, out: &mut [u8]) -> Result<(), Refusal> {
+        let Signal { bytes, .. } = self.signal;
+        accepted(raw::text(
+            self.signal.description(),
+            bytes,
+            0,
+            self.entry,
+            out,
+        ))
+    }
+}
+
+impl PartialEq for BitVecRef<'_> {
+    fn eq(&self, other: &Self) -> bool {
+        self.width == other.width
+            && matches!((self.bit_string(), other.bit_string()), (Ok(a), Ok(b)) if a == b)
+    }
+}
+
+/// The characters; `?` for each where [`BitVecRef::bit_string`] is refused.
+impl Display for BitVecRef<'_> {
+    fn fmt(&self, f: &mut Formatter<'_>) -> fmt::Result {
+        match self.bit_string() {
+            Ok(text) => f.pad(&text),
+            Err(_) => f.pad(&"?".repeat(self.width as usize)),
+        }
+    }
+}
+
+impl Debug for BitVecRef<'_> {
+    fn fmt(&self, f: &mut Formatter<'_>) -> fmt::Result {
+        write!(f, "BitVecRef({self}, {:?})", self.states)
+    }
+}

@@ -1,0 +1,212 @@
+//! The recorder, after `SignalWriter` of wellen's src/fst.rs.
+
+use crate::raw::{self, FlatAdded, FlatDescription};
+use crate::refusal::accepted;
+use crate::{FixedWidthEncoding, MAXIMUM, Refusal, Signal, TimeTableIdx};
+
+/// The value of a change: a string of characters, one for each wire, or a real.
+#[derive(Clone, Copy, PartialEq, Debug)]
+pub enum FstSignalValue<'a> {
+    /// `0 1 x z h u w l -`, small or capital.
+    String(&'a [u8]),
+    /// A double.
+    Real(f64),
+}
+
+impl<'a> From<&'a [u8]> for FstSignalValue<'a> {
+    fn from(value: &'a [u8]) -> Self {
+        Self::String(value)
+    }
+}
+
+impl<'a, const N: usize> From<&'a [u8; N]> for FstSignalValue<'a> {
+    fn from(value: &'a [u8; N]) -> Self {
+        Self::String(value)
+    }
+}
+
+impl<'a> From<&'a str> for FstSignalValue<'a> {
+    fn from(value: &'a str) -> Self {
+        Self::String(value.as_bytes())
+    }
+}
+
+impl From<f64> for FstSignalValue<'_> {
+    fn from(value: f64) -> Self {
+        Self::Real(value)
+    }
+}
+
+/// Packs changes into a record.
+///
+/// ```
+/// use yoksimert::{Refusal, SignalWriter};
+///
+/// # fn main() -> Result<(), Refusal> {
+/// let mut flag = SignalWriter::new(1)?;
+/// flag.add_change(5, "0")?;
+/// flag.add_change(10, "0")?; // a repeat: dropped, and its time index too
+/// flag.add_change(7, "1")?;
+/// assert_eq!(flag.add_change(6, "0"), Err(Refusal::IndexBelowLast));
+/// let flag = flag.finish();
+/// assert_eq!(flag.time_indices(), [5, 7]);
+/// assert_eq!(flag.bytes(), [0, 1]);
+/// # Ok(())
+/// # }
+/// ```
+#[derive(Clone, Debug)]
+pub struct SignalWriter {
+    description: FlatDescription,
+    /// The entries, and zeros behind them for those to come.
+    bytes: Vec<u8>,
+    /// The same of the time indices.
+    time_indices: Vec<TimeTableIdx>,
+}
+
+impl SignalWriter {
+    /// For so many wires; width 0 makes an event.
+    ///
+    /// # Errors
+    /// [`Refusal::WidthTooLarge`] above 4,096.
+    pub fn new(width: u32) -> Result<Self, Refusal> {
+        let made = raw::fresh(width);
+        accepted(made.number)?;
+        Ok(Self::empty(made.description))
+    }
+
+    /// For reals.
+    #[must_use]
+    pub fn new_real() -> Self {
+        Self::empty(raw::fresh_real())
+    }
+
+    /// For an event, which has no value.
+    #[must_use]
+    pub fn new_event() -> Self {
+        Self::empty(FixedWidthEncoding::Event.description(0))
+    }
+
+    fn empty(description: FlatDescription) -> Self {
+        Self {
+            description,
+            bytes: Vec::new(),
+            time_indices: Vec::new(),
+        }
+    }
+
+    /// The number of changes kept so far.
+    #[must_use]
+    pub fn len(&self) -> usize {
+        self.description.count as usize
+    }
+
+    /// Whether no change was kept so far.
+    #[must_use]
+    pub fn is_empty(&self) -> bool {
+        self.len() == 0
+    }
+
+    /// What the entries are, with the largest set so far.
+    #[must_use]
+    pub fn encoding(&self) -> FixedWidthEncoding {
+        FixedWidthEncoding::of_description(self.description)
+    }
+
+    /// Adds a change. One whose value is the last one's is dropped, unless it is an event's.
+    ///
+    /// # Errors
+    /// In this order: [`Refusal::WrongKind`], [`Refusal::WrongLength`], [`Refusal::ForeignCharacter`], [`Refusal::IndexBelowLast`], and
+    /// [`Refusal::NoRoom`] for a change beyond the 1,048,576th.
+    #[inline]
+    pub fn add_change<'a>(
+        &mut self,
+        time_idx: TimeTableIdx,
+        value: impl Into<FstSignalValue<'a>>,
+    ) -> Result<(), Refusal> {
+        let value = value.into();
+        let mut added = self.try_change(time_idx, value);
+        while added.number == u32::from(Refusal::NoRoom.number()) && self.grow() {
+            added = self.try_change(time_idx, value);
+        }
+        accepted(added.number)?;
+        self.description = added.next;
+        Ok(())
+    }
+
+    #[inline]
+    fn try_change(&mut self, time_idx: TimeTableIdx, value: FstSignalValue<'_>) -> FlatAdded {
+        let (bytes, indices) = (&mut self.bytes, &mut self.time_indices);
+        match value {
+            FstSignalValue::String(string) => {
+                raw::add_change(self.description, bytes, 0, indices, 0, time_idx, string)
+            }
+            FstSignalValue::Real(real) => {
+                let bits = real.to_bits();
+                raw::add_real(self.description, bytes, 0, indices, 0, time_idx, bits)
+            }
+        }
+    }
+
+    /// Makes room in a vector that may lack it for one entry more; false if none does.
+    #[cold]
+    fn grow(&mut self) -> bool {
+        let count = self.len();
+        let entry = self.largest_entry();
+        if count == MAXIMUM {
+            false
+        } else if self.time_indices.len() == count {
+            doubled(&mut self.time_indices, MAXIMUM);
+            true
+        } else if self.bytes.len() < (count + 1) * entry {
+            doubled(&mut self.bytes, MAXIMUM * entry);
+            true
+        } else {
+            false
+        }
+    }
+
+    /// The most bytes that an entry may come to take: those under the set Nine, where the levels share no byte with the mark or leave
+    /// half of one free.
+    fn largest_entry(&self) -> usize {
+        match self.encoding() {
+            FixedWidthEncoding::Event => 0,
+            FixedWidthEncoding::Real => 8,
+            FixedWidthEncoding::BitVector { width, .. } => width as usize / 2 + 1,
+        }
+    }
+
+    /// The record.
+    #[must_use]
+    pub fn finish(self) -> Signal {
+        let (encoding, count, used) = (self.encoding(), self.len(), self.used_bytes());
+        let Self {
+            mut bytes,
+            mut time_indices,
+            ..
+        } = self;
+        cut(&mut bytes, used);
+        cut(&mut time_indices, count);
+        Signal::new_fixed_len(time_indices, encoding, bytes)
+    }
+
+    /// Where the last entry ends: its levels stand in its last bytes.
+    fn used_bytes(&self) -> usize {
+        let Some(last) = self.description.count.checked_sub(1) else {
+            return 0;
+        };
+        let answer = raw::read(self.description, &self.bytes, 0, last);
+        answer.start + answer.length
+    }
+}
+
+/// Doubles the vector, to 64 elements at least and to `most` at most; the new ones are zeros.
+fn doubled<T: Default + Clone>(elements: &mut Vec<T>, most: usize) {
+    let length = (elements.len() * 2).max(64).min(most);
+    elements.resize(length, T::default());
+}
+
+/// Drops the room behind the used part.
+pub(crate) fn cut<T>(elements: &mut Vec<T>, used: usize) {
+    elements.truncate(used);
+    elements.shrink_to_fit();
+}
