@@ -1,0 +1,95 @@
+//! The vectors grow to the maximum and no further.
+
+use yoksimert::{
+    FixedWidthEncoding, MAXIMUM, Refusal, Signal, SignalValueRef, SignalWriter, States,
+};
+
+#[test]
+fn a_record_grows_to_the_maximum() {
+    let mut writer = SignalWriter::new(2).expect("the width stands");
+    for time_idx in 0..MAXIMUM as u32 - 1 {
+        let string = ["01", "10"][time_idx as usize % 2];
+        assert_eq!(writer.add_change(time_idx, string), Ok(()));
+    }
+    // The raise lays out every entry anew, in twice the bytes.
+    assert_eq!(writer.add_change(u32::MAX, "u-"), Ok(()));
+    assert_eq!(writer.len(), MAXIMUM);
+    assert_eq!(writer.add_change(u32::MAX, "00"), Err(Refusal::NoRoom));
+    assert_eq!(writer.add_change(u32::MAX, "U-"), Ok(()), "a repeat");
+
+    let signal = writer.finish();
+    assert_eq!(signal.max_states(), Some(States::Nine));
+    assert_eq!(signal.time_indices().len(), MAXIMUM);
+    assert_eq!(signal.bytes().len(), 2 * MAXIMUM);
+    assert_eq!(signal.bytes()[..4], [0, 1, 0, 2]);
+    assert_eq!(signal.bytes()[2 * MAXIMUM - 2..], [0x80, 0x58]);
+}
+
+#[test]
+fn events_grow_to_the_maximum() {
+    let mut writer = SignalWriter::new_event();
+    for _ in 0..MAXIMUM {
+        assert_eq!(writer.add_change(3, ""), Ok(()));
+    }
+    assert_eq!(writer.add_change(3, "1"), Err(Refusal::NoRoom));
+    let signal = writer.finish();
+    assert!(signal.bytes().is_empty());
+    let offset = signal.get_offset(4).expect("no index falls");
+    let offset = offset.expect("there are events");
+    assert_eq!((offset.start, offset.elements), (0, 0), "modulo 65,536");
+}
+
+#[test]
+fn reals_grow_to_the_maximum() {
+    let mut writer = SignalWriter::new_real();
+    for number in 0..MAXIMUM as u32 {
+        assert_eq!(writer.add_change(number, f64::from(number)), Ok(()));
+    }
+    assert_eq!(writer.add_change(u32::MAX, 0.5), Err(Refusal::NoRoom));
+    assert_eq!(writer.finish().bytes().len(), 8 * MAXIMUM);
+}
+
+/// Each width and each raise, from an empty vector and from a full one.
+#[test]
+fn no_width_lacks_room() {
+    for width in (1..=70).chain([1_000, 4_095, 4_096]) {
+        for levels in ["01", "xz", "01xz", "-u", "01-u", "01xzul"] {
+            let mut writer = SignalWriter::new(width).expect("the width stands");
+            for time_idx in 0..200 {
+                let at = time_idx as usize * levels.len() / 200;
+                let level = levels.as_bytes()[at];
+                let mut string = vec![level; width as usize];
+                string[0] = levels.as_bytes()[at.saturating_sub(time_idx as usize % 2)];
+                assert_eq!(writer.add_change(time_idx, &string[..]), Ok(()));
+            }
+            let signal = writer.finish();
+            let last = levels[levels.len() - 1..].repeat(width as usize - 1);
+            let change = signal.iter_changes().last().expect("changes were kept");
+            let text = change.expect("the entry is read").1.to_string();
+            assert_eq!(text[1..], last);
+        }
+    }
+}
+
+#[test]
+fn an_empty_record_has_no_bytes() {
+    let signal = SignalWriter::new(9).expect("the width stands").finish();
+    assert!(signal.bytes().is_empty() && signal.time_indices().is_empty());
+    assert_eq!(signal.iter_changes().count(), 0);
+    assert_eq!(signal.get_offset(u32::MAX), Ok(None));
+    assert_eq!(signal.get_entry(0), Err(Refusal::NoSuchEntry));
+}
+
+#[test]
+fn a_longer_list_is_no_record() {
+    let signal = |length| {
+        let time_indices = vec![1; length];
+        Signal::new_fixed_len(time_indices, FixedWidthEncoding::Event, vec![])
+    };
+    let (longest, longer) = (signal(MAXIMUM), signal(MAXIMUM + 1));
+    assert_eq!(longest.get_entry(7), Ok(SignalValueRef::Event));
+    assert_eq!(longest.compare(&longest), Ok(true));
+    assert_eq!(longer.get_offset(1), Err(Refusal::BadRecord));
+    assert_eq!(longer.get_entry(7), Err(Refusal::BadRecord));
+    assert_eq!(longest.compare(&longer), Err(Refusal::BadRecord));
+}

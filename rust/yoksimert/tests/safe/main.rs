@@ -1,0 +1,9 @@
+//! The safe types: document 01's rows, growth to the maximum, and generated calls beside the oracle.
+#![cfg(archive)]
+
+mod growth;
+mod judged;
+mod random;
+mod records;
+mod rows;
+mod runs;
