@@ -12,7 +12,10 @@
  *  3 another kind of record                9 an entry's mark is no set's, or above the largest set
  *  4 length of a string                   10 an entry has a code that is no level's
  *  5 foreign character                    11 a time index falls
- *  6 index below the last one kept
+ *  6 index below the last one kept        12 a piece's msb is below its lsb, or above 4,095
+ *                                         13 a ninth input, a 65th piece, or a sum of widths above 4,096
+ *                                         14 not a derivation, or not one of these inputs
+ *                                         15 an input is empty, or doesn't start at index 0
  */
 #ifndef YOKSIMERT_H
 #define YOKSIMERT_H
@@ -74,6 +77,34 @@ typedef struct yoksimert_offset {
     bool has_next;
     uint32_t next_index;
 } yoksimert_offset;
+
+/* A derivation without the names of its inputs and its pieces, which the caller keeps in two arrays and lends: eight names, of which
+ * input_count are used, and 64 pieces, of which piece_count are used, the highest first, each input * 2^48 + width * 2^32 + lsb. All
+ * zeros is the derivation of no piece. */
+typedef struct yoksimert_derivation {
+    uint32_t width;
+    uint32_t input_count;
+    uint32_t piece_count;
+} yoksimert_derivation;
+
+/* The derivation for the next call, on a refusal the given one. */
+typedef struct yoksimert_joined {
+    uint32_t number;
+    yoksimert_derivation next;
+} yoksimert_joined;
+
+/* An input record of Derive, and where it starts in the slices that all inputs share. */
+typedef struct yoksimert_input {
+    yoksimert_description description;
+    size_t byte_start;
+    size_t index_start;
+} yoksimert_input;
+
+/* The input records of Derive, in the order of the derivation's names. Those from count on are not looked at. */
+typedef struct yoksimert_inputs {
+    uint32_t count;
+    yoksimert_input inputs[8];
+} yoksimert_inputs;
 
 /* Fresh: the empty record of a width; width 0 makes an event. Refused: 1. */
 yoksimert_made yoksimert_fresh(uint32_t width);
@@ -143,6 +174,57 @@ yoksimert_equal yoksimert_compare(
 
 /* Look up: the entries that hold at a time index. Refused: 2, 11. */
 yoksimert_offset yoksimert_look_up(const uint32_t *indices, size_t indices_len, uint32_t sought);
+
+/* Add a piece on the left, the most significant side: bits msb to lsb of an input, which is named by any number. Adjoining pieces merge.
+ * Refused: 14, 12, 13. */
+yoksimert_joined yoksimert_concat_left(
+    yoksimert_derivation derivation,
+    uint32_t names[8],
+    uint64_t pieces[64],
+    uint32_t signal,
+    uint32_t msb,
+    uint32_t lsb);
+
+/* Add a piece on the right, the least significant side. Refused: 14, 12, 13. */
+yoksimert_joined yoksimert_concat_right(
+    yoksimert_derivation derivation,
+    uint32_t names[8],
+    uint64_t pieces[64],
+    uint32_t signal,
+    uint32_t msb,
+    uint32_t lsb);
+
+/* Add all wires of an input on the left; no wires add nothing. Refused: 14, 12, 13. */
+yoksimert_joined yoksimert_concat_left_full(
+    yoksimert_derivation derivation,
+    uint32_t names[8],
+    uint64_t pieces[64],
+    uint32_t signal,
+    uint32_t width);
+
+/* Add all wires of an input on the right; no wires add nothing. Refused: 14, 12, 13. */
+yoksimert_joined yoksimert_concat_right_full(
+    yoksimert_derivation derivation,
+    uint32_t names[8],
+    uint64_t pieces[64],
+    uint32_t signal,
+    uint32_t width);
+
+/* Derive: the record of a derivation of bit vectors, into the first bytes and indices of the output slices. Refused: 2, 14, 15, 11, 9, 10,
+ * 7. */
+yoksimert_made yoksimert_derive(
+    yoksimert_derivation derivation,
+    const uint32_t names[8],
+    const uint64_t pieces[64],
+    yoksimert_inputs inputs,
+    const uint8_t *bytes,
+    size_t bytes_len,
+    const uint32_t *indices,
+    size_t indices_len,
+    uint8_t *out_bytes,
+    size_t out_bytes_len,
+    uint32_t *out_indices,
+    size_t out_indices_len);
 
 #ifdef __cplusplus
 }

@@ -1,3 +1,4 @@
 pub mod Numbers
 pub mod Flattened
 pub mod Places
+pub mod Derived

@@ -1,6 +1,7 @@
 // The operations of document 01 for C and Rust: flat structs of numbers in and out, and lent slices. A caller can pass any numbers.
 use fst::Description;
 
+pub mod derivations;
 pub mod exports;
 pub mod flat;
 
@@ -63,4 +64,41 @@ pub struct FlatOffset {
     pub time_match: bool,
     pub has_next: bool,
     pub next_index: u32,
+}
+
+// A derivation without its eight names and 64 pieces, which are lent beside it.
+#[repr(C)]
+pub struct FlatDerivation {
+    pub width: u32,
+    pub input_count: u32,
+    pub piece_count: u32,
+}
+
+// The answer of Add a piece. On a refusal the next derivation is the given one.
+#[repr(C)]
+pub struct FlatJoined {
+    pub number: u32,
+    pub next: FlatDerivation,
+}
+
+// An input record of Derive.
+#[repr(C)]
+pub struct FlatInput {
+    pub description: FlatDescription,
+    pub byte_start: usize,
+    pub index_start: usize,
+}
+
+// The input records of Derive, in C an array of eight. Those from `count` on are not looked at.
+#[repr(C)]
+pub struct FlatInputs {
+    pub count: u32,
+    pub input_0: FlatInput,
+    pub input_1: FlatInput,
+    pub input_2: FlatInput,
+    pub input_3: FlatInput,
+    pub input_4: FlatInput,
+    pub input_5: FlatInput,
+    pub input_6: FlatInput,
+    pub input_7: FlatInput,
 }

@@ -87,6 +87,50 @@ pub struct FlatOffset {
     pub next_index: u32,
 }
 
+/// A derivation without the names of its inputs and its pieces. All zeros is the derivation of no piece.
+#[repr(C)]
+#[derive(Clone, Copy, PartialEq, Eq, Debug, Default)]
+pub struct FlatDerivation {
+    /// The number of wires
+    pub width: u32,
+    /// How many of the eight names are used
+    pub input_count: u32,
+    /// How many of the 64 pieces are used
+    pub piece_count: u32,
+}
+
+/// The answer of Add a piece.
+#[repr(C)]
+#[derive(Clone, Copy, PartialEq, Eq, Debug)]
+pub struct FlatJoined {
+    /// 0, or the refusal
+    pub number: u32,
+    /// The derivation for the next call; on a refusal the given one
+    pub next: FlatDerivation,
+}
+
+/// An input record of Derive, and where it starts in the slices that all inputs share.
+#[repr(C)]
+#[derive(Clone, Copy, PartialEq, Eq, Debug)]
+pub struct FlatInput {
+    /// Kind, width, largest set and count
+    pub description: FlatDescription,
+    /// Where the entries begin
+    pub byte_start: usize,
+    /// Where the indices begin
+    pub index_start: usize,
+}
+
+/// The input records of Derive, in the order of the derivation's names.
+#[repr(C)]
+#[derive(Clone, Copy, PartialEq, Eq, Debug)]
+pub struct FlatInputs {
+    /// How many there are
+    pub count: u32,
+    /// Those from `count` on are not looked at
+    pub inputs: [FlatInput; 8],
+}
+
 // SAFETY: the declarations are those of the header and of the Rattle source, which tests/declarations.rs compares. The functions marked
 // `safe` take numbers alone, and any number will do.
 unsafe extern "C" {
@@ -155,6 +199,55 @@ unsafe extern "C" {
     ) -> FlatEqual;
 
     fn yoksimert_look_up(indices: *const u32, indices_len: usize, sought: u32) -> FlatOffset;
+
+    fn yoksimert_concat_left(
+        derivation: FlatDerivation,
+        names: *mut [u32; 8],
+        pieces: *mut [u64; 64],
+        signal: u32,
+        msb: u32,
+        lsb: u32,
+    ) -> FlatJoined;
+
+    fn yoksimert_concat_right(
+        derivation: FlatDerivation,
+        names: *mut [u32; 8],
+        pieces: *mut [u64; 64],
+        signal: u32,
+        msb: u32,
+        lsb: u32,
+    ) -> FlatJoined;
+
+    fn yoksimert_concat_left_full(
+        derivation: FlatDerivation,
+        names: *mut [u32; 8],
+        pieces: *mut [u64; 64],
+        signal: u32,
+        width: u32,
+    ) -> FlatJoined;
+
+    fn yoksimert_concat_right_full(
+        derivation: FlatDerivation,
+        names: *mut [u32; 8],
+        pieces: *mut [u64; 64],
+        signal: u32,
+        width: u32,
+    ) -> FlatJoined;
+
+    fn yoksimert_derive(
+        derivation: FlatDerivation,
+        names: *const [u32; 8],
+        pieces: *const [u64; 64],
+        inputs: FlatInputs,
+        bytes: *const u8,
+        bytes_len: usize,
+        indices: *const u32,
+        indices_len: usize,
+        out_bytes: *mut u8,
+        out_bytes_len: usize,
+        out_indices: *mut u32,
+        out_indices_len: usize,
+    ) -> FlatMade;
 }
 
 /// A record by numbers, with the slices that it is lent.
@@ -303,4 +396,95 @@ pub fn compare(a: FlatRecord, b: FlatRecord) -> FlatEqual {
 pub fn look_up(indices: &[u32], sought: u32) -> FlatOffset {
     // SAFETY: one slice, by its own pointer and length, which is read alone.
     unsafe { yoksimert_look_up(indices.as_ptr(), indices.len(), sought) }
+}
+
+/// Add a piece on the left, the most significant side: bits msb to lsb of an input. Refused: 14, 12, 13.
+#[inline]
+pub fn concat_left(
+    derivation: FlatDerivation,
+    names: &mut [u32; 8],
+    pieces: &mut [u64; 64],
+    signal: u32,
+    msb: u32,
+    lsb: u32,
+) -> FlatJoined {
+    // SAFETY: two arrays of the lengths that the function takes, lent to this call alone.
+    unsafe { yoksimert_concat_left(derivation, names, pieces, signal, msb, lsb) }
+}
+
+/// Add a piece on the right, the least significant side. Refused: 14, 12, 13.
+#[inline]
+pub fn concat_right(
+    derivation: FlatDerivation,
+    names: &mut [u32; 8],
+    pieces: &mut [u64; 64],
+    signal: u32,
+    msb: u32,
+    lsb: u32,
+) -> FlatJoined {
+    // SAFETY: two arrays of the lengths that the function takes, lent to this call alone.
+    unsafe { yoksimert_concat_right(derivation, names, pieces, signal, msb, lsb) }
+}
+
+/// Add all wires of an input on the left; no wires add nothing. Refused: 14, 12, 13.
+#[inline]
+pub fn concat_left_full(
+    derivation: FlatDerivation,
+    names: &mut [u32; 8],
+    pieces: &mut [u64; 64],
+    signal: u32,
+    width: u32,
+) -> FlatJoined {
+    // SAFETY: two arrays of the lengths that the function takes, lent to this call alone.
+    unsafe { yoksimert_concat_left_full(derivation, names, pieces, signal, width) }
+}
+
+/// Add all wires of an input on the right; no wires add nothing. Refused: 14, 12, 13.
+#[inline]
+pub fn concat_right_full(
+    derivation: FlatDerivation,
+    names: &mut [u32; 8],
+    pieces: &mut [u64; 64],
+    signal: u32,
+    width: u32,
+) -> FlatJoined {
+    // SAFETY: two arrays of the lengths that the function takes, lent to this call alone.
+    unsafe { yoksimert_concat_right_full(derivation, names, pieces, signal, width) }
+}
+
+/// Derive: the record of a derivation of bit vectors, into the first bytes and indices of the output slices. Refused: 2, 14, 15, 11, 9,
+/// 10, 7.
+#[inline]
+#[expect(
+    clippy::too_many_arguments,
+    reason = "a derivation with its two arrays, the inputs, two lent slices and two output slices"
+)]
+pub fn derive(
+    derivation: FlatDerivation,
+    names: &[u32; 8],
+    pieces: &[u64; 64],
+    inputs: FlatInputs,
+    bytes: &[u8],
+    indices: &[u32],
+    out_bytes: &mut [u8],
+    out_indices: &mut [u32],
+) -> FlatMade {
+    // SAFETY: two arrays of the lengths that the function takes, and four slices, each by its own pointer and length; the two that are
+    // altered are lent to this call alone.
+    unsafe {
+        yoksimert_derive(
+            derivation,
+            names,
+            pieces,
+            inputs,
+            bytes.as_ptr(),
+            bytes.len(),
+            indices.as_ptr(),
+            indices.len(),
+            out_bytes.as_mut_ptr(),
+            out_bytes.len(),
+            out_indices.as_mut_ptr(),
+            out_indices.len(),
+        )
+    }
 }

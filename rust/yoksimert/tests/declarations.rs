@@ -29,10 +29,12 @@ fn flattened(text: &str) -> String {
     let lines = out
         .lines()
         .map(|line| line.split("//").next().unwrap_or_default());
-    lines
-        .flat_map(str::split_whitespace)
-        .collect::<Vec<_>>()
+    let words: Vec<_> = lines.flat_map(str::split_whitespace).collect();
+    // An array's length, so that a semicolon ends a declaration or a field alone.
+    words
         .join(" ")
+        .replace("; 8]", " by 8]")
+        .replace("; 64]", " by 64]")
 }
 
 /// What stands between two marks, for each place of the first.
@@ -49,7 +51,7 @@ fn entries(list: &str, separator: char) -> impl Iterator<Item = &str> {
         .filter(|entry| !entry.is_empty())
 }
 
-/// `name: type` of Rust and Rattle; a lent slice is a pointer and a length.
+/// `name: type` of Rust and Rattle; a lent slice is a pointer and a length, a lent array a pointer.
 fn named(entry: &str) -> Vec<(String, String)> {
     let (name, kind) = entry.split_once(':').expect("a name and a type");
     let (name, kind) = (name.trim().trim_start_matches("pub "), kind.trim());
@@ -60,7 +62,10 @@ fn named(entry: &str) -> Vec<(String, String)> {
             (format!("{name}_len"), "usize".to_string()),
         ]
     };
-    if let Some(element) = kind.strip_prefix("&mut [") {
+    if kind.contains(" by ") {
+        let pointer = kind.replace("&mut ", "*mut ").replace('&', "*const ");
+        vec![(name.to_string(), pointer)]
+    } else if let Some(element) = kind.strip_prefix("&mut [") {
         slice("*mut", element)
     } else if let Some(element) = kind.strip_prefix("&[") {
         slice("*const", element)
@@ -69,11 +74,28 @@ fn named(entry: &str) -> Vec<(String, String)> {
     }
 }
 
-/// `type name` of C.
+/// `type name` of C, or `type name[length]`.
 fn typed(entry: &str) -> (String, String) {
+    if let Some((element, length)) = entry.trim_end_matches(']').split_once('[') {
+        let (name, kind) = typed(element);
+        return (name, format!("[{kind} by {length}]"));
+    }
     let at = entry.rfind([' ', '*']).expect("a type and a name") + 1;
     let (kind, name) = entry.split_at(at);
     (name.to_string(), c_type(kind.trim()))
+}
+
+/// A parameter: an array is a pointer to it.
+fn parameter(entry: &str) -> (String, String) {
+    let constant = entry
+        .strip_prefix("const ")
+        .filter(|rest| rest.contains('['));
+    let (name, kind) = typed(constant.unwrap_or(entry));
+    match (kind.contains(" by "), constant) {
+        (true, Some(_)) => (name, format!("*const {kind}")),
+        (true, None) => (name, format!("*mut {kind}")),
+        (false, _) => (name, kind),
+    }
 }
 
 fn c_type(kind: &str) -> String {
@@ -103,13 +125,26 @@ fn c_struct(name: &str) -> String {
     format!("Flat{}{}", name[..1].to_uppercase(), &name[1..])
 }
 
+/// Eight fields `input_0` to `input_7` lie as the array `inputs` of eight does.
+fn as_array(fields: Vec<(String, String)>) -> Vec<(String, String)> {
+    let (eight, mut rest): (Vec<_>, Vec<_>) = fields
+        .into_iter()
+        .partition(|(name, _)| name.starts_with("input_") && name.len() == 7);
+    if let Some((_, kind)) = eight.first() {
+        let expected = (0..8).map(|at| (format!("input_{at}"), kind.clone()));
+        assert!(eight.iter().cloned().eq(expected), "{eight:?}");
+        rest.push(("inputs".to_string(), format!("[{kind} by 8]")));
+    }
+    rest
+}
+
 fn structs(text: &str) -> Items {
     let items = between(text, "#[repr(C)]", "}");
     let fields = items.iter().map(|item| {
         let item = item.split_once("pub struct ").expect("a struct").1;
         let (name, fields) = item.split_once('{').expect("fields");
         let fields = entries(fields, ',').flat_map(named).collect();
-        (name.trim().to_string(), fields)
+        (name.trim().to_string(), as_array(fields))
     });
     fields.collect()
 }
@@ -130,7 +165,9 @@ fn functions(text: &str, before: &str, after: &str) -> Items {
 
 fn of_rattle() -> Items {
     let mut items = structs(&flattened(&file("crates/yoksimert/src/lib.rt")));
-    let exports = flattened(&file("crates/yoksimert/src/exports.rt"));
+    let exports = ["exports", "derivations"]
+        .map(|name| flattened(&file(&format!("crates/yoksimert/src/{name}.rt"))))
+        .join(" ");
     let exported = functions(&exports, "pub extern \"C\" fn ", " ensures");
     assert_eq!(
         exported.len(),
@@ -166,7 +203,7 @@ fn of_header() -> Items {
         let (name, result) = typed(head.trim());
         let parameters = parameters.split_once(')').expect("the parameters end").0;
         let listed = entries(parameters, ',').filter(|entry| *entry != "void");
-        let mut all: Vec<_> = listed.map(typed).collect();
+        let mut all: Vec<_> = listed.map(parameter).collect();
         all.push((RESULT.to_string(), result));
         items.insert(name, all);
     }
@@ -176,7 +213,7 @@ fn of_header() -> Items {
 #[test]
 fn the_three_texts_agree() {
     let rattle = of_rattle();
-    assert_eq!(rattle.len(), 6 + 8, "{rattle:#?}");
+    assert_eq!(rattle.len(), 10 + 13, "{rattle:#?}");
     assert_eq!(of_rust(), rattle);
     assert_eq!(of_header(), rattle);
 }

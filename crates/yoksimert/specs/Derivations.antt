@@ -1,0 +1,72 @@
+-- Derivations as numbers and two arrays, and what the exported operations on them do with any numbers.
+-- Assumes nothing.
+use Prim.Native.Nat.{ℕ}
+use mathlib.Core.List.{List, [], _∷_, map}
+use Rattle.value.specs.declared.States.the-variants.{Two}
+use Rattle.fst.specs.declared.Encoding.the-variants.{BitVector}
+use Rattle.fst.specs.declared.Description.{Description}
+use Rattle.fst.specs.Refusal.{Outcome}
+use Rattle.transform.specs.declared.DerivedBitVecSignal.{DerivedBitVecSignal}
+use Rattle.transform.specs.declared.Input.{Input}
+use Rattle.transform.specs.declared.Inputs.{Inputs}
+use Rattle.transform.specs.Derive.{Derived}
+use Rattle.yoksimert.specs.declared.Decoded.{Decoded}
+use Rattle.yoksimert.specs.declared.Decoded.the-variants.{Known, Unknown}
+use Rattle.yoksimert.specs.declared.FlatMade.{FlatMade}
+use Rattle.yoksimert.specs.declared.FlatDerivation.{FlatDerivation}
+use Rattle.yoksimert.specs.declared.FlatJoined.{FlatJoined}
+use Rattle.yoksimert.specs.declared.FlatInput.{FlatInput}
+use Rattle.yoksimert.specs.declared.FlatInputs.{FlatInputs}
+use Rattle.yoksimert.specs.Flat.{decoded, flatMade}
+
+-- ---- Add a piece
+
+-- the derivation of its numbers and arrays
+abbrev pub derivationOf : FlatDerivation → List ℕ → List ℕ → DerivedBitVecSignal
+derivationOf f names pieces =
+    record {
+      width = f .width;
+      «input_count» = f .«input_count»;
+      inputs = names;
+      «piece_count» = f .«piece_count»;
+      bits = pieces;
+    }
+
+-- what a call leaves, by its answer and the arrays as they are then
+abbrev pub leftByJoined : FlatJoined → List ℕ → List ℕ → Outcome DerivedBitVecSignal
+leftByJoined r names pieces = record { refused = r .number; left = derivationOf (r .next) names pieces }
+
+-- ---- Derive
+
+abbrev pub slotsOf : FlatInputs → List FlatInput
+slotsOf f =
+    f .«input_0»
+    ∷ f .«input_1»
+    ∷ f .«input_2»
+    ∷ f .«input_3»
+    ∷ f .«input_4»
+    ∷ f .«input_5»
+    ∷ f .«input_6»
+    ∷ f .«input_7»
+    ∷ []
+
+-- numbers that are no description are taken for a bit vector of width 0, which is refused with 2
+abbrev pub describedBy : Decoded → Description
+describedBy (Known d) = d
+describedBy Unknown = record { encoding = BitVector 0 Two; count = 0 }
+
+abbrev pub inputOf : FlatInput → Input
+inputOf f =
+    record { description = describedBy (decoded (f .description)); «byte_start» = f .«byte_start»; «index_start» = f .«index_start» }
+
+abbrev pub inputsBy : FlatInputs → Inputs
+inputsBy f = record { count = f .count; slots = map inputOf (slotsOf f) }
+
+-- what Derive leaves: the answer, and the output slices
+pub record FlatDerived : Type 0 where
+  pub answer : FlatMade
+  pub bytes : List ℕ
+  pub indices : List ℕ
+
+abbrev pub flatDerived : Derived → FlatDerived
+flatDerived d = record { answer = flatMade (d .answer); bytes = d .bytes; indices = d .indices }
