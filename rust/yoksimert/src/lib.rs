@@ -1,6 +1,6 @@
 //! Line records over the proved archive `libyoksimert.a`, under the names of the Rust crate wellen.
 //!
-//! A [`SignalWriter`] packs changes into a record, a [`Signal`] is read, looked up and compared.
+//! A [`SignalWriter`] packs changes into a record, a [`Signal`] is read, looked up and compared, and [`transform_signal`] derives one from others.
 //! Every answer is computed by the archive; this crate keeps the vectors and turns numbers into types. A call that cannot be answered
 //! gives a [`Refusal`]; none panics.
 //!
@@ -9,6 +9,8 @@
 #![deny(unsafe_code)]
 #![warn(missing_docs)]
 
+#[cfg(archive)]
+mod derived;
 #[cfg(archive)]
 #[allow(unsafe_code, reason = "the calls through C's interface")]
 pub mod raw;
@@ -21,6 +23,8 @@ mod value;
 #[cfg(archive)]
 mod writer;
 
+#[cfg(archive)]
+pub use derived::{DerivedBitVecSignal, transform_signal};
 #[cfg(archive)]
 pub use refusal::Refusal;
 #[cfg(archive)]

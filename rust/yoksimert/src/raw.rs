@@ -89,7 +89,7 @@ pub struct FlatOffset {
 
 /// A derivation without the names of its inputs and its pieces. All zeros is the derivation of no piece.
 #[repr(C)]
-#[derive(Clone, Copy, PartialEq, Eq, Debug, Default)]
+#[derive(Clone, Copy, PartialEq, Eq, Hash, Debug, Default)]
 pub struct FlatDerivation {
     /// The number of wires
     pub width: u32,

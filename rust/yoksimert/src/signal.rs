@@ -53,7 +53,8 @@ impl FixedWidthEncoding {
 
 /// A record: the time indices of its changes and the bytes of its entries.
 ///
-/// A [`SignalWriter`](crate::SignalWriter) makes it, and then only the refusals that a wrong argument brings can come. [`Signal::new_fixed_len`] takes any vectors, and what is wrong with those comes up at the call that
+/// A [`SignalWriter`](crate::SignalWriter) makes it, or [`transform_signal`](crate::transform_signal), and then only the refusals that a
+/// wrong argument brings can come. [`Signal::new_fixed_len`] takes any vectors, and what is wrong with those comes up at the call that
 /// meets it.
 ///
 /// ```
@@ -251,6 +252,33 @@ impl Debug for Signal {
             self.bytes.len()
         )
     }
+}
+
+/// The record in vectors that have room behind it. It is the archive's, so that every entry is read.
+pub(crate) fn cut(
+    description: FlatDescription,
+    mut bytes: Vec<u8>,
+    mut time_indices: Vec<TimeTableIdx>,
+) -> Signal {
+    let used = match description.count.checked_sub(1) {
+        None => 0,
+        Some(last) => {
+            // The levels stand in the last bytes of their entry.
+            let answer = raw::read(description, &bytes, 0, last);
+            answer.start + answer.length
+        }
+    };
+    bytes.truncate(used);
+    bytes.shrink_to_fit();
+    time_indices.truncate(description.count as usize);
+    time_indices.shrink_to_fit();
+    let encoding = FixedWidthEncoding::of_description(description);
+    Signal::new_fixed_len(time_indices, encoding, bytes)
+}
+
+/// The bytes of an entry under the set Nine, the most under any: a byte for each two levels, and one for the mark or the odd level.
+pub(crate) fn entry_bound(width: u32) -> usize {
+    width as usize / 2 + 1
 }
 
 /// Where the changes of a time index are in a record.

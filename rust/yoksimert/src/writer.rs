@@ -2,7 +2,8 @@
 
 use crate::raw::{self, FlatAdded, FlatDescription};
 use crate::refusal::accepted;
-use crate::{FixedWidthEncoding, MAXIMUM, Refusal, Signal, TimeTableIdx};
+use crate::signal::{FixedWidthEncoding, Signal, cut, entry_bound};
+use crate::{MAXIMUM, Refusal, TimeTableIdx};
 
 /// The value of a change: a string of characters, one for each wire, or a real.
 #[derive(Clone, Copy, PartialEq, Debug)]
@@ -165,37 +166,19 @@ impl SignalWriter {
         }
     }
 
-    /// The most bytes that an entry may come to take: those under the set Nine, where the levels share no byte with the mark or leave
-    /// half of one free.
+    /// The most bytes that an entry may come to take.
     fn largest_entry(&self) -> usize {
         match self.encoding() {
             FixedWidthEncoding::Event => 0,
             FixedWidthEncoding::Real => 8,
-            FixedWidthEncoding::BitVector { width, .. } => width as usize / 2 + 1,
+            FixedWidthEncoding::BitVector { width, .. } => entry_bound(width),
         }
     }
 
     /// The record.
     #[must_use]
     pub fn finish(self) -> Signal {
-        let (encoding, count, used) = (self.encoding(), self.len(), self.used_bytes());
-        let Self {
-            mut bytes,
-            mut time_indices,
-            ..
-        } = self;
-        cut(&mut bytes, used);
-        cut(&mut time_indices, count);
-        Signal::new_fixed_len(time_indices, encoding, bytes)
-    }
-
-    /// Where the last entry ends: its levels stand in its last bytes.
-    fn used_bytes(&self) -> usize {
-        let Some(last) = self.description.count.checked_sub(1) else {
-            return 0;
-        };
-        let answer = raw::read(self.description, &self.bytes, 0, last);
-        answer.start + answer.length
+        cut(self.description, self.bytes, self.time_indices)
     }
 }
 
@@ -203,10 +186,4 @@ impl SignalWriter {
 fn doubled<T: Default + Clone>(elements: &mut Vec<T>, most: usize) {
     let length = (elements.len() * 2).max(64).min(most);
     elements.resize(length, T::default());
-}
-
-/// Drops the room behind the used part.
-pub(crate) fn cut<T>(elements: &mut Vec<T>, used: usize) {
-    elements.truncate(used);
-    elements.shrink_to_fit();
 }

@@ -9,7 +9,7 @@ use yoksimert::{DataOffset, FixedWidthEncoding, Refusal, Signal, SignalValueRef,
 const ROUNDS: u32 = 30_000;
 
 /// Mostly small and sorted, so that many calls are accepted.
-fn signal(random: &mut Random) -> Signal {
+pub fn signal(random: &mut Random) -> Signal {
     let widths = [0, 1, 2, 3, 4, 5, 8, 9, 12, 64, 4_096, 4_097, u32::MAX];
     let width = random.pick(&widths);
     let encoding = match random.below(8) {

@@ -1,6 +1,9 @@
 //! The rows and edges of document 01, each beside what it prints.
 
-use yoksimert::{FixedWidthEncoding, Refusal, Signal, SignalWriter, States};
+use yoksimert::{
+    DerivedBitVecSignal, FixedWidthEncoding, Refusal, Signal, SignalWriter, States,
+    transform_signal,
+};
 
 /// The record of these strings, at 0, 1, 2 and on.
 fn recorded(width: u32, strings: &[&str]) -> Signal {
@@ -65,6 +68,18 @@ fn rows_9_to_11_are_looked_up_so() {
     assert_eq!(found(6), Some((1, 2, false, Some(9))));
     assert_eq!(found(9), Some((3, 1, true, None)));
     assert_eq!(events(&[3]).get_offset(2), Ok(None));
+}
+
+#[test]
+fn row_12_keeps_equal_levels_of_another_set() {
+    let mut writer = SignalWriter::new(2).expect("the width stands");
+    for (time_idx, string) in [(0, "x1"), (4, "01")] {
+        assert_eq!(writer.add_change(time_idx, string), Ok(()));
+    }
+    let slice = DerivedBitVecSignal::new_slice(1, 0, 0).expect("the range stands");
+    let derived = transform_signal(&slice, &[&writer.finish()]).expect("the record stands");
+    assert_eq!(derived.bytes(), [0x41, 0x01]);
+    assert_eq!(derived.time_indices(), [0, 4]);
 }
 
 #[test]

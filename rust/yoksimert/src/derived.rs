@@ -1,0 +1,250 @@
+//! Bit vectors put together from wires of others, after wellen's src/signal/transform.rs.
+
+use crate::raw::{self, FlatDerivation, FlatInput, FlatInputs, FlatJoined, FlatMade};
+use crate::refusal::accepted;
+use crate::signal::{FixedWidthEncoding, Signal, cut, entry_bound};
+use crate::{MAXIMUM, Refusal, SignalWriter};
+use std::iter::zip;
+
+const MAX_INPUTS: usize = 8;
+const MAX_PIECES: usize = 64;
+
+/// Which wires of which signals make a derived bit vector. A signal is named by any number; [`transform_signal`] is given the records.
+///
+/// ```
+/// use yoksimert::{DerivedBitVecSignal, SignalWriter, transform_signal};
+///
+/// # fn main() -> Result<(), yoksimert::Refusal> {
+/// const FLAG: u32 = 1;
+/// const TARIFF: u32 = 2;
+/// let mut flag = SignalWriter::new(1)?;
+/// flag.add_change(0, "0")?;
+/// flag.add_change(3, "1")?;
+/// let mut tariff = SignalWriter::new(4)?;
+/// tariff.add_change(0, "00zz")?;
+/// tariff.add_change(5, "0001")?;
+///
+/// // The flag, and right of it the two lower wires of the tariff.
+/// let mut bus = DerivedBitVecSignal::new_slice(FLAG, 0, 0)?;
+/// bus.concat_right(TARIFF, 1, 0)?;
+/// assert_eq!((bus.width(), bus.inputs()), (3, &[FLAG, TARIFF][..]));
+///
+/// let bus = transform_signal(&bus, &[&flag.finish(), &tariff.finish()])?;
+/// assert_eq!(bus.time_indices(), [0, 3, 5]);
+/// assert_eq!(bus.get_entry(1)?.to_string(), "1zz");
+/// # Ok(())
+/// # }
+/// ```
+#[derive(Clone, PartialEq, Eq, Hash, Debug)]
+pub struct DerivedBitVecSignal {
+    derivation: FlatDerivation,
+    names: [u32; MAX_INPUTS],
+    pieces: [u64; MAX_PIECES],
+}
+
+impl DerivedBitVecSignal {
+    /// Wires `msb` to `lsb` of a signal.
+    ///
+    /// # Errors
+    /// [`Refusal::BadRange`] if `msb` is below `lsb` or above 4,095.
+    pub fn new_slice(signal: u32, msb: u32, lsb: u32) -> Result<Self, Refusal> {
+        let mut out = Self {
+            derivation: FlatDerivation::default(),
+            names: [0; MAX_INPUTS],
+            pieces: [0; MAX_PIECES],
+        };
+        out.concat_left(signal, msb, lsb)?;
+        Ok(out)
+    }
+
+    /// All wires of a signal.
+    ///
+    /// # Errors
+    /// [`Refusal::WrongKind`] if it is no bit vector, [`Refusal::BadRange`] if its width is not 1 to 4,096.
+    pub fn new_identity(signal: u32, encoding: FixedWidthEncoding) -> Result<Self, Refusal> {
+        let FixedWidthEncoding::BitVector { width, .. } = encoding else {
+            return Err(Refusal::WrongKind);
+        };
+        let msb = width.checked_sub(1).ok_or(Refusal::BadRange)?;
+        Self::new_slice(signal, msb, 0)
+    }
+
+    /// Adds wires `msb` to `lsb` of a signal on the left, the most significant side. They merge with the piece there if they adjoin it.
+    ///
+    /// # Errors
+    /// [`Refusal::BadRange`] if `msb` is below `lsb` or above 4,095; [`Refusal::DerivationFull`] for a ninth input, a 65th piece or a width
+    /// above 4,096.
+    pub fn concat_left(&mut self, signal: u32, msb: u32, lsb: u32) -> Result<(), Refusal> {
+        let (names, pieces) = (&mut self.names, &mut self.pieces);
+        let joined = raw::concat_left(self.derivation, names, pieces, signal, msb, lsb);
+        self.join(joined)
+    }
+
+    /// Adds wires on the right, the least significant side.
+    ///
+    /// # Errors
+    /// As [`DerivedBitVecSignal::concat_left`].
+    pub fn concat_right(&mut self, signal: u32, msb: u32, lsb: u32) -> Result<(), Refusal> {
+        let (names, pieces) = (&mut self.names, &mut self.pieces);
+        let joined = raw::concat_right(self.derivation, names, pieces, signal, msb, lsb);
+        self.join(joined)
+    }
+
+    /// Adds all wires of a signal of this width on the left; width 0 adds nothing.
+    ///
+    /// # Errors
+    /// As [`DerivedBitVecSignal::concat_left`].
+    pub fn concat_left_full(&mut self, signal: u32, width: u32) -> Result<(), Refusal> {
+        let (names, pieces) = (&mut self.names, &mut self.pieces);
+        let joined = raw::concat_left_full(self.derivation, names, pieces, signal, width);
+        self.join(joined)
+    }
+
+    /// Adds all wires of a signal of this width on the right; width 0 adds nothing.
+    ///
+    /// # Errors
+    /// As [`DerivedBitVecSignal::concat_left`].
+    pub fn concat_right_full(&mut self, signal: u32, width: u32) -> Result<(), Refusal> {
+        let (names, pieces) = (&mut self.names, &mut self.pieces);
+        let joined = raw::concat_right_full(self.derivation, names, pieces, signal, width);
+        self.join(joined)
+    }
+
+    fn join(&mut self, joined: FlatJoined) -> Result<(), Refusal> {
+        accepted(joined.number)?;
+        self.derivation = joined.next;
+        Ok(())
+    }
+
+    /// The number of wires.
+    #[must_use]
+    pub fn width(&self) -> u32 {
+        self.derivation.width
+    }
+
+    /// The names of the signals, in the order in which [`transform_signal`] takes their records.
+    #[must_use]
+    pub fn inputs(&self) -> &[u32] {
+        &self.names[..self.derivation.input_count as usize]
+    }
+
+    /// The pieces from the most significant on: the signal's name, msb and lsb.
+    pub fn pieces(&self) -> impl Iterator<Item = (u32, u32, u32)> {
+        let used = &self.pieces[..self.derivation.piece_count as usize];
+        used.iter().map(|packed| {
+            let (input, width) = (packed >> 48, (packed >> 32) as u16);
+            let lsb = *packed as u32;
+            let msb = lsb + u32::from(width) - 1;
+            (self.names[input as usize], msb, lsb)
+        })
+    }
+}
+
+/// Derives a record: of each change of an input the picked levels, under the largest of the inputs' own sets at that time. The inputs are
+/// the records of [`DerivedBitVecSignal::inputs`], in that order. A step that shows the levels and the set of the one before is dropped.
+///
+/// # Errors
+/// Each is tried over all inputs before the next: [`Refusal::BadRecord`]; [`Refusal::BadDerivation`] if there is not one record for each
+/// input, or one is no bit vector or narrower than a piece; [`Refusal::LateInput`], [`Refusal::IndexFalls`], [`Refusal::BadMark`];
+/// [`Refusal::BadCode`] at a picked level; [`Refusal::NoRoom`] for more than 1,048,576 changes.
+pub fn transform_signal(
+    transform: &DerivedBitVecSignal,
+    inputs: &[&Signal],
+) -> Result<Signal, Refusal> {
+    let shared = Shared::new(inputs)?;
+    let most = shared.most_steps().min(MAXIMUM);
+    let mut room = shared.longest().min(most);
+    loop {
+        let derived = derive(transform, &shared, room);
+        if room == most || !matches!(derived, Err(Refusal::NoRoom)) {
+            return derived;
+        }
+        room = (room * 2).min(most);
+    }
+}
+
+/// The derived record in vectors with room for so many entries.
+fn derive(
+    transform: &DerivedBitVecSignal,
+    shared: &Shared,
+    room: usize,
+) -> Result<Signal, Refusal> {
+    let DerivedBitVecSignal {
+        derivation,
+        names,
+        pieces,
+    } = transform;
+    let entry = entry_bound(derivation.width);
+    let (mut bytes, mut indices) = (vec![0; room * entry], vec![0; room]);
+    let FlatMade {
+        number,
+        description,
+    } = raw::derive(
+        *derivation,
+        names,
+        pieces,
+        shared.inputs,
+        &shared.bytes,
+        &shared.indices,
+        &mut bytes,
+        &mut indices,
+    );
+    accepted(number)?;
+    Ok(cut(description, bytes, indices))
+}
+
+/// Records one behind the other in one byte slice and one index list, as Derive takes them.
+struct Shared {
+    inputs: FlatInputs,
+    bytes: Vec<u8>,
+    indices: Vec<u32>,
+}
+
+impl Shared {
+    fn new(signals: &[&Signal]) -> Result<Self, Refusal> {
+        // A record that reaches past its own bytes would reach into the next one's, so this is tried before they are joined.
+        let nothing = SignalWriter::new_event().finish();
+        for signal in signals {
+            signal.compare(&nothing)?;
+        }
+        if signals.len() > MAX_INPUTS {
+            return Err(Refusal::BadDerivation);
+        }
+        let mut shared = Self {
+            inputs: FlatInputs {
+                count: signals.len() as u32,
+                inputs: [FlatInput {
+                    description: nothing.description(),
+                    byte_start: 0,
+                    index_start: 0,
+                }; MAX_INPUTS],
+            },
+            bytes: Vec::new(),
+            indices: Vec::new(),
+        };
+        for (signal, at) in zip(signals, 0..) {
+            shared.push(at, signal);
+        }
+        Ok(shared)
+    }
+
+    fn push(&mut self, at: usize, signal: &Signal) {
+        self.inputs.inputs[at] = FlatInput {
+            description: signal.description(),
+            byte_start: self.bytes.len(),
+            index_start: self.indices.len(),
+        };
+        self.bytes.extend_from_slice(signal.bytes());
+        self.indices.extend_from_slice(signal.time_indices());
+    }
+
+    /// The first step, and one for each later entry of an input at most.
+    fn most_steps(&self) -> usize {
+        self.indices.len().max(1)
+    }
+
+    fn longest(&self) -> usize {
+        let counts = self.inputs.inputs.iter().map(|i| i.description.count);
+        counts.max().unwrap_or(0) as usize
+    }
+}
