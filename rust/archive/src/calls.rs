@@ -1,8 +1,10 @@
 //! The archive's operations with the oracle's types in and out. What the archive is proved to leave on a refusal is asserted.
 
 use crate::numbers::{accepted, decode, encode, kind, states};
-use oracle::{Change, Description, Entry, Offset, Record, Refusal};
-use yoksimert::raw::{self, FlatAdded, FlatRecord};
+use oracle::{Change, Derivation, Description, Entry, Input, Offset, Record, Refusal, Side};
+use yoksimert::raw::{
+    self, FlatAdded, FlatDerivation, FlatDescription, FlatInput, FlatInputs, FlatRecord,
+};
 
 /// The empty record of a width; width 0 makes an event.
 ///
@@ -124,4 +126,101 @@ pub fn look_up(indices: &[u32], sought: u32) -> Result<Option<Offset>, Refusal> 
         time_match: answer.time_match,
         next_index: answer.has_next.then_some(answer.next_index),
     }))
+}
+
+/// Adds a piece and hands back the next derivation.
+///
+/// # Errors
+/// 14, 12, 13.
+pub fn add_piece(
+    d: &Derivation,
+    side: Side,
+    name: u32,
+    msb: u32,
+    lsb: u32,
+) -> Result<Derivation, Refusal> {
+    let flat = flat_derivation(d);
+    let (mut names, mut pieces) = (d.inputs, d.pieces);
+    let call = match side {
+        Side::Left => raw::concat_left,
+        Side::Right => raw::concat_right,
+    };
+    let joined = call(flat, &mut names, &mut pieces, name, msb, lsb);
+    if joined.number != 0 {
+        let left = (joined.next, names, pieces);
+        assert_eq!(left, (flat, d.inputs, d.pieces), "refused, and altered");
+    }
+    accepted(joined.number)?;
+    Ok(Derivation {
+        width: joined.next.width,
+        input_count: joined.next.input_count,
+        inputs: names,
+        piece_count: joined.next.piece_count,
+        pieces,
+    })
+}
+
+/// The most records that can be lent to Derive.
+pub const MAX_INPUTS: usize = 8;
+
+/// Derives a record. Of more than [`MAX_INPUTS`] records the first are lent, with the number of all.
+///
+/// # Errors
+/// 2, 14, 15, 11, 9, 10, 7.
+pub fn derive(
+    d: &Derivation,
+    inputs: &[Input],
+    bytes: &[u8],
+    indices: &[u32],
+    out_bytes: &mut [u8],
+    out_indices: &mut [u32],
+) -> Result<Description, Refusal> {
+    let slots = flat_inputs(inputs);
+    let flat = flat_derivation(d);
+    let made = raw::derive(
+        flat,
+        &d.inputs,
+        &d.pieces,
+        slots,
+        bytes,
+        indices,
+        out_bytes,
+        out_indices,
+    );
+    accepted(made.number)?;
+    Ok(decode(made.description))
+}
+
+fn flat_derivation(d: &Derivation) -> FlatDerivation {
+    FlatDerivation {
+        width: d.width,
+        input_count: d.input_count,
+        piece_count: d.piece_count,
+    }
+}
+
+/// The places behind the inputs hold numbers that are no description: none of them is looked at.
+fn flat_inputs(inputs: &[Input]) -> FlatInputs {
+    let nothing = FlatInput {
+        description: FlatDescription {
+            kind: u32::MAX,
+            width: u32::MAX,
+            set: u32::MAX,
+            count: u32::MAX,
+        },
+        byte_start: usize::MAX,
+        index_start: usize::MAX,
+    };
+    let mut slots = [nothing; MAX_INPUTS];
+    for (slot, input) in slots.iter_mut().zip(inputs) {
+        *slot = FlatInput {
+            description: encode(input.description),
+            byte_start: input.byte_start,
+            index_start: input.index_start,
+        };
+    }
+    FlatInputs {
+        count: u32::try_from(inputs.len()).unwrap_or(u32::MAX),
+        inputs: slots,
+    }
 }

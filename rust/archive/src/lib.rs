@@ -7,7 +7,9 @@ mod calls;
 #[cfg(archive)]
 mod numbers;
 #[cfg(archive)]
-pub use calls::{add_change, compare, fresh, fresh_real, look_up, read, text};
+pub use calls::{
+    MAX_INPUTS, add_change, add_piece, compare, derive, fresh, fresh_real, look_up, read, text,
+};
 #[cfg(archive)]
 pub use numbers::decode;
 

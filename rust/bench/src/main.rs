@@ -1,5 +1,7 @@
-//! `bench [layout | records]`: times of the proved functions beside wellen's, both at release, the best of several rounds.
+//! `bench [layout | records | derive]`: times of the proved functions beside wellen's, both at release, the best of several rounds.
 
+#[cfg(all(wellen, archive, inner))]
+mod derive;
 #[cfg(all(wellen, archive, inner))]
 mod inner;
 #[cfg(all(wellen, archive, inner))]
@@ -15,18 +17,22 @@ mod timing;
 fn main() {
     let which = std::env::args().nth(1).unwrap_or_default();
     println!("{}", timing::machine());
-    if which != "records" {
+    let wanted = |part| which.is_empty() || which == part;
+    if wanted("layout") {
         layout::pack();
         layout::least();
         layout::repeats();
         layout::widen();
     }
-    if which != "layout" {
+    if wanted("records") {
         records::add();
         records::raise();
         records::read();
         records::compare();
         records::look_up();
+    }
+    if wanted("derive") {
+        derive::derive();
     }
 }
 

@@ -5,9 +5,14 @@ use std::time::{Duration, Instant};
 const ROUNDS: u32 = 15;
 
 /// The shortest time of a round. `prepare` is not timed.
-pub fn best(mut prepare: impl FnMut(), mut round: impl FnMut()) -> Duration {
+pub fn best(prepare: impl FnMut(), round: impl FnMut()) -> Duration {
+    best_of(ROUNDS, prepare, round)
+}
+
+/// The same of so many rounds.
+pub fn best_of(rounds: u32, mut prepare: impl FnMut(), mut round: impl FnMut()) -> Duration {
     let mut shortest = Duration::MAX;
-    for _ in 0..ROUNDS {
+    for _ in 0..rounds {
         prepare();
         let start = Instant::now();
         round();

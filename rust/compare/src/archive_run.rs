@@ -2,10 +2,15 @@
 
 use crate::call::{Call, Outcome};
 
-/// Whether the archive is there and has the operation.
+/// Whether the archive is there and can be lent what the call has: of more than eight records it tries the first eight alone.
+#[cfg(archive)]
 pub fn exports(call: &Call) -> bool {
-    let has = !matches!(call, Call::AddPiece(_) | Call::Derive(_));
-    archive::PRESENT && has
+    !matches!(call, Call::Derive(derive) if derive.inputs.len() > archive::MAX_INPUTS)
+}
+
+#[cfg(not(archive))]
+pub fn exports(_: &Call) -> bool {
+    false
 }
 
 #[cfg(archive)]
@@ -71,7 +76,15 @@ mod present {
             Call::LookUp { indices, sought } => {
                 archive::look_up(indices, *sought).map(Answer::Offset)
             }
-            Call::AddPiece(_) | Call::Derive(_) => panic!("not exported"),
+            Call::AddPiece(call) => {
+                archive::add_piece(&call.derivation, call.side, call.name, call.msb, call.lsb)
+                    .map(|next| Answer::Derivation(Box::new(next)))
+            }
+            Call::Derive(call) => {
+                let (d, inputs) = (&call.derivation, &call.inputs);
+                archive::derive(d, inputs, &call.bytes, &call.indices, bytes, indices)
+                    .map(Answer::Description)
+            }
         }
     }
 

@@ -292,6 +292,18 @@ pub fn derive(derivation: &Derivation, inputs: &[Record]) -> Result<Used, Refuse
     })
 }
 
+/// `transform_bv_signal` by itself, for benchmarks: how many entries it makes. A panic is not caught.
+pub fn derive_unguarded(derivation: &Derivation, inputs: &[Record]) -> usize {
+    let signal = DerivedBitVecSignal {
+        width: derivation.width,
+        inputs: Vec::new(),
+        bits: derivation.pieces[..derivation.piece_count as usize].to_vec(),
+    };
+    let inputs: Vec<&Signal> = inputs.iter().map(|input| &input.0).collect();
+    let out = transform_bv_signal(&signal, derivation.width, &inputs);
+    out.time_indices().len()
+}
+
 /// wellen's packer by itself, for benchmarks: a panic is not caught.
 pub fn pack(states: States, value: &[u8], out: &mut Vec<u8>) {
     write_n_state_from_ascii(to_wellen(states), value, |byte| out.push(byte), None);

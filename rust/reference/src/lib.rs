@@ -19,7 +19,9 @@ mod panics;
 #[cfg(wellen)]
 mod stand_ins;
 #[cfg(wellen)]
-pub use calls::{Record, Writer, add_change, add_piece, derive, expand, least, pack};
+pub use calls::{
+    Record, Writer, add_change, add_piece, derive, derive_unguarded, expand, least, pack,
+};
 
 /// Whether wellen's source was there when this crate was built. Without it there is nothing but the types; crates
 /// that depend on this one see it in their build scripts, as `DEP_WELLEN_PRESENT`.
