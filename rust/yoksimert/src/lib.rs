@@ -45,3 +45,13 @@ pub const MAXIMUM: usize = 1_048_576;
 /// Whether the archive was there when this crate was built; without it the crate has no calls. Crates that depend on this one see it in
 /// their build scripts, as `DEP_YOKSIMERT_PRESENT`.
 pub const PRESENT: bool = cfg!(archive);
+
+/// The programs of the documents.
+#[cfg(all(doctest, archive))]
+mod documents {
+    #[doc = include_str!("../../../docs/FROM-WELLEN.md")]
+    mod from_wellen {}
+
+    #[doc = include_str!("../../../README.md")]
+    mod readme {}
+}

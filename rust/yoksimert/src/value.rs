@@ -165,6 +165,47 @@ impl PartialEq for BitVecRef<'_> {
     }
 }
 
+/// The number that the levels `0` and `1` stand for, the first the highest; an error if there are other levels, or it takes more than 64 bits.
+impl TryFrom<BitVecRef<'_>> for u64 {
+    type Error = ();
+
+    fn try_from(value: BitVecRef<'_>) -> Result<Self, ()> {
+        let text = value.bit_string().map_err(|_| ())?;
+        u64::from_str_radix(&text, 2).map_err(|_| ())
+    }
+}
+
+/// An error for a real or an event, and where the levels are no number.
+impl TryFrom<SignalValueRef<'_>> for u64 {
+    type Error = ();
+
+    fn try_from(value: SignalValueRef<'_>) -> Result<Self, ()> {
+        value.as_bit_vec().ok_or(())?.try_into()
+    }
+}
+
+/// Whether a single level is `1`; an error if it is neither that nor `0`, or there are others.
+impl TryFrom<BitVecRef<'_>> for bool {
+    type Error = ();
+
+    fn try_from(value: BitVecRef<'_>) -> Result<Self, ()> {
+        match value.bit_string().as_deref() {
+            Ok("0") => Ok(false),
+            Ok("1") => Ok(true),
+            _ => Err(()),
+        }
+    }
+}
+
+/// An error for a real or an event, and where the levels are not a single `0` or `1`.
+impl TryFrom<SignalValueRef<'_>> for bool {
+    type Error = ();
+
+    fn try_from(value: SignalValueRef<'_>) -> Result<Self, ()> {
+        value.as_bit_vec().ok_or(())?.try_into()
+    }
+}
+
 /// The characters; `?` for each where [`BitVecRef::bit_string`] is refused.
 impl Display for BitVecRef<'_> {
     fn fmt(&self, f: &mut Formatter<'_>) -> fmt::Result {

@@ -14,11 +14,9 @@ const README: &str = include_str!("../../../README.md");
 fn the_readme_shows_the_drawing() {
     let text = include_str!("../examples/hire/capture.txt");
     let lines = show::hire(text).expect("the capture is read");
-    let from = lines.len() - 9;
-    for line in &lines[from..] {
-        assert!(README.contains(line), "{line}");
-    }
-    assert!(lines[from].trim_start().starts_with("0         10"));
+    let drawing = lines[lines.len() - 9..].join("\n");
+    assert!(README.contains(&drawing), "{drawing}");
+    assert!(drawing.trim_start().starts_with("0         10"));
 }
 
 #[test]

@@ -8,3 +8,4 @@ mod random;
 mod records;
 mod rows;
 mod runs;
+mod values;
