@@ -2,6 +2,7 @@
 #![cfg(archive)]
 
 mod derived;
+mod flat;
 mod growth;
 mod judged;
 mod random;
