@@ -84,7 +84,7 @@ impl SignalWriter {
     /// For an event, which has no value.
     #[must_use]
     pub fn new_event() -> Self {
-        Self::empty(FixedWidthEncoding::Event.description(0))
+        Self::empty(raw::fresh(0).description)
     }
 
     fn empty(description: FlatDescription) -> Self {
