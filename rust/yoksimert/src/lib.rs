@@ -1,8 +1,8 @@
 //! Line records over the proved archive `libyoksimert.a`, under the names of the Rust crate wellen.
 //!
-//! A [`SignalWriter`] packs changes into a record, a [`Signal`] is read, looked up and compared, and [`transform_signal`] derives one from others.
-//! Every answer is computed by the archive; this crate keeps the vectors and turns numbers into types. A call that cannot be answered
-//! gives a [`Refusal`]; none panics.
+//! A [`SignalWriter`] packs changes into a record, a [`Signal`] is read, looked up and compared, and [`transform_signal`] derives one
+//! from others. Every answer is computed by the archive; this crate keeps the vectors and turns numbers into types. A call that cannot
+//! be answered gives a [`Refusal`]; none panics.
 //!
 //! `build.rs` looks for the archive in `target/staticlib` of the repository, where `rt staticlib yoksimert` writes it.
 

@@ -3,9 +3,9 @@
 //! The header `include/yoksimert.h` says what the numbers mean. In each answer `number` is 0 where the call is accepted, and else the
 //! number of the [`Refusal`](crate::Refusal); the slices are then as they were. Starts count elements from a slice's beginning.
 //!
-//! Here is all unsafe code of the crate. A lent slice crosses as a pointer and a number of elements. The functions are proved to end, to read and write nothing but what
-//! they are lent, and to take any numbers; each is called with a slice's own pointer and length, so every such call is sound. No
-//! function keeps a pointer.
+//! Here is all unsafe code of the crate. A lent slice crosses as a pointer and a number of elements, a lent array as a pointer. The
+//! functions are proved to end, to read and write nothing but what they are lent, and to take any numbers; each is called with a slice's
+//! own pointer and length, so every such call is sound. No function keeps a pointer.
 
 /// A record without its bytes and time indices. Other numbers than these are no description, and refused with 2.
 #[repr(C)]
