@@ -165,7 +165,8 @@ impl PartialEq for BitVecRef<'_> {
     }
 }
 
-/// The number that the levels `0` and `1` stand for, the first the highest; an error if there are other levels, or it takes more than 64 bits.
+/// The number that the levels `0` and `1` stand for, the first the highest; an error if there are other levels, or it takes more than 64
+/// bits.
 impl TryFrom<BitVecRef<'_>> for u64 {
     type Error = ();
 
