@@ -2,3 +2,4 @@ pub mod Numbers
 pub mod Flattened
 pub mod Places
 pub mod Derived
+pub mod ThinCalls

@@ -1,3 +1,4 @@
 pub mod Flat
 pub mod Exports
 pub mod Derivations
+pub mod Recorder

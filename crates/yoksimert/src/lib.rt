@@ -4,6 +4,7 @@ use fst::Description;
 pub mod derivations;
 pub mod exports;
 pub mod flat;
+pub mod recorder;
 
 // A description by numbers. Kind: 0 event, 1 real, 2 bit vector. Set: the mark of the largest set, 0 to 2. The width and the set of an event
 // or a real are 0. Other numbers are no description, which every operation refuses with 2.

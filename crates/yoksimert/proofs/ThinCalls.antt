@@ -1,0 +1,93 @@
+-- What the calls store in a lent recorder: a change keeps the kind and the width.
+-- Assumes nothing.
+use mathlib.Core.Path.{_≡_, refl, sym, ap, _∙_}
+use mathlib.Core.Bool.{Bool, true, false, cond}
+use mathlib.Core.List.{List, [], _∷_, _++_}
+use Prim.Native.Nat.{ℕ, suc}
+use Rattle.fst.specs.declared.Encoding.{Encoding}
+use Rattle.fst.specs.declared.Encoding.the-variants.{Event, Real, BitVector}
+use Rattle.fst.specs.declared.Description.{Description}
+use Rattle.fst.specs.declared.Added.{Added}
+use Rattle.fst.specs.Refusal.{given, Test, _⇐_, tried, Outcome, outcome, numberOf}
+use Rattle.fst.specs.Record.{Lent, Kept, sizeOf, keptIn}
+use Rattle.fst.specs.Change.{Change, text, real, repeats, appended, changed, withChange, refusals, Recorder, stored, addChange, leftBy}
+use Rattle.yoksimert.specs.declared.FlatDescription.{FlatDescription}
+use Rattle.yoksimert.specs.declared.FlatAdded.{FlatAdded}
+use Rattle.yoksimert.specs.declared.recorder.Recorded.{Recorded}
+use Rattle.yoksimert.specs.declared.Decoded.the-variants.{Known}
+use Rattle.yoksimert.specs.Flat.{decoded, flatOf, encoded}
+use Rattle.yoksimert.specs.Exports.{flatAdd, leftByFlat}
+use Rattle.yoksimert.specs.Recorder.{addedTo}
+use Rattle.yoksimert.proofs.Numbers.{forth}
+use Rattle.yoksimert.proofs.Flattened.{add-known}
+
+pub left-equal : {n m : ℕ} {f g : FlatDescription} → n ≡ m → f ≡ g
+    → _≡_ {A = Recorded} (record { number = n; set = f .set; count = f .count }) (record { number = m; set = g .set; count = g .count })
+left-equal p q = rw (p, q)
+
+-- ---- kind and width
+
+-- the numbers of one encoding and those of another agree in both
+record Alike (e g : Encoding) : Type 0 where
+  kind : (n m : ℕ) → (flatOf e n) .kind ≡ (flatOf g m) .kind
+  width : (n m : ℕ) → (flatOf e n) .width ≡ (flatOf g m) .width
+
+alike : (e : Encoding) → Alike e e
+alike Event = record { kind = λ n m. refl; width = λ n m. refl }
+alike Real = record { kind = λ n m. refl; width = λ n m. refl }
+alike (BitVector w M) = record { kind = λ n m. refl; width = λ n m. refl }
+
+-- what holds of both branches holds of the one taken
+either : {A : Type 0} (P : A → Type 0) (b : Bool) (x y : A) → P x → P y → P (cond b x y)
+either P true x y p q = p
+either P false x y p q = q
+
+-- what holds of the old state and of the new one holds of the state that a call leaves
+left-holds : {A : Type 0} (P : A → Type 0) (l : List Test) (old new : A) → P old → P new → P ((outcome old (tried l (given new))) .left)
+unfolding tried
+left-holds P [] old new p q = q
+left-holds P ((n ⇐ true) ∷ l) old new p q = p
+left-holds P ((n ⇐ false) ∷ l) old new p q = left-holds P l old new p q
+
+appended-alike : (e g : Encoding) → Alike e g → (n : ℕ) (bytes indices : List ℕ) (i : ℕ) (new : List ℕ)
+    → Alike ((appended e n bytes indices i new) .description .encoding) g
+unfolding appended
+appended-alike e g a n bytes indices i new = either (λ (k : Kept). Alike (k .description .encoding) g) (repeats (sizeOf e) n bytes new) _ _ a a
+
+changed-alike : (e : Encoding) (n : ℕ) (bytes indices : List ℕ) (i : ℕ) (c : Change) → Alike ((changed e n bytes indices i c) .description .encoding) e
+unfolding changed
+changed-alike Event n bytes indices i (text s) = alike Event
+changed-alike Event n bytes indices i (real x) = alike Event
+changed-alike Real n bytes indices i (text s) = alike Real
+changed-alike Real n bytes indices i (real x) = appended-alike Real Real (alike Real) n bytes indices i _
+changed-alike (BitVector w M) n bytes indices i (text s) =
+    appended-alike (BitVector w _) (BitVector w M) (record { kind = λ n m. refl; width = λ n m. refl }) n _ indices i _
+changed-alike (BitVector w M) n bytes indices i (real x) = alike (BitVector w M)
+
+added-alike : (d : Description) (l : Lent) (i : ℕ) (c : Change) → Alike ((addChange d l i c) .left .description .encoding) (d .encoding)
+unfolding addChange stored keptIn
+added-alike d l i c =
+    left-holds (λ (r : Recorder). Alike (r .description .encoding) (d .encoding)) (refusals d l i c) _ _ (alike (d .encoding))
+    (changed-alike (d .encoding) (d .count) _ _ i c)
+
+-- ---- the calls
+
+module _ (f : FlatDescription) (l : Lent) (i : ℕ) (c : Change) where
+  pub record-known : (d : Description) → decoded f ≡ Known d → (a : Added) (bytes indices : List ℕ) → leftBy a bytes indices ≡ addChange d l i c
+      → (r : Recorded) → r ≡ record { number = numberOf (a .verdict); set = (encoded (a .next)) .set; count = (encoded (a .next)) .count }
+      → leftByFlat (addedTo f r) bytes indices ≡ flatAdd f l i c
+  record-known d h a bytes indices e r q =
+      add-known f l i c d h a bytes indices e (addedTo f r) (ap (addedTo f) q ∙ same)
+    where
+      next : a .next ≡ (addChange d l i c) .left .description
+      next = ap (λ (o : Outcome Recorder). o .left .description) e
+
+      kind : f .kind ≡ (encoded (a .next)) .kind
+      kind = rw next (ap (λ (g : FlatDescription). g .kind) (sym (forth f d h)) ∙ sym (added-alike d l i c .kind _ _))
+
+      width : f .width ≡ (encoded (a .next)) .width
+      width = rw next (ap (λ (g : FlatDescription). g .width) (sym (forth f d h)) ∙ sym (added-alike d l i c .width _ _))
+
+      same : addedTo f (record { number = numberOf (a .verdict); set = (encoded (a .next)) .set; count = (encoded (a .next)) .count })
+          ≡ record { number = numberOf (a .verdict); next = encoded (a .next) }
+      same = rw (kind, width)
