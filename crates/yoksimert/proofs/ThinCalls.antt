@@ -8,8 +8,11 @@ use Rattle.fst.specs.declared.Encoding.{Encoding}
 use Rattle.fst.specs.declared.Encoding.the-variants.{Event, Real, BitVector}
 use Rattle.fst.specs.declared.Description.{Description}
 use Rattle.fst.specs.declared.Added.{Added}
-use Rattle.fst.specs.Refusal.{given, Test, _⇐_, tried, Outcome, outcome, numberOf}
-use Rattle.fst.specs.Record.{Lent, Kept, sizeOf, keptIn}
+use Rattle.fst.specs.declared.Refusal.{Refusal}
+use Rattle.fst.specs.declared.Made.{Made}
+use Rattle.fst.specs.declared.Made.the-variants as made
+use Rattle.fst.specs.Refusal.{given, Test, _⇐_, tried, Outcome, outcome, number, numberOf, madeOf}
+use Rattle.fst.specs.Record.{Lent, Kept, sizeOf, keptIn, fresh}
 use Rattle.fst.specs.Change.{Change, text, real, repeats, appended, changed, withChange, refusals, Recorder, stored, addChange, leftBy}
 use Rattle.yoksimert.specs.declared.FlatDescription.{FlatDescription}
 use Rattle.yoksimert.specs.declared.FlatAdded.{FlatAdded}
@@ -17,7 +20,7 @@ use Rattle.yoksimert.specs.declared.recorder.Recorded.{Recorded}
 use Rattle.yoksimert.specs.declared.Decoded.the-variants.{Known}
 use Rattle.yoksimert.specs.Flat.{decoded, flatOf, encoded}
 use Rattle.yoksimert.specs.Exports.{flatAdd, leftByFlat}
-use Rattle.yoksimert.specs.Recorder.{addedTo}
+use Rattle.yoksimert.specs.Recorder.{addedTo, madeOver, flatFresh}
 use Rattle.yoksimert.proofs.Numbers.{forth}
 use Rattle.yoksimert.proofs.Flattened.{add-known}
 
@@ -91,3 +94,14 @@ module _ (f : FlatDescription) (l : Lent) (i : ℕ) (c : Change) where
       same : addedTo f (record { number = numberOf (a .verdict); set = (encoded (a .next)) .set; count = (encoded (a .next)) .count })
           ≡ record { number = numberOf (a .verdict); next = encoded (a .next) }
       same = rw (kind, width)
+
+module _ (f : FlatDescription) (w : ℕ) (m : Made) (e : madeOf m ≡ fresh w) where
+  pub fresh-made : (d : Description) → m ≡ made.Record d → (g : FlatDescription) → g ≡ encoded d
+      → _≡_ {A = Outcome FlatDescription} (record { refused = 0; left = g }) (flatFresh f w)
+  fresh-made d h g q =
+      ap (λ (x : FlatDescription). record { refused = 0; left = x }) q ∙ sym (ap (λ (x : Made). madeOver f (madeOf x)) h) ∙ ap (madeOver f) e
+
+  pub fresh-refused : (x : Refusal) → m ≡ made.Refused x → (n : ℕ) → n ≡ number x
+      → _≡_ {A = Outcome FlatDescription} (record { refused = n; left = f }) (flatFresh f w)
+  fresh-refused x h n q =
+      ap (λ (k : ℕ). record { refused = k; left = f }) q ∙ sym (ap (λ (x : Made). madeOver f (madeOf x)) h) ∙ ap (madeOver f) e

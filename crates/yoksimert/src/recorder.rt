@@ -1,17 +1,22 @@
 // The recorder lent by `&mut`: it is a description by numbers, and each call changes it in place. The work is done by value, and a call
 // stores what that hands back.
 ghost use mathlib.Core.Path.{_≡_};
-ghost use Rattle.fst.specs.Refusal.{numberOf};
+ghost use Rattle.fst.specs.Refusal.{Outcome, numberOf};
 ghost use Rattle.fst.specs.Change.{text, real};
 ghost use Rattle.yoksimert.specs.Flat.{encoded};
 ghost use Rattle.yoksimert.specs.Exports.{leftByFlat, flatAdd};
-ghost use Rattle.yoksimert.specs.Recorder.{addedTo};
+ghost use Rattle.yoksimert.specs.declared.FlatDescription.{FlatDescription};
+ghost use Rattle.yoksimert.specs.Recorder.{addedTo, flatFresh};
 use crate::Decoded;
+use crate::FlatAdded;
 use crate::FlatDescription;
 use crate::flat::decode;
 use crate::flat::encode;
+use crate::flat::refusal_number;
 use crate::flat::verdict_number;
 use fst::Added;
+use fst::Made;
+use fst::record::fresh;
 
 // What a change leaves of a recorder: its kind and width stay.
 pub struct Recorded {
@@ -55,6 +60,53 @@ pub fn record_change(
     left_of(known.add_change(bytes, byte_start, indices, index_start, index, value))
 }
 
+pub fn record_real(
+    recorder: FlatDescription,
+    bytes: &mut [u8],
+    byte_start: usize,
+    indices: &mut [u32],
+    index_start: usize,
+    index: u32,
+    bits: u64,
+) -> Recorded
+    ensures { λ r. ⌜ leftByFlat (addedTo recorder r) (now (bytes .exit)) (now (indices .exit)) ≡ flatAdd recorder (record { bytes = now (bytes .entry); byteStart = «byte_start»; indices = now (indices .entry); indexStart = «index_start» }) index (real bits) ⌝ }
+{
+    let Decoded::Known(known) = decode(recorder) else {
+        return Recorded {
+            number: 2,
+            set: recorder.set,
+            count: recorder.count,
+        };
+    };
+    left_of(known.add_real(bytes, byte_start, indices, index_start, index, bits))
+}
+
+pub fn record_fresh(recorder: FlatDescription, width: u32) -> FlatAdded
+    ensures { λ r. ⌜ _≡_ {A = Outcome FlatDescription} (record { refused = r .number; left = r .next }) (flatFresh recorder width) ⌝ }
+{
+    let made = fresh(width);
+    match made {
+        Made::Record(description) => FlatAdded {
+            number: 0,
+            next: encode(description),
+        },
+        Made::Refused(refusal) => FlatAdded {
+            number: refusal_number(refusal),
+            next: recorder,
+        },
+    }
+}
+
+// Fresh: the empty record of a width; width 0 makes an event.
+#[no_mangle]
+pub extern "C" fn yoksimert_recorder_fresh(recorder: &mut FlatDescription, width: u32) -> u32
+    ensures { λ n. ⌜ _≡_ {A = Outcome FlatDescription} (record { refused = n; left = now (recorder .exit) }) (flatFresh (now (recorder .entry)) width) ⌝ }
+{
+    let s = record_fresh(*recorder, width);
+    *recorder = s.next;
+    s.number
+}
+
 // Add a change, a string's.
 #[no_mangle]
 pub extern "C" fn yoksimert_recorder_add_change(
@@ -76,6 +128,33 @@ pub extern "C" fn yoksimert_recorder_add_change(
         index_start,
         index,
         value,
+    );
+    recorder.set = s.set;
+    recorder.count = s.count;
+    s.number
+}
+
+// Add a change, a real's, by its 64 bits.
+#[no_mangle]
+pub extern "C" fn yoksimert_recorder_add_real(
+    recorder: &mut FlatDescription,
+    bytes: &mut [u8],
+    byte_start: usize,
+    indices: &mut [u32],
+    index_start: usize,
+    index: u32,
+    bits: u64,
+) -> u32
+    ensures { λ n. ⌜ leftByFlat (record { number = n; next = now (recorder .exit) }) (now (bytes .exit)) (now (indices .exit)) ≡ flatAdd (now (recorder .entry)) (record { bytes = now (bytes .entry); byteStart = «byte_start»; indices = now (indices .entry); indexStart = «index_start» }) index (real bits) ⌝ }
+{
+    let s = record_real(
+        *recorder,
+        bytes,
+        byte_start,
+        indices,
+        index_start,
+        index,
+        bits,
     );
     recorder.set = s.set;
     recorder.count = s.count;
