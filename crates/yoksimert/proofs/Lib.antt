@@ -3,3 +3,4 @@ pub mod Flattened
 pub mod Places
 pub mod Derived
 pub mod ThinCalls
+pub mod Runs

@@ -2,8 +2,8 @@
 -- Assumes nothing.
 use mathlib.Core.Path.{_≡_, refl, sym, ap, _∙_}
 use mathlib.Core.Bool.{Bool, true, false, cond}
-use mathlib.Core.List.{List, [], _∷_, _++_}
-use Prim.Native.Nat.{ℕ, suc}
+use mathlib.Core.List.{List, [], _∷_}
+use Prim.Native.Nat.{ℕ}
 use Rattle.fst.specs.declared.Encoding.{Encoding}
 use Rattle.fst.specs.declared.Encoding.the-variants.{Event, Real, BitVector}
 use Rattle.fst.specs.declared.Description.{Description}
@@ -13,9 +13,8 @@ use Rattle.fst.specs.declared.Made.{Made}
 use Rattle.fst.specs.declared.Made.the-variants as made
 use Rattle.fst.specs.Refusal.{given, Test, _⇐_, tried, Outcome, outcome, number, numberOf, madeOf}
 use Rattle.fst.specs.Record.{Lent, Kept, sizeOf, keptIn, fresh}
-use Rattle.fst.specs.Change.{Change, text, real, repeats, appended, changed, withChange, refusals, Recorder, stored, addChange, leftBy}
+use Rattle.fst.specs.Change.{Change, text, real, repeats, appended, changed, refusals, Recorder, stored, addChange, leftBy}
 use Rattle.yoksimert.specs.declared.FlatDescription.{FlatDescription}
-use Rattle.yoksimert.specs.declared.FlatAdded.{FlatAdded}
 use Rattle.yoksimert.specs.declared.recorder.Recorded.{Recorded}
 use Rattle.yoksimert.specs.declared.Decoded.the-variants.{Known}
 use Rattle.yoksimert.specs.Flat.{decoded, flatOf, encoded}
