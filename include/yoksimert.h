@@ -137,6 +137,37 @@ yoksimert_added yoksimert_add_real(
     uint32_t index,
     uint64_t bits);
 
+/* The recorder lent: the calls below alter a description in place, which lies in no slice of the call. The answer is the number. On a
+ * refusal the description is as it was. */
+
+/* Fresh, whatever the description was. Refused: 1. */
+uint32_t yoksimert_recorder_fresh(yoksimert_description *recorder, uint32_t width);
+
+/* Add a change: a string. Refused: 2, 3, 4, 5, 6, 7. */
+uint32_t yoksimert_recorder_add_change(
+    yoksimert_description *recorder,
+    uint8_t *bytes,
+    size_t bytes_len,
+    size_t byte_start,
+    uint32_t *indices,
+    size_t indices_len,
+    size_t index_start,
+    uint32_t index,
+    const uint8_t *value,
+    size_t value_len);
+
+/* Add a change: a real, by the 64 bits of its double. Refused: 2, 3, 6, 7. */
+uint32_t yoksimert_recorder_add_real(
+    yoksimert_description *recorder,
+    uint8_t *bytes,
+    size_t bytes_len,
+    size_t byte_start,
+    uint32_t *indices,
+    size_t indices_len,
+    size_t index_start,
+    uint32_t index,
+    uint64_t bits);
+
 /* Read an entry. Refused: 2, 8, 9. */
 yoksimert_entry yoksimert_read(
     yoksimert_description description,

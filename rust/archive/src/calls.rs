@@ -16,6 +16,21 @@ pub fn fresh(width: u32) -> Result<Description, Refusal> {
     Ok(decode(made.description))
 }
 
+/// The same by the call that is lent a recorder, which may have held anything.
+///
+/// # Errors
+/// 1.
+pub fn recorder_fresh(width: u32) -> Result<Description, Refusal> {
+    let held = FlatDescription {
+        kind: width ^ 5,
+        width: !width,
+        set: 9,
+        count: 7,
+    };
+    let mut lent = held;
+    next_of(raw::recorder_fresh(&mut lent, width), held, lent)
+}
+
 /// The empty record of reals.
 pub fn fresh_real() -> Description {
     decode(raw::fresh_real())
@@ -43,8 +58,55 @@ pub fn add_change(
             raw::add_real(flat, bytes, byte_start, indices, index_start, index, *bits)
         }
     };
+    next_of(number, flat, next)
+}
+
+/// The same by the calls that are lent the recorder.
+///
+/// # Errors
+/// 2, 3, 4, 5, 6, 7.
+pub fn recorder_add_change(
+    d: Description,
+    bytes: &mut [u8],
+    byte_start: usize,
+    indices: &mut [u32],
+    index_start: usize,
+    index: u32,
+    change: &Change,
+) -> Result<Description, Refusal> {
+    let flat = encode(d);
+    let mut lent = flat;
+    let recorder = &mut lent;
+    let number = match change {
+        Change::Text(string) => raw::recorder_add_change(
+            recorder,
+            bytes,
+            byte_start,
+            indices,
+            index_start,
+            index,
+            string,
+        ),
+        Change::Real(bits) => raw::recorder_add_real(
+            recorder,
+            bytes,
+            byte_start,
+            indices,
+            index_start,
+            index,
+            *bits,
+        ),
+    };
+    next_of(number, flat, lent)
+}
+
+fn next_of(
+    number: u32,
+    given: FlatDescription,
+    next: FlatDescription,
+) -> Result<Description, Refusal> {
     if number != 0 {
-        assert_eq!(next, flat, "refused, and another description");
+        assert_eq!(next, given, "refused, and another description");
     }
     accepted(number)?;
     Ok(decode(next))

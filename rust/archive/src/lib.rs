@@ -8,7 +8,8 @@ mod calls;
 mod numbers;
 #[cfg(archive)]
 pub use calls::{
-    MAX_INPUTS, add_change, add_piece, compare, derive, fresh, fresh_real, look_up, read, text,
+    MAX_INPUTS, add_change, add_piece, compare, derive, fresh, fresh_real, look_up, read,
+    recorder_add_change, recorder_fresh, text,
 };
 #[cfg(archive)]
 pub use numbers::decode;

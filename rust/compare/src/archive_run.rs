@@ -51,7 +51,15 @@ mod present {
 
     fn answer(call: &Call, bytes: &mut [u8], indices: &mut [u32]) -> Result<Answer, Refusal> {
         match call {
-            Call::Fresh { width } => archive::fresh(*width).map(Answer::Description),
+            Call::Fresh { width } => {
+                let made = archive::fresh(*width);
+                assert_eq!(
+                    archive::recorder_fresh(*width),
+                    made,
+                    "by the recorder lent"
+                );
+                made.map(Answer::Description)
+            }
             Call::Add {
                 record,
                 index,
@@ -59,8 +67,24 @@ mod present {
             } => {
                 let (byte_start, index_start) = (record.byte_start, record.index_start);
                 let d = record.description;
-                archive::add_change(d, bytes, byte_start, indices, index_start, *index, change)
-                    .map(Answer::Description)
+                let (lent_bytes, lent_indices) = (&mut bytes.to_vec(), &mut indices.to_vec());
+                let lent = archive::recorder_add_change(
+                    d,
+                    lent_bytes,
+                    byte_start,
+                    lent_indices,
+                    index_start,
+                    *index,
+                    change,
+                );
+                let added =
+                    archive::add_change(d, bytes, byte_start, indices, index_start, *index, change);
+                assert_eq!(
+                    (&lent, &lent_bytes[..], &lent_indices[..]),
+                    (&added, &*bytes, &*indices),
+                    "by the recorder lent"
+                );
+                added.map(Answer::Description)
             }
             Call::Read { record, entry } => {
                 archive::read(record.description, &record.bytes, record.byte_start, *entry)

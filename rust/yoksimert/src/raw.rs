@@ -163,6 +163,33 @@ unsafe extern "C" {
         bits: u64,
     ) -> FlatAdded;
 
+    fn yoksimert_recorder_fresh(recorder: *mut FlatDescription, width: u32) -> u32;
+
+    fn yoksimert_recorder_add_change(
+        recorder: *mut FlatDescription,
+        bytes: *mut u8,
+        bytes_len: usize,
+        byte_start: usize,
+        indices: *mut u32,
+        indices_len: usize,
+        index_start: usize,
+        index: u32,
+        value: *const u8,
+        value_len: usize,
+    ) -> u32;
+
+    fn yoksimert_recorder_add_real(
+        recorder: *mut FlatDescription,
+        bytes: *mut u8,
+        bytes_len: usize,
+        byte_start: usize,
+        indices: *mut u32,
+        indices_len: usize,
+        index_start: usize,
+        index: u32,
+        bits: u64,
+    ) -> u32;
+
     fn yoksimert_read(
         description: FlatDescription,
         bytes: *const u8,
@@ -320,6 +347,68 @@ pub fn add_real(
     unsafe {
         yoksimert_add_real(
             description,
+            bytes.as_mut_ptr(),
+            bytes.len(),
+            byte_start,
+            indices.as_mut_ptr(),
+            indices.len(),
+            index_start,
+            index,
+            bits,
+        )
+    }
+}
+
+/// Fresh of a recorder that is lent, whatever it was; the answer is the number. Refused: 1, and the recorder is as it was.
+#[inline]
+pub fn recorder_fresh(recorder: &mut FlatDescription, width: u32) -> u32 {
+    // SAFETY: one description, lent to this call alone.
+    unsafe { yoksimert_recorder_fresh(recorder, width) }
+}
+
+/// Add a change to a recorder that is lent: a string; the answer is the number. Refused: 2, 3, 4, 5, 6, 7.
+#[inline]
+pub fn recorder_add_change(
+    recorder: &mut FlatDescription,
+    bytes: &mut [u8],
+    byte_start: usize,
+    indices: &mut [u32],
+    index_start: usize,
+    index: u32,
+    value: &[u8],
+) -> u32 {
+    // SAFETY: a description, and three slices, each by its own pointer and length; what is altered is lent to this call alone.
+    unsafe {
+        yoksimert_recorder_add_change(
+            recorder,
+            bytes.as_mut_ptr(),
+            bytes.len(),
+            byte_start,
+            indices.as_mut_ptr(),
+            indices.len(),
+            index_start,
+            index,
+            value.as_ptr(),
+            value.len(),
+        )
+    }
+}
+
+/// Add a change to a recorder that is lent: a real, by the 64 bits of its double; the answer is the number. Refused: 2, 3, 6, 7.
+#[inline]
+pub fn recorder_add_real(
+    recorder: &mut FlatDescription,
+    bytes: &mut [u8],
+    byte_start: usize,
+    indices: &mut [u32],
+    index_start: usize,
+    index: u32,
+    bits: u64,
+) -> u32 {
+    // SAFETY: a description, and two slices, each by its own pointer and length, lent to this call alone.
+    unsafe {
+        yoksimert_recorder_add_real(
+            recorder,
             bytes.as_mut_ptr(),
             bytes.len(),
             byte_start,

@@ -51,7 +51,7 @@ fn entries(list: &str, separator: char) -> impl Iterator<Item = &str> {
         .filter(|entry| !entry.is_empty())
 }
 
-/// `name: type` of Rust and Rattle; a lent slice is a pointer and a length, a lent array a pointer.
+/// `name: type` of Rust and Rattle; a lent slice is a pointer and a length, a lent array or struct a pointer.
 fn named(entry: &str) -> Vec<(String, String)> {
     let (name, kind) = entry.split_once(':').expect("a name and a type");
     let (name, kind) = (name.trim().trim_start_matches("pub "), kind.trim());
@@ -69,6 +69,8 @@ fn named(entry: &str) -> Vec<(String, String)> {
         slice("*mut", element)
     } else if let Some(element) = kind.strip_prefix("&[") {
         slice("*const", element)
+    } else if let Some(lent) = kind.strip_prefix("&mut ") {
+        vec![(name.to_string(), format!("*mut {lent}"))]
     } else {
         vec![(name.to_string(), kind.to_string())]
     }
@@ -165,7 +167,7 @@ fn functions(text: &str, before: &str, after: &str) -> Items {
 
 fn of_rattle() -> Items {
     let mut items = structs(&flattened(&file("crates/yoksimert/src/lib.rt")));
-    let exports = ["exports", "derivations"]
+    let exports = ["exports", "recorder", "derivations"]
         .map(|name| flattened(&file(&format!("crates/yoksimert/src/{name}.rt"))))
         .join(" ");
     let exported = functions(&exports, "pub extern \"C\" fn ", " ensures");
@@ -213,7 +215,7 @@ fn of_header() -> Items {
 #[test]
 fn the_three_texts_agree() {
     let rattle = of_rattle();
-    assert_eq!(rattle.len(), 10 + 13, "{rattle:#?}");
+    assert_eq!(rattle.len(), 10 + 16, "{rattle:#?}");
     assert_eq!(of_rust(), rattle);
     assert_eq!(of_header(), rattle);
 }

@@ -46,6 +46,12 @@ fn other_numbers_are_refused() {
         assert_eq!((added.number, added.next), (2, flat));
         let added = raw::add_real(flat, &mut bytes, 0, &mut indices, 0, 1, 1);
         assert_eq!((added.number, added.next), (2, flat));
+        let mut recorder = flat;
+        let number =
+            raw::recorder_add_change(&mut recorder, &mut bytes, 0, &mut indices, 0, 1, b"1");
+        assert_eq!((number, recorder), (2, flat));
+        let number = raw::recorder_add_real(&mut recorder, &mut bytes, 0, &mut indices, 0, 1, 1);
+        assert_eq!((number, recorder), (2, flat));
         let entry = raw::read(flat, &bytes, 0, 0);
         assert_eq!((entry.number, entry.start, entry.length), (2, 0, 0));
         assert_eq!(raw::text(flat, &bytes, 0, 0, &mut out), 2);
