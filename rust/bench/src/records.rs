@@ -38,6 +38,14 @@ impl Recorder {
         self.description = added.next;
     }
 
+    /// By the call that is lent the recorder.
+    fn add_lent(&mut self, index: u32, value: &[u8]) {
+        let (bytes, indices) = (&mut self.bytes, &mut self.indices);
+        let number =
+            raw::recorder_add_change(&mut self.description, bytes, 0, indices, 0, index, value);
+        assert_eq!(number, 0, "the slices have room");
+    }
+
     fn record(&self) -> Record<'_> {
         Record {
             description: archive::decode(self.description),
@@ -49,10 +57,13 @@ impl Recorder {
     }
 }
 
-/// ns a change: strings of one set, none of which repeats the last, into a record that has seen the set.
+/// ns a change: strings of one set, none of which repeats the last, into a record that has seen the set; with the description by value,
+/// and with the recorder lent.
 pub fn add() {
     println!("\nadd a change: ns a change\n");
-    println!("| set | width | yoksimert | wellen | wellen / yoksimert |\n|---|---|---|---|---|");
+    println!(
+        "| set | width | by value | lent | wellen | wellen / by value | wellen / lent |\n|---|---|---|---|---|---|---|"
+    );
     for states in SETS {
         for width in [1usize, 3, 8, 32, 64, 256, 4096] {
             add_at(states, width);
@@ -64,18 +75,8 @@ fn add_at(states: States, width: usize) {
     let strings: Vec<Vec<u8>> = (0..64).map(|seed| string(states, width, seed)).collect();
     let turns = (2_000_000 / width).clamp(500, 20_000);
     let changes = || (0..turns).map(|turn| (turn as u32, &strings[turn % strings.len()]));
-    let room = turns * (width / 2 + 2);
-    let mut recorder = Recorder::new(width as u32, room, turns);
-    let start = recorder.description;
-    let ours = best(
-        || (),
-        || {
-            recorder.description = start;
-            for (index, value) in changes() {
-                recorder.add(index, black_box(value));
-            }
-        },
-    );
+    let by_value = ours(width, turns, changes, Recorder::add);
+    let lent = ours(width, turns, changes, Recorder::add_lent);
     let theirs = best(
         || (),
         || {
@@ -86,11 +87,33 @@ fn add_at(states: States, width: usize) {
             black_box(writer);
         },
     );
-    let (ours, theirs) = (per(ours, turns), per(theirs, turns));
+    let theirs = per(theirs, turns);
     println!(
-        "| {states:?} | {width} | {ours:.1} | {theirs:.1} | {:.1} |",
-        theirs / ours
+        "| {states:?} | {width} | {by_value:.1} | {lent:.1} | {theirs:.1} | {:.1} | {:.1} |",
+        theirs / by_value,
+        theirs / lent
     );
+}
+
+/// ns a change of so many.
+fn ours<'a, Changes: Iterator<Item = (u32, &'a Vec<u8>)>>(
+    width: usize,
+    turns: usize,
+    changes: impl Fn() -> Changes,
+    add: impl Fn(&mut Recorder, u32, &[u8]),
+) -> f64 {
+    let mut recorder = Recorder::new(width as u32, turns * (width / 2 + 2), turns);
+    let start = recorder.description;
+    let time = best(
+        || (),
+        || {
+            recorder.description = start;
+            for (index, value) in changes() {
+                add(&mut recorder, index, black_box(value));
+            }
+        },
+    );
+    per(time, turns)
 }
 
 /// ms of the change that raises the set of a record of a million entries.
