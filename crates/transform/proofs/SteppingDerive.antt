@@ -1,17 +1,16 @@
 -- Derive by its room: where the derived list has none nothing is stored, and else the record is the list laid out.
 -- Assumes nothing.
 use mathlib.Core.Path.{_≡_, refl, sym, ap, ap₂, _∙_}
-use mathlib.Core.Bool.{Bool, true, false, _&&_, not}
+use mathlib.Core.Bool.{Bool, true, false, not}
 use mathlib.Core.List.{List, [], _∷_, map}
-use Prim.Native.Nat.{ℕ, _+_, _*_, _≤_}
+use Prim.Native.Nat.{ℕ, _≤_}
 use native.Mathlib.Omega.{arith}
-use lib.Dec.{leb}
 use lib.ListN.{length}
 use Rattle.value.specs.declared.States.{States}
 use Rattle.value.specs.Slice.{overlay}
 use Rattle.fst.specs.declared.Encoding.the-variants.{BitVector}
 use Rattle.layout.specs.Entry.{entrySize}
-use Rattle.fst.specs.Record.{Kept, maximum, fits, fitsBytes}
+use Rattle.fst.specs.Record.{Kept, fits, fitsBytes}
 use Rattle.fst.specs.Refusal.{Reply, refused, given, Test, _⇐_, tried}
 use Rattle.runs.specs.Runs.{Step, indexOf, entriesOf, laidOut}
 use Rattle.fst.proofs.Records.{fits-room}
@@ -21,6 +20,7 @@ use Rattle.transform.specs.Piece.{piecesOf}
 use Rattle.transform.specs.Derive.{Derived, derivedBy, derive, derivedList, derivedKept, largestAmong, lentOut, deriveRefusals}
 use Rattle.transform.specs.Tests.{keptAll, Derivable, firstTests}
 use Rattle.transform.specs.Stepping.{Roomy}
+use Rattle.transform.specs.Room.{roomFor}
 use Rattle.transform.proofs.InputTestsInOrder.{derive-refused, derive-room}
 
 module _ (d : DerivedBitVecSignal) (inputs : Inputs) (bytes indices outBytes outIndices : List ℕ) where
@@ -44,24 +44,25 @@ module _ (d : DerivedBitVecSignal) (inputs : Inputs) (bytes indices outBytes out
     unfolding derive
     by-room = ap (derivedBy (lentOut outBytes outIndices)) (derive-room d inputs bytes indices (lentOut outBytes outIndices) (given (derivedKept d ks)) D)
 
-    module _ (K : States) (k : K ≡ largestAmong ks) (count size : ℕ) (c : count ≡ length steps) (z : size ≡ entrySize (d .width) K) where
-      fit-told : (b : Bool) → b ≡ ((leb count maximum && leb (0 + count * size) (length outBytes)) && leb (0 + count) (length outIndices)) → fit ≡ b
-      unfolding laidOut fits fitsBytes
-      fit-told b e = sym (e ∙ rw (c, z, k))
+    module _ (K : States) (k : K ≡ largestAmong ks) where
+      module _ (b : Bool) (e : b ≡ roomFor (length steps) (entrySize (d .width) K) (length outBytes) 0 (length outIndices) 0) where
+        fit-told : fit ≡ b
+        unfolding laidOut fits fitsBytes
+        fit-told = sym (e ∙ rw k)
 
-      module _ (b : Bool) (e : b ≡ ((leb count maximum && leb (0 + count * size) (length outBytes)) && leb (0 + count) (length outIndices))) where
         pub no-room : b ≡ false → _≡_ {A = Derived} (record { answer = refused 7; bytes = outBytes; indices = outIndices }) (derive d inputs bytes indices outBytes outIndices)
         unfolding tried
-        no-room h = sym (by-room ∙ rw (fit-told b e ∙ h))
+        no-room h = sym (by-room ∙ rw (fit-told ∙ h))
 
         pub roomy : b ≡ true → Roomy steps (entrySize (d .width) K) outBytes outIndices
         unfolding laidOut
         roomy h =
-            let f = fits-room ((derivedKept d ks) .description) (lentOut outBytes outIndices) (fit-told b e ∙ h) in
+            let f = fits-room ((derivedKept d ks) .description) (lentOut outBytes outIndices) (fit-told ∙ h) in
             rw k (record { stored = omega (arith, f .bytes); indexed = omega (arith, f .indices) })
 
-        pub all-stored : b ≡ true → (newBytes newIndices : List ℕ) → newBytes ≡ overlay outBytes 0 (entriesOf (d .width) K steps) → newIndices ≡ overlay outIndices 0 (map indexOf steps)
+        pub all-stored : b ≡ true → (count : ℕ) → count ≡ length steps
+            → (newBytes newIndices : List ℕ) → newBytes ≡ overlay outBytes 0 (entriesOf (d .width) K steps) → newIndices ≡ overlay outIndices 0 (map indexOf steps)
             → _≡_ {A = Derived} (record { answer = given (record { encoding = BitVector (d .width) K; count = count }); bytes = newBytes; indices = newIndices }) (derive d inputs bytes indices outBytes outIndices)
         unfolding tried laidOut
-        all-stored h newBytes newIndices x y =
-            sym (by-room ∙ rw (fit-told b e ∙ h) (λ t. record { answer = given (record { encoding = BitVector (d .width) (sym k t); count = sym c t }); bytes = sym (x ∙ ap (λ (S : States). overlay outBytes 0 (entriesOf (d .width) S steps)) k) t; indices = sym y t }))
+        all-stored h count c newBytes newIndices x y =
+            sym (by-room ∙ rw (fit-told ∙ h) (λ t. record { answer = given (record { encoding = BitVector (d .width) (sym k t); count = sym c t }); bytes = sym (x ∙ ap (λ (S : States). overlay outBytes 0 (entriesOf (d .width) S steps)) k) t; indices = sym y t }))

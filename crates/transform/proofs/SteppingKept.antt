@@ -95,10 +95,10 @@ module _ (d : DerivedBitVecSignal) (inputs : Inputs) (bytes indices : List ℕ) 
 
   pub writing-done : (outBytes outIndices : List ℕ) (p : Position) (next : NextIndex) (count : ℕ) (nowBytes nowIndices : List ℕ)
       → Writing outBytes outIndices p next count nowBytes nowIndices → next ≡ Absent
-      → (nowBytes ≡ overlay outBytes 0 (entriesOf w N steps)) × (nowIndices ≡ overlay outIndices 0 (map indexOf steps))
+      → (nowBytes ≡ overlay outBytes 0 (entriesOf w N steps)) × (nowIndices ≡ overlay outIndices 0 (map indexOf steps)) × (count ≡ length steps)
   writing-done outBytes outIndices p next count nowBytes nowIndices C e =
       let z = walk-done d inputs bytes indices p (C .kept) (C .left) (subst (λ (n : NextIndex). Walk d inputs bytes indices p n (C .kept) (C .left)) e (C .walk)) in
-      (C .stored ∙ ap (λ (l : List Step). overlay outBytes 0 (entriesOf w N l)) z, C .indexed ∙ ap (λ (l : List Step). overlay outIndices 0 (map indexOf l)) z)
+      (C .stored ∙ ap (λ (l : List Step). overlay outBytes 0 (entriesOf w N l)) z, C .indexed ∙ ap (λ (l : List Step). overlay outIndices 0 (map indexOf l)) z, C .counted ∙ ap length z)
 
   -- by the code's pieces and largest set
   abbrev packed : List ℕ

@@ -14,10 +14,11 @@ use Rattle.value.proofs.Tests.{by-le, by-eq}
 use Rattle.value.proofs.Levels.{mark-small}
 use Rattle.layout.specs.Entry.{entrySize}
 use Rattle.fst.specs.Record.{maximum}
+use Rattle.transform.specs.Room.{roomFor}
 
 module _ (count size bytes at indices from : ℕ) where
   abbrev pub room : Bool
-  room = (leb count maximum && leb (at + count * size) bytes) && leb (from + count) indices
+  room = roomFor count size bytes at indices from
 
   pub many : maximum < count → false ≡ room
   many h = rw (lt-leb count maximum h)

@@ -114,7 +114,7 @@ come-bound bytes indices (c ∷ cs) a =
     let l = length-drop (c .begun) (shownOf bytes indices i) in
     omega (arith, come-bound bytes indices cs (a .1), a .0 .count)
 
-joined-length : {A : Type 0} (like : A → A → Bool) (l : List A) (x : A) → length (joined like l x) ≤ suc (length l)
+pub joined-length : {A : Type 0} (like : A → A → Bool) (l : List A) (x : A) → length (joined like l x) ≤ suc (length l)
 unfolding joined
 joined-length {A} like l x = go (endsLike like l x)
   where

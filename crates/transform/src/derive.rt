@@ -1,7 +1,6 @@
 // Derive, after wellen's `transform_bv_signal` and `on_change`.
 ghost use mathlib.Core.Path.{_≡_};
-ghost use mathlib.Core.Bool.{cond, _&&_};
-ghost use lib.Dec.{leb};
+ghost use mathlib.Core.Bool.{cond};
 ghost use mathlib.Core.List.{map};
 ghost use Prim.Native.Nat.{_+_, _*_, _≤_, _<_};
 ghost use lib.ListN.{length, take};
@@ -9,11 +8,12 @@ ghost use Rattle.value.specs.Slice.{part, overlay, same};
 ghost use Rattle.layout.specs.Entry.{entrySize};
 ghost use Rattle.fst.specs.Change.{repeats};
 ghost use Rattle.fst.specs.Refusal.{madeOf};
-ghost use Rattle.fst.specs.Record.{maximum, largestIn};
+ghost use Rattle.fst.specs.Record.{largestIn};
 ghost use Rattle.transform.specs.Piece.{piecesOf};
 ghost use Rattle.transform.specs.Derive.{inputsOf, derivedList, Derived, derive};
 ghost use Rattle.transform.specs.Tests.{keptAll, Derivable};
-ghost use Rattle.transform.specs.Stepping.{Takeable, Taken, repeatsLast, Appendable, Appended, Walkable, Roomy, Stored, largestOver};
+ghost use Rattle.transform.specs.Room.{Few, totalOver, roomFor};
+ghost use Rattle.transform.specs.Stepping.{All, Takeable, Taken, repeatsLast, Appendable, Appended, Walkable, Roomy, Stored, largestOver};
 use crate::DerivedBitVecSignal;
 use crate::Inputs;
 use crate::steps::Position;
@@ -42,7 +42,7 @@ fn has_room(
     index_start: usize,
 ) -> bool
     requires { ⌜ size ≤ 4096 ⌝ }
-    ensures { λ r. ⌜ r ≡ (leb count maximum && leb («byte_start» + count * size) bytes) && leb («index_start» + count) indices ⌝ }
+    ensures { λ r. ⌜ r ≡ roomFor count size bytes «byte_start» indices «index_start» ⌝ }
 {
     if MAXIMUM < count {
         return false;
@@ -203,7 +203,7 @@ fn count_steps(
     }
 }
 
-// Stores the steps that are kept, for which there is room.
+// Stores the steps that are kept, for which there is room. Returns how many there are.
 fn write_steps(
     derivation: DerivedBitVecSignal,
     inputs: Inputs,
@@ -213,9 +213,9 @@ fn write_steps(
     entry: &mut [u8],
     out_bytes: &mut [u8],
     out_indices: &mut [u32],
-)
+) -> u32
     requires { ⌜ Walkable derivation inputs (now bytes) (now indices) «max_states» (now entry) × Roomy (derivedList (piecesOf derivation) (keptAll (now bytes) (now indices) inputs)) (entrySize (derivation .width) «max_states») (now «out_bytes») (now «out_indices») ⌝ }
-    ensures { λ _. ⌜ Stored (derivation .width) «max_states» (derivedList (piecesOf derivation) (keptAll (now (bytes .entry)) (now (indices .entry)) inputs)) (now («out_bytes» .entry)) (now («out_indices» .entry)) (now («out_bytes» .exit)) (now («out_indices» .exit)) ⌝ }
+    ensures { λ r. ⌜ Stored (derivation .width) «max_states» (derivedList (piecesOf derivation) (keptAll (now (bytes .entry)) (now (indices .entry)) inputs)) (now («out_bytes» .entry)) (now («out_indices» .entry)) (now («out_bytes» .exit)) (now («out_indices» .exit)) × (r ≡ length (derivedList (piecesOf derivation) (keptAll (now (bytes .entry)) (now (indices .entry)) inputs))) ⌝ }
 {
     let bits = derivation.bits;
     let pieces = &bits[0..derivation.piece_count as usize];
@@ -224,7 +224,7 @@ fn write_steps(
     let mut count: u32 = 0;
     loop {
         let NextIndex::At(index) = next else {
-            return;
+            return count;
         };
         position = take_step(
             derivation.width,
@@ -273,6 +273,45 @@ fn largest_states(inputs: Inputs) -> States
     states
 }
 
+// How many entries the inputs have together. There are not more steps.
+fn total_count(inputs: Inputs) -> u32
+    requires { ⌜ (inputs .count ≤ 8) × All Few (inputsOf inputs) ⌝ }
+    ensures { λ r. ⌜ r ≡ totalOver (inputsOf inputs) ⌝ }
+{
+    let mut total: u32 = 0;
+    let mut i = inputs.count as usize;
+    while 0 < i {
+        i -= 1;
+        let input = inputs.slots[i];
+        let description = input.description;
+        total += description.count;
+    }
+    total
+}
+
+// Whether the steps that are kept have room in slices of these lengths. They are counted where the inputs' entries together have none.
+fn steps_fit(
+    derivation: DerivedBitVecSignal,
+    inputs: Inputs,
+    bytes: &[u8],
+    indices: &[u32],
+    max_states: States,
+    entry: &mut [u8],
+    last: &mut [u8],
+    out_bytes: usize,
+    out_indices: usize,
+) -> bool
+    requires { ⌜ Walkable derivation inputs (now bytes) (now indices) «max_states» (now entry) × (length (now last) ≡ length (now entry)) ⌝ }
+    ensures { λ r. ⌜ r ≡ roomFor (length (derivedList (piecesOf derivation) (keptAll (now (bytes .entry)) (now (indices .entry)) inputs))) (entrySize (derivation .width) «max_states») «out_bytes» 0 «out_indices» 0 ⌝ }
+{
+    let size = entry_size(max_states, derivation.width);
+    if has_room(total_count(inputs), size, out_bytes, 0, out_indices, 0) {
+        return true;
+    }
+    let count = count_steps(derivation, inputs, bytes, indices, max_states, entry, last);
+    has_room(count, size, out_bytes, 0, out_indices, 0)
+}
+
 // Derive by its room, with room for two entries lent. Nothing is stored before it is known that all fits.
 fn derive_with(
     derivation: DerivedBitVecSignal,
@@ -289,10 +328,20 @@ fn derive_with(
     ensures { λ r. ⌜ _≡_ {A = Derived} (record { answer = madeOf r; bytes = now («out_bytes» .exit); indices = now («out_indices» .exit) }) (derive derivation inputs (now (bytes .entry)) (now (indices .entry)) (now («out_bytes» .entry)) (now («out_indices» .entry))) ⌝ }
 {
     let width = derivation.width;
-    let size = entry_size(max_states, width);
-    let count = count_steps(derivation, inputs, bytes, indices, max_states, entry, last);
-    if has_room(count, size, out_bytes.len(), 0, out_indices.len(), 0) {
-        write_steps(
+    let byte_room = out_bytes.len();
+    let index_room = out_indices.len();
+    if steps_fit(
+        derivation,
+        inputs,
+        bytes,
+        indices,
+        max_states,
+        entry,
+        last,
+        byte_room,
+        index_room,
+    ) {
+        let count = write_steps(
             derivation,
             inputs,
             bytes,

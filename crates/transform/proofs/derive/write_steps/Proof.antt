@@ -148,7 +148,7 @@ returns c =
     let a = s .args in
     let z = writing-done (a .derivation) (a .inputs) (now (a .bytes)) (now (a .indices)) (now (a .out-bytes)) (now (a .out-indices)) (l .loop .position) (l .loop .next) (l .loop .count) (l .loop .out-bytes) (l .loop .out-indices) (l .loop .inv .0) (c .enum-told .given .1) in
     let steps = derivedList (piecesOf (a .derivation)) (keptAll (now (a .bytes)) (now (a .indices)) (a .inputs)) in
-    record { entries = z .0 ∙ ap (λ (K : States). overlay (now (a .out-bytes)) 0 (entriesOf (a .derivation .width) K steps)) (sym (s .pre .0 .largest)); times = z .1 }
+    (record { entries = z .0 ∙ ap (λ (K : States). overlay (now (a .out-bytes)) 0 (entriesOf (a .derivation .width) K steps)) (sym (s .pre .0 .largest)); times = z .1 }, z .2)
 
 take-step-requires : tie.Need-take-step-requires Inv-loop μ-loop
 take-step-requires c κs =

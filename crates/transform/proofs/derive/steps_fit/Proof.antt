@@ -1,0 +1,94 @@
+-- `transform::derive::steps_fit` meets its contract.
+-- Assumes nothing.
+use mathlib.Core.Path.{_≡_}
+use Prim.Native.Nat.{ℕ, _≤_}
+use native.Mathlib.Omega.{arith}
+use borrow.Author.Needs.{needs}
+use denote.Ref.{now}
+use lib.ListN.{length}
+use Rattle.layout.specs.Entry.{entrySize}
+use Rattle.fst.proofs.Rooms.{size-small}
+use Rattle.transform.proofs.Pieces.{Sized}
+use Rattle.transform.proofs.Walks.{sized}
+use Rattle.transform.proofs.InputTests.{slotted}
+use Rattle.transform.proofs.SteppingSources.{few-inputs, narrow}
+use Rattle.transform.proofs.Totals.{few-each, steps-bound, fits-counted, fits-together}
+use Rattle.transform.proofs.derive.steps_fit.Statement.{statement}
+use Rattle.transform.proofs.derive.steps_fit.Tie as tie
+
+-- what is known all along
+module _ (s : tie.Start) where
+  slots : length (s .args .inputs .slots) ≡ 8
+  slots = slotted (s .args .inputs) _ (s .good .1 .0)
+
+  size : Sized (s .args .derivation)
+  size = sized (s .args .derivation) _ (s .good .0)
+
+  small : (n : ℕ) → n ≡ entrySize (s .args .derivation .width) (s .args .max-states) → n ≤ 2049
+  small n e =
+      omega (
+        arith,
+        size-small (s .args .derivation .width) (s .args .max-states)
+            (narrow (s .args .derivation) (s .args .inputs) (now (s .args .bytes)) (now (s .args .indices)) (s .pre .0 .derivable) slots size),
+      )
+
+abbrev start : tie.After-entry-size → tie.Start
+start e = e .before .before .before .before .before
+
+entry-size-requires : tie.Need-entry-size-requires
+entry-size-requires c κs = search needs
+
+total-count-requires : tie.Need-total-count-requires
+total-count-requires c κs =
+    let s = start c in
+    let a = s .args in (
+      few-inputs (a .derivation) (a .inputs) (now (a .bytes)) (now (a .indices)) (s .pre .0 .derivable) (slots s) (size s),
+      few-each (now (a .bytes)) (now (a .indices)) (a .derivation) (a .inputs) (s .pre .0 .derivable) (slots s) (size s),
+    )
+
+has-room-requires : tie.Need-has-room-requires
+has-room-requires c κs = omega (arith, small (start (c .before)) _ (c .before .entry-size .ensures))
+
+returns : tie.Need-returns
+returns c =
+    let h = c .before in
+    let t = h .before in
+    let s = start (t .before) in
+    let a = s .args in
+    fits-together _ _ (a .out-bytes) (a .out-indices) _ _ (t .before .entry-size .ensures) _ (h .has-room .ensures) _ (t .total-count .ensures)
+    (steps-bound (now (a .bytes)) (now (a .indices)) (a .derivation) (a .inputs) (s .pre .0 .derivable) (slots s) (size s)) (c .if1 .taken)
+
+count-steps-requires : tie.Need-count-steps-requires
+count-steps-requires c κs = search needs
+
+has-room-requires-2 : tie.Need-has-room-requires-2
+has-room-requires-2 c κs =
+    let e = c .before .before .before .before .before .before .before .before .before .before in
+    omega (arith, small (start e) _ (e .entry-size .ensures))
+
+same-length : tie.Need-same-length
+same-length c = search needs
+
+same-length-2 : tie.Need-same-length-2
+same-length-2 c = search needs
+
+returns-2 : tie.Need-returns-2
+returns-2 c =
+    let n = c .before .before .before .before .before in
+    let e = n .before .before .before .before .before .before in
+    let a = start e .args in
+    fits-counted _ _ (a .out-bytes) (a .out-indices) _ _ (e .entry-size .ensures) _ (c .has-room2 .ensures) (n .count-steps .ensures)
+
+pub steps-fit-spec : {M : Type 1} → statement M
+steps-fit-spec =
+    tie.close
+    (tie.spec
+    entry-size-requires
+    total-count-requires
+    has-room-requires
+    returns
+    count-steps-requires
+    has-room-requires-2
+    same-length
+    same-length-2
+    returns-2)
