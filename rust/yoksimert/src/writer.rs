@@ -1,6 +1,6 @@
 //! The recorder, after `SignalWriter` of wellen's src/fst.rs.
 
-use crate::raw::{self, FlatAdded, FlatDescription};
+use crate::raw::{self, FlatDescription};
 use crate::refusal::accepted;
 use crate::signal::{FixedWidthEncoding, Signal, cut, entry_bound};
 use crate::{MAXIMUM, Refusal, TimeTableIdx};
@@ -125,25 +125,28 @@ impl SignalWriter {
         value: impl Into<FstSignalValue<'a>>,
     ) -> Result<(), Refusal> {
         let value = value.into();
-        let mut added = self.try_change(time_idx, value);
-        while added.number == u32::from(Refusal::NoRoom.number()) && self.grow() {
-            added = self.try_change(time_idx, value);
+        let mut number = self.try_change(time_idx, value);
+        while number == u32::from(Refusal::NoRoom.number()) && self.grow() {
+            number = self.try_change(time_idx, value);
         }
-        accepted(added.number)?;
-        self.description = added.next;
-        Ok(())
+        accepted(number)
     }
 
+    /// The number of the answer; on a refusal the record is as it was.
     #[inline]
-    fn try_change(&mut self, time_idx: TimeTableIdx, value: FstSignalValue<'_>) -> FlatAdded {
-        let (bytes, indices) = (&mut self.bytes, &mut self.time_indices);
+    fn try_change(&mut self, time_idx: TimeTableIdx, value: FstSignalValue<'_>) -> u32 {
+        let Self {
+            description,
+            bytes,
+            time_indices,
+        } = self;
         match value {
             FstSignalValue::String(string) => {
-                raw::add_change(self.description, bytes, 0, indices, 0, time_idx, string)
+                raw::recorder_add_change(description, bytes, 0, time_indices, 0, time_idx, string)
             }
             FstSignalValue::Real(real) => {
                 let bits = real.to_bits();
-                raw::add_real(self.description, bytes, 0, indices, 0, time_idx, bits)
+                raw::recorder_add_real(description, bytes, 0, time_indices, 0, time_idx, bits)
             }
         }
     }

@@ -97,3 +97,34 @@ fn a_width_too_large_gives_no_description() {
     let made = raw::fresh(4_097);
     assert_eq!((made.number, is_description(made.description)), (1, false));
 }
+
+/// The calls with the recorder lent leave what those by value hand back.
+#[test]
+fn a_lent_recorder_is_changed_in_place() {
+    each(|flat| {
+        let mut recorder = flat;
+        assert_eq!(raw::recorder_fresh(&mut recorder, 4_097), 1);
+        assert_eq!(recorder, flat);
+        for width in [0, 1, 4_096] {
+            assert_eq!(raw::recorder_fresh(&mut recorder, width), 0);
+            assert_eq!(recorder, raw::fresh(width).description);
+        }
+    });
+    let (mut by_value, mut lent) = (raw::fresh(2).description, raw::fresh(2).description);
+    let (mut bytes, mut indices) = ([0; 6], [0; 3]);
+    let (mut lent_bytes, mut lent_indices) = (bytes, indices);
+    let strings: [&[u8]; 6] = [b"01", b"x1", b"X1", b"q1", b"-", b"u-"];
+    for (index, string) in (3..).zip(strings) {
+        let added = raw::add_change(by_value, &mut bytes, 1, &mut indices, 0, index, string);
+        by_value = added.next;
+        let (out, times) = (&mut lent_bytes, &mut lent_indices);
+        let number = raw::recorder_add_change(&mut lent, out, 1, times, 0, index, string);
+        assert_eq!((number, lent), (added.number, by_value));
+        assert_eq!((lent_bytes, lent_indices), (bytes, indices));
+    }
+    assert_eq!((lent.count, lent.set), (2, 1));
+    assert_eq!(
+        raw::recorder_add_real(&mut lent, &mut bytes, 1, &mut indices, 0, 9, 0),
+        3
+    );
+}
