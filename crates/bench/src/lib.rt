@@ -4,6 +4,8 @@ ghost use lib.ListN.{length};
 ghost use Rattle.value.specs.Level.{setAt};
 ghost use Rattle.wavemem.specs.Packed.{Packable};
 ghost use Rattle.layout.specs.Expand.{Widenable};
+ghost use Rattle.signal.specs.Search.{Reached};
+use signal::NextIndex;
 use value::States;
 use value::StatesAnswer;
 
@@ -50,4 +52,42 @@ pub extern "C" fn bench_expand(from: u32, to: u32, data: &mut [u8], entries: usi
     requires { ⌜ Widenable (setAt from) (setAt to) 0 entries bits (length (now «data»)) ⌝ }
 {
     layout::expand::expand_entries(states_of(from), states_of(to), data, 0, entries, bits)
+}
+
+// What a search finds: the fields of `signal::DataOffset` by numbers.
+#[repr(C)]
+pub struct Place {
+    pub start: usize,
+    pub elements: u16,
+    pub time_match: bool,
+    pub has_next: bool,
+    pub next_index: u32,
+}
+
+// Look up's search, without the scan for falling indices.
+#[no_mangle]
+pub extern "C" fn bench_search(indices: &[u32], needle: u32) -> Place
+    requires { ⌜ Reached needle (now indices) ⌝ }
+{
+    let offset = signal::offset::find_offset_from_time_table_idx(indices, needle);
+    let next = offset.next_index;
+    let mut has_next = false;
+    let mut next_index = 0;
+    if let NextIndex::At(index) = next {
+        has_next = true;
+        next_index = index;
+    }
+    Place {
+        start: offset.start,
+        elements: offset.elements,
+        time_match: offset.time_match,
+        has_next,
+        next_index,
+    }
+}
+
+// 1 where an index falls, and else 0.
+#[no_mangle]
+pub extern "C" fn bench_falls(indices: &[u32]) -> u32 {
+    if signal::offset::falls(indices) { 1 } else { 0 }
 }

@@ -14,9 +14,10 @@ use Rattle.value.proofs.Tests.{to-T, and-left, and-right}
 use Rattle.value.proofs.Slices.{part-length, part-at, overlay-part, overlay-snoc, overlay-overlay}
 use Rattle.fst.specs.declared.Encoding.the-variants.{BitVector}
 use Rattle.fst.specs.declared.Description.{Description}
+use Rattle.fst.specs.declared.Added.{Added}
 use Rattle.fst.specs.Refusal.{tried, Outcome}
 use Rattle.fst.specs.Record.{Lent, Kept, keptIn, widthStands, fits, isBad}
-use Rattle.fst.specs.Change.{Change, isOtherKind, isOtherLength, isForeign, isBelowLast, withChange, refusals, Recorder, stored, addChange}
+use Rattle.fst.specs.Change.{Change, isOtherKind, isOtherLength, isForeign, isBelowLast, withChange, refusals, Recorder, stored, addChange, leftBy}
 use Rattle.fst.specs.Adding.{Admitted}
 use Rattle.fst.proofs.Records.{Fits, fits-room, not-bad}
 
@@ -42,6 +43,10 @@ unfolding isBad
 no-room d l w h = not-true (fits d l) (rw w at h)
 
 -- ---- a refusal, and an acceptance
+
+-- an answer beside slices that are as they were
+pub untouched : (l : Lent) {r s : Added} → r ≡ s → leftBy r (l .bytes) (l .indices) ≡ leftBy s (l .bytes) (l .indices)
+untouched l e = ap (λ (r : Added). leftBy r (l .bytes) (l .indices)) e
 
 -- numbers 2 to 5 are none
 pub record Suited (d : Description) (l : Lent) (c : Change) : Type 0 where

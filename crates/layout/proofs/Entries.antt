@@ -78,12 +78,11 @@ value-inj w m k cs ds c d e q =
 module _ (w : ℕ) (pos : 0 < w) where
   pub sized : (M own : States) (cs : List ℕ) → length (entryOf w M own cs) ≡ entrySize w M
   unfolding entryOf
-  sized M own cs = digits-length 256 (entrySize w M) (markOf own * 2 ^ (8 * entrySize w M - 2) + number (2 ^ bitsOf own) cs)
+  sized M own cs = digits-length 256 (entrySize w M) _
 
   pub bytes : (M own : States) (cs : List ℕ) → Below 256 (entryOf w M own cs)
   unfolding entryOf
-  bytes M own cs =
-      digits-below 256 (omega arith) (entrySize w M) (markOf own * 2 ^ (8 * entrySize w M - 2) + number (2 ^ bitsOf own) cs)
+  bytes M own cs = digits-below 256 (omega arith) (entrySize w M) _
 
   -- an entry is its mark over its levels
   entry-at : (M own : States) (cs : List ℕ) (n : ℕ) → entrySize w M ≡ suc n

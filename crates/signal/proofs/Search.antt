@@ -4,7 +4,7 @@ use mathlib.Core.Path.{_≡_, refl, sym, ap, _∙_}
 use mathlib.Core.Bool.{Bool, true, false, cond, _||_}
 use mathlib.Core.List.{List, [], _∷_}
 use mathlib.Core.Logic.{_⊎_, inl, inr}
-use Prim.Native.Nat.{ℕ, zero, suc, _+_, _-_, _≤_, _<_, max}
+use Prim.Native.Nat.{ℕ, zero, suc, _+_, _-_, _*_, _/_, _≤_, _<_, max}
 use native.Mathlib.Nat.{not-suc-le-zero, le-of-suc-le-suc, le-refl, le-antisymm, le-trans}
 use native.Mathlib.Numerals.{add-one}
 use native.Mathlib.Omega.{arith}
@@ -15,7 +15,7 @@ use lib.Seq.{getD-drop, drop-cons, drop-drop}
 use Rattle.value.specs.Level.{placeIn}
 use Rattle.signal.specs.declared.NextIndex.the-variants.{Absent, At}
 use Rattle.signal.specs.Offset.{falls, greatest, runOf, headOf}
-use Rattle.signal.specs.Search.{Split, Reached, Nearest}
+use Rattle.signal.specs.Search.{Reached, Last}
 
 pub le-or-lt : (a b : ℕ) → (a ≤ b) ⊎ (b < a)
 le-or-lt a b = go (leb a b) refl
@@ -62,39 +62,55 @@ falls-end (x ∷ []) zero h = refl
 falls-end (x ∷ y ∷ l) zero h = absurd (omega arith)
 falls-end (x ∷ l) (suc i) h = falls-end l i (omega arith)
 
--- the indices before `lower` are below the needle and those from `upper` on are not
-pub record Bracket (needle : ℕ) (l : List ℕ) (lower upper : ℕ) : Type 0 where
-  pub ordered : lower ≤ upper
-  pub within : upper ≤ length l
-  pub below : (k : ℕ) → k < lower → getD l k 0 < needle
-  pub above : (k : ℕ) → upper ≤ k → k < length l → needle ≤ getD l k 0
+-- the last place is one of the `size` from `place` on
+pub record Bracket (needle : ℕ) (l : List ℕ) (place size : ℕ) : Type 0 where
+  pub some : 0 < size
+  pub within : place + size ≤ length l
+  pub reached : getD l place 0 ≤ needle
+  pub above : (k : ℕ) → place + size ≤ k → k < length l → needle < getD l k 0
 
-pub bracket-start : (needle : ℕ) (l : List ℕ) → Bracket needle l 0 (length l)
-bracket-start needle l =
-    record { ordered = omega arith; within = omega arith; below = λ k h. absurd (omega arith); above = λ k h i. absurd (omega arith) }
+pub bracket-start : {needle : ℕ} {l : List ℕ} → Reached needle l → Bracket needle l 0 (length l)
+bracket-start r = record { some = r .some; within = omega arith; reached = r .first; above = λ k h i. absurd (omega arith) }
 
-module _ {needle : ℕ} {l : List ℕ} {lower upper : ℕ} (b : Bracket needle l lower upper) where
-  pub bracket-up : falls l ≡ false → (m : ℕ) → lower ≤ m → m < upper → getD l m 0 < needle → Bracket needle l (m + 1) upper
-  bracket-up f m h i less =
-      record {
-        ordered = omega arith;
-        within = b .within;
-        below = λ k j. omega (arith, rising l f k m (omega arith) (omega (arith, b .within)));
-        above = b .above;
-      }
+module _ {needle : ℕ} {l : List ℕ} {place size : ℕ} (b : Bracket needle l place size) where
+  pub bracket-half : falls l ≡ false → (half : ℕ) → 0 < half → half + half ≤ size → (r : ℕ) → r ≡ cond (leb (getD l (place + half) 0) needle) 1 0
+      → Bracket needle l (place + half * r) (size - half)
+  bracket-half f half some small r e = go (leb (getD l (place + half) 0) needle) refl e
+    where
+      inside : place + half < length l
+      inside = omega (arith, b .within)
 
-  pub bracket-down : falls l ≡ false → (m : ℕ) → lower ≤ m → m < upper → needle ≤ getD l m 0 → Bracket needle l lower m
-  bracket-down f m h i least =
-      record {
-        ordered = h;
-        within = omega (arith, b .within);
-        below = b .below;
-        above = λ k j n. omega (arith, rising l f m k j n);
-      }
+      go : (t : Bool) → leb (getD l (place + half) 0) needle ≡ t → r ≡ cond t 1 0 → Bracket needle l (place + half * r) (size - half)
+      go true q one =
+          let same : place + half * r ≡ place + half = rw one (omega arith) in
+          rw same
+          (record {
+            some = omega arith;
+            within = omega (arith, b .within);
+            reached = leb-true _ needle q;
+            above = λ k h. b .above k (omega arith);
+          })
+      go false q none =
+          let same : place + half * r ≡ place = rw none (omega arith) in
+          rw same
+          (record {
+            some = omega arith;
+            within = omega (arith, b .within);
+            reached = b .reached;
+            above = λ k h i. omega (arith, leb-false _ needle q, rising l f (place + half) k (omega arith) i);
+          })
 
-  pub bracket-met : upper ≤ lower → Split needle l lower
-  bracket-met h =
-      record { within = omega (arith, b .ordered, b .within); below = b .below; above = λ k i. b .above k (omega arith) }
+  pub bracket-one : size ≤ 1 → Last needle l place
+  bracket-one h =
+      record { within = omega (arith, b .some, b .within); reached = b .reached; above = λ k i. b .above k (omega (arith, b .some)) }
+
+-- the bit above the 32 of a difference
+pub borrowed : (i x : ℕ) → i < 4294967296 → x < 4294967296 → (x + 4294967296 - i) / 4294967296 ≡ cond (leb i x) 1 0
+borrowed i x h j = go (leb i x) refl
+  where
+    go : (t : Bool) → leb i x ≡ t → (x + 4294967296 - i) / 4294967296 ≡ cond t 1 0
+    go true e = omega (arith, leb-true i x e)
+    go false e = omega (arith, leb-false i x e)
 
 -- ---- the greatest index not above a sought one
 
@@ -154,36 +170,13 @@ greatest-stands s l k h r = go (le-or-lt (greatest s l) 0)
     go (inl o) = record { place = k; within = h; is = omega (arith, greatest-bounds s l k h r); reached = omega arith }
     go (inr o) = positive-stands s l o
 
--- the search for the needle ends at it, or behind the greatest index that is not above it
-pub split-match : (needle : ℕ) (l : List ℕ) (p : ℕ) → p < length l → getD l p 0 ≡ needle → Nearest needle l p
-split-match needle l p h e = record { within = h; greatest = greatest-is needle l p h (omega arith) (λ j i r. omega arith) }
-
-module _ {needle : ℕ} {l : List ℕ} (reached : Reached needle l) {p : ℕ} (s : Split needle l p) (other : p < length l → getD l p 0 ≡ needle → ⊥) where
-  pub split-after : 0 < p
-  split-after = go (le-or-lt p 0)
-    where
-      go : (p ≤ 0) ⊎ (0 < p) → 0 < p
-      go (inr h) = h
-      go (inl h) =
-          let zero-is : p ≡ 0 = omega arith in
-          let at : getD l p 0 ≡ getD l 0 0 = rw zero-is in
-          absurd
-          (other (omega (arith, reached .some)) (omega (arith, s .above p (omega arith) (omega (arith, reached .some)), reached .first)))
-
-  pub split-before : Nearest needle l (p - 1)
-  split-before =
-      let inside : p - 1 < length l = omega (arith, split-after, s .within) in
-      let less = s .below (p - 1) (omega (arith, split-after)) in
-      record { within = inside; greatest = greatest-is needle l (p - 1) inside (omega (arith, less)) least }
-    where
-      least : (j : ℕ) → j < length l → getD l j 0 ≤ needle → getD l j 0 ≤ getD l (p - 1) 0
-      least j h r = go (le-or-lt p j)
-        where
-          go : (p ≤ j) ⊎ (j < p) → getD l j 0 ≤ getD l (p - 1) 0
-          go (inr i) = rising l (reached .rises) j (p - 1) (omega arith) (omega (arith, split-after, s .within))
-          go (inl i) =
-              absurd
-              (other (omega arith) (omega (arith, s .above p (omega arith) (omega arith), rising l (reached .rises) p j i h)))
+-- it stands at the last place not above the needle
+pub last-greatest : {needle : ℕ} {l : List ℕ} {p : ℕ} → falls l ≡ false → Last needle l p → getD l p 0 ≡ greatest needle l
+last-greatest {needle} {l} {p} f s = greatest-is needle l p (s .within) (s .reached) (λ j h r. go j h r (le-or-lt j p))
+  where
+    go : (j : ℕ) → j < length l → getD l j 0 ≤ needle → (j ≤ p) ⊎ (p < j) → getD l j 0 ≤ getD l p 0
+    go j h r (inl i) = rising l f j p i (s .within)
+    go j h r (inr i) = absurd (omega (arith, s .above j i h))
 
 -- ---- the first place of an index
 
@@ -212,18 +205,20 @@ place-first (x ∷ l) c (suc k) h e = go (eqb x c) refl (place-first l c k (le-o
     go true q i = (omega arith, eqb-true x c q)
     go false q i = (omega arith, i .1)
 
--- where a search for an index of the list ends
-split-first : {g : ℕ} {l : List ℕ} {p : ℕ} → falls l ≡ false → Split g l p → (k : ℕ) → k < length l → getD l k 0 ≡ g → (p < length l) × (getD l p 0 ≡ g)
-split-first {g} {l} {p} f s k h e = go (le-or-lt p k)
-  where
-    go : (p ≤ k) ⊎ (k < p) → (p < length l) × (getD l p 0 ≡ g)
-    go (inl i) = (omega arith, omega (arith, s .above p (omega arith) (omega arith), rising l f p k i h))
-    go (inr i) = absurd (omega (arith, s .below k i))
+-- it is the list's first place, or behind the last place of a smaller index
+pub start-first : (l : List ℕ) (i : ℕ) → 0 < length l → getD l 0 0 ≡ i → 0 ≡ placeIn l i
+start-first l i h e = sym (place-is l i 0 h e (λ k j. absurd (not-suc-le-zero j)))
 
-pub split-place : {g : ℕ} {l : List ℕ} {p : ℕ} → falls l ≡ false → Split g l p → (k : ℕ) → k < length l → getD l k 0 ≡ g → p ≡ placeIn l g
-split-place {g} {l} {p} f s k h e =
-    let first = split-first f s k h e in
-    sym (place-is l g p (first .0) (first .1) (λ j i n. omega (arith, s .below j i)))
+pub start-behind : {l : List ℕ} {i q : ℕ} → falls l ≡ false → Last (i - 1) l q → 0 < i → (k : ℕ) → k < length l → getD l k 0 ≡ i → q + 1 ≡ placeIn l i
+start-behind {l} {i} {q} f s some k h e = go (le-or-lt k q)
+  where
+    go : (k ≤ q) ⊎ (q < k) → q + 1 ≡ placeIn l i
+    go (inl j) = absurd (omega (arith, rising l f k q j (s .within), s .reached))
+    go (inr j) =
+        let low = s .above (q + 1) (omega arith) (omega arith) in
+        let high = rising l f (q + 1) k (omega arith) h in
+        sym
+        (place-is l i (q + 1) (omega arith) (omega arith) (λ m n d. omega (arith, rising l f m q (omega arith) (s .within), s .reached)))
 
 -- ---- the index at a place
 
@@ -246,21 +241,6 @@ head-none (x ∷ l) (suc k) e = omega (arith, head-none l k e)
 
 -- ---- a run of one index
 
-pub run-ends : (i : ℕ) (l : List ℕ) → headOf l ≡ Absent → runOf i l ≡ 0
-unfolding runOf
-run-ends i [] e = refl
-run-ends i (j ∷ l) e = let z : _≡_ {A = ℕ} 0 1 = cc in absurd (omega arith)
-
-pub run-differs : (i j : ℕ) (l : List ℕ) → headOf l ≡ At j → (j ≡ i → ⊥) → runOf i l ≡ 0
-unfolding runOf
-run-differs i j [] e n = refl
-run-differs i j (x ∷ l) e n = let same : x ≡ j = cc in rw (ne-eqb i x (λ q. n (sym (q ∙ same))))
-
-pub run-goes : (i : ℕ) (l : List ℕ) → headOf l ≡ At i → runOf i l ≡ suc (runOf i (drop 1 l))
-unfolding runOf
-run-goes i [] e = let z : _≡_ {A = ℕ} 0 1 = cc in absurd (omega arith)
-run-goes i (x ∷ l) e = let same : i ≡ x = cc in rw (eq-eqb i x same)
-
 pub run-within : (i : ℕ) (l : List ℕ) → runOf i l ≤ length l
 unfolding runOf
 run-within i [] = omega arith
@@ -269,15 +249,6 @@ run-within i (x ∷ l) = go (eqb i x) (run-within i l)
     go : (b : Bool) → runOf i l ≤ length l → cond b (suc (runOf i l)) 0 ≤ suc (length l)
     go true h = omega arith
     go false h = omega arith
-
-pub run-more : (i start n : ℕ) (l : List ℕ) → runOf i (drop start l) ≡ n + runOf i (drop (start + n) l) → headOf (drop (start + n) l) ≡ At i
-    → runOf i (drop start l) ≡ (n + 1) + runOf i (drop (start + (n + 1)) l)
-run-more i start n l e h =
-    let one : drop 1 (drop (start + n) l) ≡ drop (start + n + 1) l = drop-drop 1 (start + n) l in
-    let more : start + n + 1 ≡ start + (n + 1) = omega arith in
-    let goes : runOf i (drop (start + n) l) ≡ suc (runOf i (drop 1 (drop (start + n) l))) = run-goes i (drop (start + n) l) h in
-    let rest : runOf i (drop 1 (drop (start + n) l)) ≡ runOf i (drop (start + (n + 1)) l) = rw (one, more) in
-    omega arith
 
 pub run-carries : (i : ℕ) (l : List ℕ) (k : ℕ) → k < runOf i l → getD l k 0 ≡ i
 unfolding runOf
@@ -341,3 +312,22 @@ module _ (l : List ℕ) (f : falls l ≡ false) (i k : ℕ) (h : k < length l) (
         carried = has;
         alone = only;
       }
+
+-- the run of the last place not above a needle ends there
+pub run-last : {needle : ℕ} {l : List ℕ} {p : ℕ} → falls l ≡ false → Last needle l p →
+    let i = getD l p 0 in
+    let start = placeIn l i in
+    (start ≤ p) × (start + runOf i (drop start l) ≡ p + 1)
+run-last {needle} {l} {p} f s = ends _ _ (run-is l f (getD l p 0) p (s .within) refl)
+  where
+    ends : (start n : ℕ) → Run l (getD l p 0) start n → (start ≤ p) × (start + n ≡ p + 1)
+    ends start n run = (inside .0, go (le-or-lt (start + n) (p + 1)))
+      where
+        inside : (start ≤ p) × (p < start + n)
+        inside = run .alone p (s .within) refl
+
+        go : (start + n ≤ p + 1) ⊎ (p + 1 < start + n) → start + n ≡ p + 1
+        go (inl h) = omega (arith, inside .1)
+        go (inr h) =
+            let next = run .carried (p + 1) (omega (arith, inside .0)) h in
+            absurd (omega (arith, s .reached, s .above (p + 1) (omega arith) (omega (arith, run .within))))

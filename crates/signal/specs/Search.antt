@@ -5,13 +5,7 @@ use Prim.Native.Nat.{ℕ, _≤_, _<_}
 use mathlib.Core.Bool.{false}
 use mathlib.Core.List.{List}
 use lib.ListN.{length, getD}
-use Rattle.signal.specs.Offset.{falls, greatest}
-
--- the place that parts the indices below a needle from the others
-pub record Split (needle : ℕ) (l : List ℕ) (place : ℕ) : Type 0 where
-  pub within : place ≤ length l
-  pub below : (k : ℕ) → k < place → getD l k 0 < needle
-  pub above : (k : ℕ) → place ≤ k → k < length l → needle ≤ getD l k 0
+use Rattle.signal.specs.Offset.{falls}
 
 -- a list that doesn't fall, and whose first index isn't above a needle
 pub record Reached (needle : ℕ) (l : List ℕ) : Type 0 where
@@ -19,7 +13,8 @@ pub record Reached (needle : ℕ) (l : List ℕ) : Type 0 where
   pub some : 0 < length l
   pub first : getD l 0 0 ≤ needle
 
--- a place of the greatest index not above a needle
-pub record Nearest (needle : ℕ) (l : List ℕ) (place : ℕ) : Type 0 where
+-- the last place of a list that doesn't fall whose index isn't above a needle
+pub record Last (needle : ℕ) (l : List ℕ) (place : ℕ) : Type 0 where
   pub within : place < length l
-  pub greatest : getD l place 0 ≡ greatest needle l
+  pub reached : getD l place 0 ≤ needle
+  pub above : (k : ℕ) → place < k → k < length l → needle < getD l k 0

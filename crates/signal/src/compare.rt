@@ -8,6 +8,7 @@ ghost use lib.Ieee.{eq, ofBits, binary64};
 ghost use Rattle.value.specs.Digits.{number};
 ghost use Rattle.value.specs.Slice.{same};
 ghost use Rattle.fst.specs.declared.Encoding.the-variants.{BitVector};
+ghost use Rattle.fst.specs.Record.{isBad};
 ghost use Rattle.fst.specs.Refusal.{numberOf};
 ghost use Rattle.signal.specs.Decode.{textIn};
 ghost use Rattle.signal.specs.Compare.{sameReal, sameValue, compareRecords, equalOf};
@@ -213,6 +214,46 @@ fn index_at(indices: &[u32], index_start: usize, entry: u32) -> u32
     indices[index_start + entry as usize]
 }
 
+// The entries of two records that are not 2, in pairs.
+fn compare_entries(
+    a: Description,
+    a_bytes: &[u8],
+    a_byte_start: usize,
+    a_indices: &[u32],
+    a_index_start: usize,
+    b: Description,
+    b_bytes: &[u8],
+    b_byte_start: usize,
+    b_indices: &[u32],
+    b_index_start: usize,
+) -> EqualAnswer
+    requires { ⌜ isBad a (record { bytes = now «a_bytes»; byteStart = «a_byte_start»; indices = now «a_indices»; indexStart = «a_index_start» }) ≡ false ⌝ }
+    requires { ⌜ isBad b (record { bytes = now «b_bytes»; byteStart = «b_byte_start»; indices = now «b_indices»; indexStart = «b_index_start» }) ≡ false ⌝ }
+    ensures { λ r. ⌜ equalOf r ≡ compareRecords a (record { bytes = now («a_bytes» .entry); byteStart = «a_byte_start»; indices = now («a_indices» .entry); indexStart = «a_index_start» }) b (record { bytes = now («b_bytes» .entry); byteStart = «b_byte_start»; indices = now («b_indices» .entry); indexStart = «b_index_start» }) ⌝ }
+{
+    let a_encoding = a.encoding;
+    let b_encoding = b.encoding;
+    let mut k = 0;
+    while k < a.count && k < b.count {
+        let pair = compare_pair(
+            a_encoding,
+            entry_at(a, a_bytes, a_byte_start, k),
+            index_at(a_indices, a_index_start, k),
+            b_encoding,
+            entry_at(b, b_bytes, b_byte_start, k),
+            index_at(b_indices, b_index_start, k),
+        );
+        k += 1;
+        let EqualAnswer::Equal = pair else {
+            return pair;
+        };
+    }
+    if a.count == b.count {
+        return EqualAnswer::Equal;
+    }
+    EqualAnswer::Unequal
+}
+
 pub fn compare_records(
     a: Description,
     a_bytes: &[u8],
@@ -233,30 +274,16 @@ pub fn compare_records(
     if is_bad(b, b_bytes, b_byte_start, b_indices, b_index_start) {
         return EqualAnswer::Refused(Refusal::BadRecord);
     }
-    let a_encoding = a.encoding;
-    let b_encoding = b.encoding;
-    let a_count = a.count;
-    let b_count = b.count;
-    let mut k = 0;
-    while k < a_count {
-        if b_count <= k {
-            return EqualAnswer::Unequal;
-        }
-        let pair = compare_pair(
-            a_encoding,
-            entry_at(a, a_bytes, a_byte_start, k),
-            index_at(a_indices, a_index_start, k),
-            b_encoding,
-            entry_at(b, b_bytes, b_byte_start, k),
-            index_at(b_indices, b_index_start, k),
-        );
-        k += 1;
-        let EqualAnswer::Equal = pair else {
-            return pair;
-        };
-    }
-    if k < b_count {
-        return EqualAnswer::Unequal;
-    }
-    EqualAnswer::Equal
+    compare_entries(
+        a,
+        a_bytes,
+        a_byte_start,
+        a_indices,
+        a_index_start,
+        b,
+        b_bytes,
+        b_byte_start,
+        b_indices,
+        b_index_start,
+    )
 }

@@ -1,11 +1,12 @@
 // The entries that hold at a time index.
 ghost use mathlib.Core.Path.{_≡_};
-ghost use mathlib.Core.Bool.{false};
-ghost use Prim.Native.Nat.{_≤_, _<_};
+ghost use mathlib.Core.Bool.{false, cond};
+ghost use Prim.Native.Nat.{_<_};
+ghost use lib.Dec.{leb};
 ghost use lib.ListN.{length, getD, drop};
 ghost use Rattle.value.specs.Level.{placeIn};
-ghost use Rattle.signal.specs.Offset.{falls, runOf, headOf, placeOf, lookUp, offsetOf};
-ghost use Rattle.signal.specs.Search.{Split, Reached, Nearest};
+ghost use Rattle.signal.specs.Offset.{falls, headOf, placeOf, lookUp, offsetOf};
+ghost use Rattle.signal.specs.Search.{Reached, Last};
 use crate::DataOffset;
 use crate::NextIndex;
 use crate::OffsetAnswer;
@@ -37,34 +38,27 @@ fn get(indices: &[u32], place: usize) -> NextIndex
     }
 }
 
-// The first place whose index is not below the needle.
-fn binary_search(indices: &[u32], needle: u32) -> usize
-    requires { ⌜ falls (now indices) ≡ false ⌝ }
-    ensures { λ r. ⌜ Split needle (now (indices .entry)) r ⌝ }
+// 1 where an index is not above the needle, and else 0. By arithmetic, since a comparison is compiled to a jump, and a search's jumps go either
+// way as often.
+fn not_above(index: u32, needle: u32) -> usize
+    ensures { λ r. ⌜ r ≡ cond (leb index needle) 1 0 ⌝ }
 {
-    let mut lower_idx = 0;
-    let mut upper_idx = indices.len();
-    while lower_idx < upper_idx {
-        let mid_idx = lower_idx + (upper_idx - lower_idx) / 2;
-        if indices[mid_idx] < needle {
-            lower_idx = mid_idx + 1;
-        } else {
-            upper_idx = mid_idx;
-        }
-    }
-    lower_idx
+    ((needle as u64 + 4294967296 - index as u64) >> 32) as usize
 }
 
-// A place of the greatest index not above the needle.
-fn find_not_above(indices: &[u32], needle: u32) -> usize
+// The last place whose index is not above the needle.
+fn binary_search(indices: &[u32], needle: u32) -> usize
     requires { ⌜ Reached needle (now indices) ⌝ }
-    ensures { λ r. ⌜ Nearest needle (now (indices .entry)) r ⌝ }
+    ensures { λ r. ⌜ Last needle (now (indices .entry)) r ⌝ }
 {
-    let place = binary_search(indices, needle);
-    if place < indices.len() && indices[place] == needle {
-        return place;
+    let mut place = 0;
+    let mut size = indices.len();
+    while 1 < size {
+        let half = size / 2;
+        place += half * not_above(indices[place + half], needle);
+        size -= half;
     }
-    place - 1
+    place
 }
 
 // The first place of the index at a place. Most runs are short; a long one is searched, since a walk back takes as long as the run.
@@ -77,36 +71,22 @@ fn find_start(indices: &[u32], place: usize) -> usize
     if place == 0 || indices[place - 1] != index {
         return place;
     }
-    binary_search(indices, index)
-}
-
-// The number of entries from `start` on that carry the index.
-fn run_length(indices: &[u32], start: usize, index: u32) -> usize
-    requires { ⌜ start ≤ length (now indices) ⌝ }
-    ensures { λ r. ⌜ r ≡ runOf index (drop start (now (indices .entry))) ⌝ }
-{
-    let mut elements = 0;
-    loop {
-        let NextIndex::At(next) = get(indices, start + elements) else {
-            break elements;
-        };
-        if next != index {
-            break elements;
-        }
-        elements += 1;
+    if indices[0] == index {
+        return 0;
     }
+    binary_search(indices, index - 1) + 1
 }
 
 // The entries that carry the greatest index not above the needle, of which there is one.
-fn find_offset_from_time_table_idx(indices: &[u32], needle: u32) -> DataOffset
+pub fn find_offset_from_time_table_idx(indices: &[u32], needle: u32) -> DataOffset
     requires { ⌜ Reached needle (now indices) ⌝ }
     ensures { λ r. ⌜ r ≡ placeOf needle (now (indices .entry)) ⌝ }
 {
-    let place = find_not_above(indices, needle);
-    let index = indices[place];
-    let start = find_start(indices, place);
-    let elements = run_length(indices, start, index);
-    let next_index = get(indices, start + elements);
+    let last = binary_search(indices, needle);
+    let index = indices[last];
+    let start = find_start(indices, last);
+    let elements = last + 1 - start;
+    let next_index = get(indices, last + 1);
     DataOffset {
         start: start,
         elements: (elements % 65536) as u16,

@@ -1,7 +1,7 @@
 -- Eight characters of 0 and 1 in one word: their low bits, pushed together.
 -- Assumes nothing.
 use mathlib.Core.Path.{_≡_, refl, sym, ap, ap₂, _∙_}
-use mathlib.Core.Bool.{Bool, true}
+use mathlib.Core.Bool.{true}
 use mathlib.Core.List.{List, [], _∷_, map}
 use Prim.Native.Nat.{ℕ, zero, suc, _+_, _*_, _/_, _%_, _^_, _≤_, _<_}
 use native.Mathlib.Nat.{zero-lt-suc, add-zero, mul-assoc}
@@ -15,7 +15,7 @@ use Rattle.value.specs.declared.States.the-variants.{Two}
 use Rattle.value.specs.Digits.{number, digits, Below}
 use Rattle.value.specs.Level.{fold, foldAll, codeOf, codesOf}
 use Rattle.value.proofs.Classes.{each-byte, binary-bit}
-use Rattle.value.proofs.Digits.{below-at, below-take, pow-pow, number-lt, number-more, digits-number}
+use Rattle.value.proofs.Digits.{below-at, pow-pow, number-lt, number-more, digits-number}
 use Rattle.wavemem.specs.Packed.{FullByte}
 
 -- `word | (c << t)`
@@ -53,18 +53,15 @@ low-bits-are : (v : List ℕ) → Below 256 v → Below 2 (codesOf (foldAll v)) 
 low-bits-are [] b d = refl
 low-bits-are (c ∷ v) b d = ap₂ (λ (x : ℕ) (xs : List ℕ). x ∷ xs) (binary-bit c (b .0) (d .0)) (low-bits-are v (b .1) (d .1))
 
+pub low-byte : (x : ℕ) → bitAnd x 255 < 256
+low-byte x = mask-lt x 8
+
 -- bits that are a byte apart, pushed together
-abbrev pub squeeze : ℕ → ℕ
+abbrev squeeze : ℕ → ℕ
 squeeze x =
     let y = bitOr x (x / 2 ^ 7) in
     let z = bitOr y (y / 2 ^ 14) in
     bitAnd (bitOr z (z / 2 ^ 28)) 255
-
-pub squeeze-small : (x : ℕ) → squeeze x < 256
-squeeze-small x =
-    let y = bitOr x (x / 2 ^ 7) in
-    let z = bitOr y (y / 2 ^ 14) in
-    mask-lt (bitOr z (z / 2 ^ 28)) 8
 
 squeezed : (n : ℕ) → n < 256 → squeeze (number 256 (digits 2 8 n)) ≡ n
 unfolding number digits

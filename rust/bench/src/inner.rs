@@ -2,6 +2,16 @@
 
 use oracle::States;
 
+/// What a search finds.
+#[repr(C)]
+pub struct Place {
+    pub start: usize,
+    pub elements: u16,
+    pub time_match: bool,
+    pub has_next: bool,
+    pub next_index: u32,
+}
+
 /// The crate `bench` has the Rattle side of these declarations.
 mod c {
     unsafe extern "C" {
@@ -28,6 +38,8 @@ mod c {
             entries: usize,
             bits: u32,
         );
+        pub fn bench_search(indices: *const u32, length: usize, needle: u32) -> super::Place;
+        pub fn bench_falls(indices: *const u32, length: usize) -> u32;
     }
 }
 
@@ -97,4 +109,33 @@ pub fn expand(from: States, to: States, data: &mut [u8], entries: usize, width: 
     let (from, to) = (u32::from(from.mark()), u32::from(to.mark()));
     // SAFETY: the width, the order of the sets, the count and the room are tested above.
     unsafe { c::bench_expand(from, to, data.as_mut_ptr(), data.len(), entries, width) }
+}
+
+/// Whether an index is below the one before it.
+pub fn falls(indices: &[u32]) -> bool {
+    // SAFETY: the function requires nothing.
+    unsafe { c::bench_falls(indices.as_ptr(), indices.len()) == 1 }
+}
+
+/// Some indices that don't fall: tested once, so that the search alone is timed.
+pub struct Rising<'a> {
+    indices: &'a [u32],
+    first: u32,
+}
+
+impl<'a> Rising<'a> {
+    pub fn new(indices: &'a [u32]) -> Self {
+        assert!(indices.is_sorted());
+        Self {
+            indices,
+            first: *indices.first().expect("there is an index"),
+        }
+    }
+
+    /// The entries that carry the greatest index not above the needle.
+    pub fn search(&self, needle: u32) -> Place {
+        assert!(self.first <= needle);
+        // SAFETY: `new` tested that there is an index and that none falls, and the first isn't above the needle.
+        unsafe { c::bench_search(self.indices.as_ptr(), self.indices.len(), needle) }
+    }
 }

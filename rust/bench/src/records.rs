@@ -1,5 +1,6 @@
 //! The operations of the archive beside wellen's: changes added, a raise, entries read, records compared, indices looked up.
 
+use crate::inner::{self, Rising};
 use crate::strings::{SETS, string};
 use crate::timing::{best, per};
 use oracle::{Record, States};
@@ -7,6 +8,9 @@ use std::hint::black_box;
 use yoksimert::raw::{self, FlatDescription};
 
 const MILLION: usize = 1_000_000;
+
+/// The indices sought in a round.
+const SEEKS: u32 = 10_000;
 
 /// A record of the archive with its slices.
 struct Recorder {
@@ -180,7 +184,7 @@ fn filled(states: States, width: usize, entries: usize) -> (Recorder, reference:
     let used = record.description.count as usize;
     let wellen = reference::Record::new(
         record.description,
-        &record.bytes[..used * crate::inner::entry_size(width as u32, largest(&record))],
+        &record.bytes[..used * inner::entry_size(width as u32, largest(&record))],
         &record.indices[..used],
     );
     let wellen = wellen.expect("wellen takes the record");
@@ -289,38 +293,48 @@ pub fn compare() {
     }
 }
 
-/// ns a look-up. wellen does not try whether an index falls; the archive's answer includes that scan.
+/// ns a look-up, and of its scan for falling indices and its search. wellen searches alone.
 pub fn look_up() {
-    println!("\nlook up: ns an answer, the scan for falling indices included (wellen has none)\n");
-    println!("| indices | yoksimert | wellen |\n|---|---|---|");
+    println!("\nlook up: ns an answer; wellen has no scan\n");
+    println!(
+        "| indices | look up | scan alone | search alone | wellen | wellen / search |\n|---|---|---|---|---|---|"
+    );
     for length in [10u32, 1_000, 1_000_000] {
-        let indices: Vec<u32> = (0..length).map(|entry| 3 * entry).collect();
-        let description = oracle::fresh(0).map(|d| oracle::Description { count: length, ..d });
-        let events = reference::Record::new(description.expect("width 0 stands"), &[], &indices);
-        let events = events.expect("wellen takes the record");
-        let seeks = (1_000_000 / length).clamp(20, 10_000);
-        let sought = |seek: u32| seek.wrapping_mul(2_654_435_761) % (3 * length);
-        let ours = best(
-            || (),
-            || {
-                for seek in 0..seeks {
-                    black_box(raw::look_up(&indices, black_box(sought(seek))));
-                }
-            },
-        );
-        let theirs = best(
-            || (),
-            || {
-                for seek in 0..seeks {
-                    black_box(events.look_up_unguarded(black_box(sought(seek))));
-                }
-            },
-        );
-        let seeks = seeks as usize;
-        println!(
-            "| {length} | {:.1} | {:.1} |",
-            per(ours, seeks),
-            per(theirs, seeks)
-        );
+        look_up_in(length);
     }
+}
+
+fn look_up_in(length: u32) {
+    let indices: Vec<u32> = (0..length).map(|entry| 3 * entry).collect();
+    let description = oracle::fresh(0).map(|d| oracle::Description { count: length, ..d });
+    let events = reference::Record::new(description.expect("width 0 stands"), &[], &indices);
+    let events = events.expect("wellen takes the record");
+    let rising = Rising::new(&indices);
+    let [whole, scan] = {
+        let seeks = (1_000_000 / length).clamp(20, SEEKS);
+        [
+            seek(length, seeks, |sought| raw::look_up(&indices, sought)),
+            seek(length, seeks, |_| inner::falls(black_box(&indices))),
+        ]
+    };
+    let search = seek(length, SEEKS, |sought| rising.search(sought));
+    let wellen = seek(length, SEEKS, |sought| events.look_up_unguarded(sought));
+    println!(
+        "| {length} | {whole:.1} | {scan:.1} | {search:.1} | {wellen:.1} | {:.1} |",
+        wellen / search
+    );
+}
+
+/// ns of a call, of so many that seek indices without order in a list of `length`.
+fn seek<T>(length: u32, seeks: u32, call: impl Fn(u32) -> T) -> f64 {
+    let sought = |seek: u32| seek.wrapping_mul(2_654_435_761) % (3 * length);
+    let time = best(
+        || (),
+        || {
+            for number in 0..seeks {
+                black_box(call(black_box(sought(number))));
+            }
+        },
+    );
+    per(time, seeks as usize)
 }

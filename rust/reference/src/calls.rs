@@ -174,14 +174,7 @@ impl Record {
     }
 
     pub fn look_up(&self, sought: u32) -> Result<Option<Offset>, Refused> {
-        refusing(|| {
-            self.0.get_offset(sought).map(|offset| Offset {
-                start: offset.start,
-                elements: offset.elements,
-                time_match: offset.time_match,
-                next_index: offset.next_index.map(|next| next.get()),
-            })
-        })
+        refusing(|| self.look_up_unguarded(sought))
     }
 
     /// An entry read with nothing between the caller and wellen, for benchmarks: a panic is not caught. The number of level bytes.
@@ -197,9 +190,14 @@ impl Record {
         self.value(entry).to_bit_string()
     }
 
-    /// A look-up in the same way. The first entry found.
-    pub fn look_up_unguarded(&self, sought: u32) -> Option<usize> {
-        self.0.get_offset(sought).map(|offset| offset.start)
+    /// A look-up in the same way.
+    pub fn look_up_unguarded(&self, sought: u32) -> Option<Offset> {
+        self.0.get_offset(sought).map(|offset| Offset {
+            start: offset.start,
+            elements: offset.elements,
+            time_match: offset.time_match,
+            next_index: offset.next_index.map(|next| next.get()),
+        })
     }
 
     fn value(&self, entry: u32) -> SignalValueRef<'_> {

@@ -3,9 +3,8 @@
 use native.Mathlib.Omega.{arith}
 use borrow.Author.Needs.{needs}
 use denote.Ref.{now}
-use lib.Bits.{bitAnd}
 use Rattle.value.proofs.Digits.{below-all}
-use Rattle.wavemem.proofs.Words.{squeeze-small, squeezed-byte}
+use Rattle.wavemem.proofs.Words.{low-byte, squeezed-byte}
 use Rattle.wavemem.proofs.byte_of_bits.Statement.{statement}
 use Rattle.wavemem.proofs.byte_of_bits.Tie as tie
 
@@ -13,7 +12,7 @@ word-requires : tie.Need-word-requires
 word-requires c κs = search needs
 
 cast-result : tie.Need-cast-result
-cast-result c = record { fits = squeeze-small (bitAnd (c .word .result) 72340172838076673) }
+cast-result c = search (needs, low-byte)
 
 returns : tie.Need-returns
 returns c =

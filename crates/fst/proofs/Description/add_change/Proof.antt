@@ -1,11 +1,10 @@
 -- `fst::Description::add_change` meets its contract.
 -- Assumes nothing.
-use mathlib.Core.Path.{sym, ap, _∙_}
+use mathlib.Core.Path.{sym, _∙_}
 use denote.Ref.{now}
-use Rattle.fst.specs.declared.Added.{Added}
 use Rattle.fst.specs.Record.{Lent}
-use Rattle.fst.specs.Change.{leftBy, text}
-use Rattle.fst.proofs.Adding.{two}
+use Rattle.fst.specs.Change.{text}
+use Rattle.fst.proofs.Adding.{two, untouched}
 use Rattle.fst.proofs.AddingPlain.{real-three}
 use borrow.Author.Needs.{needs}
 use Rattle.fst.proofs.Description.add_change.Statement.{statement}
@@ -30,7 +29,7 @@ same-length-2 c = search needs
 returns : tie.Need-returns
 returns c =
     let x = c .before .before .before .before .before .before .before .before in
-    ap (λ (r : Added). leftBy r ((lent x) .bytes) ((lent x) .indices)) (c .refused .ensures)
+    untouched (lent x) (c .refused .ensures)
     ∙ two (x .args .self) (lent x) (x .args .index) (text (now (x .args .value))) (sym (c .before .before .is-bad .ensures) ∙ c .before .if1 .taken)
 
 enum-told : tie.Need-enum-told
@@ -69,7 +68,7 @@ same-length-6 c = search needs
 returns-3 : tie.Need-returns-3
 returns-3 c =
     let x = c .before .before .before .before .before .before .before .before .before .before in
-    ap (λ (r : Added). leftBy r ((lent x) .bytes) ((lent x) .indices)) (c .refused2 .ensures)
+    untouched (lent x) (c .refused2 .ensures)
     ∙ real-three (x .args .self) (lent x) (x .args .index) (now (x .args .value)) (sym (c .before .before .before .before .is-bad .ensures) ∙ c .before .before .before .if1 .left) (c .before .enum-told2 .given .1)
 
 same-length-7 : tie.Need-same-length-7

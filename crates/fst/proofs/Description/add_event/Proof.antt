@@ -10,7 +10,7 @@ use Rattle.fst.specs.declared.Added.{Added}
 use Rattle.fst.specs.Record.{Lent, isBad}
 use Rattle.fst.specs.Change.{leftBy, text}
 use Rattle.fst.specs.Adding.{Admitted}
-use Rattle.fst.proofs.Adding.{Suited, standing, six, admits}
+use Rattle.fst.proofs.Adding.{Suited, standing, six, admits, untouched}
 use Rattle.fst.proofs.AddingPlain.{oneMore, event-four, event-suited, event-full, event-more}
 use borrow.Author.Needs.{needs}
 use Rattle.fst.proofs.Description.add_event.Statement.{statement}
@@ -48,7 +48,7 @@ refused-requires c κs = search needs
 returns : tie.Need-returns
 returns c =
     let x = c .before .before .before .before .before in
-    ap (λ (r : Added). leftBy r ((lent x) .bytes) ((lent x) .indices)) (c .refused .ensures)
+    untouched (lent x) (c .refused .ensures)
     ∙ event-four (x .args .self) (lent x) (x .args .index) (now (x .args .value)) (x .pre .0) (x .pre .1) (c .before .if1 .taken)
 
 is-below-last-requires : tie.Need-is-below-last-requires
@@ -66,7 +66,7 @@ returns-2 : tie.Need-returns-2
 returns-2 c =
     let b = c .before .before in
     let x = start b in
-    ap (λ (r : Added). leftBy r ((lent x) .bytes) ((lent x) .indices)) (c .refused2 .ensures)
+    untouched (lent x) (c .refused2 .ensures)
     ∙ six (x .args .self) (lent x) (x .args .index) (text (now (x .args .value))) (suited b) (sym (c .before .if2 .taken) ∙ b .is-below-last .ensures)
 
 add-self : tie.Need-add-self
@@ -88,7 +88,7 @@ returns-3 : tie.Need-returns-3
 returns-3 c =
     let z = c .before .before in
     let x = start (told z) in
-    ap (λ (r : Added). leftBy r ((lent x) .bytes) ((lent x) .indices)) (c .refused3 .ensures)
+    untouched (lent x) (c .refused3 .ensures)
     ∙ event-full (x .args .self) (lent x) (x .args .index) (now (x .args .value)) (x .pre .0) (x .pre .1) (passes (told z) (z .before .before .before .if2 .left)) (sym (z .is-bad .ensures) ∙ c .before .if3 .taken)
 
 cast-indices : tie.Need-cast-indices

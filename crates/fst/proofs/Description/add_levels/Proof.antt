@@ -17,7 +17,7 @@ use Rattle.fst.specs.declared.Encoding.the-variants.{BitVector}
 use Rattle.fst.specs.declared.Description.{Description}
 use Rattle.layout.specs.Entry.{entrySize}
 use Rattle.layout.specs.Writable.{entryFrom}
-use Rattle.fst.proofs.Adding.{standing}
+use Rattle.fst.proofs.Adding.{standing, untouched}
 use Rattle.fst.proofs.AddingStrings.{wide, comparable, widenable, roomier, writable, levels-full, levels-stay, levels-grow}
 use borrow.Author.Needs.{needs}
 use Rattle.fst.proofs.Description.add_levels.Statement.{statement}
@@ -107,7 +107,7 @@ returns : tie.Need-returns
 returns c =
     let z = c .before .before in
     let x = start z in
-    ap (λ (r : Added). leftBy r ((lent x) .bytes) ((lent x) .indices)) (c .refused .ensures)
+    untouched (lent x) (c .refused .ensures)
     ∙ levels-full (x .args .self) (lent x) (x .args .index) (now (x .args .value)) (x .args .max-states) (x .args .states) (joint z) (x .pre) (joined z) (repeat z) (told z) (next z) (counted z) (sym (z .is-bad .ensures) ∙ c .before .if1 .taken)
 
 cast-entries : tie.Need-cast-entries

@@ -1,6 +1,6 @@
 -- `fst::Description::add_real` meets its contract.
 -- Assumes nothing.
-use mathlib.Core.Path.{_≡_, refl, sym, ap, ap₂, _∙_}
+use mathlib.Core.Path.{_≡_, refl, sym, ap₂, _∙_}
 use mathlib.Core.Bool.{true, false}
 use mathlib.Core.List.{List, [], _∷_}
 use mathlib.Core.Logic.{⊎-elim}
@@ -17,7 +17,7 @@ use Rattle.fst.specs.declared.Encoding.{Encoding}
 use Rattle.fst.specs.declared.Encoding.the-variants.{Event, Real, BitVector}
 use Rattle.fst.specs.Adding.{Admitted}
 use Rattle.fst.proofs.Encoding.{the-type}
-use Rattle.fst.proofs.Adding.{Suited, standing, two, three, six, admits}
+use Rattle.fst.proofs.Adding.{Suited, standing, two, three, six, admits, untouched}
 use Rattle.fst.proofs.AddingPlain.{oneMore, real-suited, real-room, real-stays, real-full, real-more, real-roomier}
 use borrow.Author.Needs.{needs}
 use Rattle.fst.proofs.Description.add_real.Statement.{statement}
@@ -85,7 +85,7 @@ same-length-2 c = search needs
 returns : tie.Need-returns
 returns c =
     let x = c .before .before .before .before .before .before .before in
-    ap (λ (r : Added). leftBy r ((lent x) .bytes) ((lent x) .indices)) (c .refused .ensures)
+    untouched (lent x) (c .refused .ensures)
     ∙ two (x .args .self) (lent x) (x .args .index) (real (x .args .bits)) (sym (c .before .before .is-bad .ensures) ∙ c .before .if1 .taken)
 
 enum-told : tie.Need-enum-told
@@ -103,7 +103,7 @@ same-length-4 c = search needs
 returns-2 : tie.Need-returns-2
 returns-2 c =
     let x = c .before .before .before .before .before .before .before .before in
-    ap (λ (r : Added). leftBy r ((lent x) .bytes) ((lent x) .indices)) (c .refused2 .ensures)
+    untouched (lent x) (c .refused2 .ensures)
     ∙ three (x .args .self) (lent x) (x .args .index) (real (x .args .bits)) (sym (c .before .before .before .is-bad .ensures) ∙ c .before .before .if1 .left) (other (x .args .bits) (x .args .self .encoding) (c .before .match .keys2))
 
 is-below-last-requires : tie.Need-is-below-last-requires
@@ -124,7 +124,7 @@ returns-3 : tie.Need-returns-3
 returns-3 c =
     let b = c .before .before in
     let x = start b in
-    ap (λ (r : Added). leftBy r ((lent x) .bytes) ((lent x) .indices)) (c .refused3 .ensures)
+    untouched (lent x) (c .refused3 .ensures)
     ∙ six (x .args .self) (lent x) (x .args .index) (real (x .args .bits)) (suited b) (sym (c .before .if2 .taken) ∙ b .is-below-last .ensures)
 
 repeats-real-requires : tie.Need-repeats-real-requires
@@ -146,7 +146,7 @@ returns-4 : tie.Need-returns-4
 returns-4 c =
     let b = c .before .before .before .before .before in
     let x = start b in
-    ap (λ (r : Added). leftBy r ((lent x) .bytes) ((lent x) .indices)) (c .accepted .ensures)
+    untouched (lent x) (c .accepted .ensures)
     ∙ real-stays (x .args .self) (lent x) (x .args .index) (x .args .bits) (sound b) (isReal b) (passes b (c .before .before .before .before .if2 .left)) (sym (c .before .if3 .taken) ∙ c .before .before .repeats-real .ensures)
 
 add-self : tie.Need-add-self
@@ -173,7 +173,7 @@ returns-5 c =
     let z = c .before .before in
     let b = known z in
     let x = start b in
-    ap (λ (r : Added). leftBy r ((lent x) .bytes) ((lent x) .indices)) (c .refused4 .ensures)
+    untouched (lent x) (c .refused4 .ensures)
     ∙ real-full (x .args .self) (lent x) (x .args .index) (x .args .bits) (sound b) (isReal b) (passes b (z .before .before .before .before .before .before .before .if2 .left)) (sym (z .before .before .before .before .if3 .left) ∙ z .before .before .before .before .before .repeats-real .ensures) (sym (z .is-bad2 .ensures) ∙ c .before .if4 .taken)
 
 cast-entries : tie.Need-cast-entries

@@ -1,14 +1,13 @@
 -- `fst::Description::add_string` meets its contract.
 -- Assumes nothing.
-use mathlib.Core.Path.{_≡_, sym, ap, _∙_}
+use mathlib.Core.Path.{_≡_, sym, _∙_}
 use denote.Ref.{now}
 use lib.ListN.{length}
-use Rattle.fst.specs.declared.Added.{Added}
 use Rattle.fst.specs.Record.{Lent}
-use Rattle.fst.specs.Change.{leftBy, text}
+use Rattle.fst.specs.Change.{text}
 use Rattle.value.specs.declared.StatesAnswer.the-variants as answer
 use Rattle.value.specs.Answer.{leastStates}
-use Rattle.fst.proofs.Adding.{Suited, standing, six, admits}
+use Rattle.fst.proofs.Adding.{Suited, standing, six, admits, untouched}
 use Rattle.fst.proofs.AddingStrings.{string-four, string-five, string-suited, string-levels}
 use borrow.Author.Needs.{needs}
 use Rattle.fst.proofs.Description.add_string.Statement.{statement}
@@ -38,7 +37,7 @@ refused-requires c κs = search needs
 returns : tie.Need-returns
 returns c =
     let x = c .before .before .before .before .before in
-    ap (λ (r : Added). leftBy r ((lent x) .bytes) ((lent x) .indices)) (c .refused .ensures)
+    untouched (lent x) (c .refused .ensures)
     ∙ string-four (x .args .self) (lent x) (x .args .index) (now (x .args .value)) (x .args .width) (x .args .max-states) (x .pre .0) (x .pre .1) (c .before .if1 .taken)
 
 from-ascii-requires : tie.Need-from-ascii-requires
@@ -56,7 +55,7 @@ refused-requires-2 c κs = search needs
 returns-2 : tie.Need-returns-2
 returns-2 c =
     let x = c .before .before .before .before .before .before .before .before in
-    ap (λ (r : Added). leftBy r ((lent x) .bytes) ((lent x) .indices)) (c .refused2 .ensures)
+    untouched (lent x) (c .refused2 .ensures)
     ∙ string-five (x .args .self) (lent x) (x .args .index) (now (x .args .value)) (x .args .width) (x .args .max-states) (x .pre .0) (x .pre .1) (c .before .before .before .before .if1 .left) (sym (c .before .before .before .from-ascii .ensures) ∙ c .before .enum-told .given .1)
 
 is-below-last-requires : tie.Need-is-below-last-requires
@@ -74,7 +73,7 @@ returns-3 : tie.Need-returns-3
 returns-3 c =
     let b = c .before .before in
     let x = start b in
-    ap (λ (r : Added). leftBy r ((lent x) .bytes) ((lent x) .indices)) (c .refused3 .ensures)
+    untouched (lent x) (c .refused3 .ensures)
     ∙ six (x .args .self) (lent x) (x .args .index) (text (now (x .args .value))) (suited b) (sym (c .before .if2 .taken) ∙ b .is-below-last .ensures)
 
 add-levels-requires : tie.Need-add-levels-requires

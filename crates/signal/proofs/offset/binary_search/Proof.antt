@@ -1,54 +1,59 @@
--- `signal::offset::binary_search` meets its contract. The loop's invariant: the indices before `lower_idx` are below the needle and those from
--- `upper_idx` on are not.
+-- `signal::offset::binary_search` meets its contract. The loop's invariant: the last place is one of the `size` from `place` on.
 -- Assumes nothing.
-use Prim.Native.Nat.{_-_}
+use Prim.Native.Nat.{_+_, _-_, _*_, _/_}
 use native.Mathlib.Omega.{arith}
-use Rattle.signal.proofs.Search.{Bracket, bracket-start, bracket-up, bracket-down, bracket-met}
+use borrow.Author.Needs.{needs}
+use Rattle.signal.proofs.Search.{Bracket, bracket-start, bracket-half, bracket-one}
 use Rattle.signal.proofs.offset.binary_search.Statement.{statement}
 use Rattle.signal.proofs.offset.binary_search.Tie as tie
 
 abbrev Inv-loop : tie.InvT-loop
-Inv-loop indices needle lower-idx₀ upper-idx₀ lower-idx upper-idx = Bracket needle indices lower-idx upper-idx
+Inv-loop indices needle place₀ size₀ place size = Bracket needle indices place size
 
 abbrev μ-loop : tie.MeasureT-loop
-μ-loop indices needle lower-idx₀ upper-idx₀ lower-idx upper-idx = upper-idx - lower-idx
+μ-loop indices needle place₀ size₀ place size = size
 
 loop-holds : tie.Need-loop-holds Inv-loop μ-loop
-loop-holds c = bracket-start (c .args .needle) (c .args .indices .now)
+loop-holds c = bracket-start (c .before .pre)
 
-sub-mid-idx : tie.Need-sub-mid-idx Inv-loop μ-loop
-sub-mid-idx c = omega arith
+add-not-above : tie.Need-add-not-above Inv-loop μ-loop
+add-not-above c = omega (arith, c .before .loop .inv .within)
 
-add-mid-idx : tie.Need-add-mid-idx Inv-loop μ-loop
-add-mid-idx c = omega arith
+mul-not-above : tie.Need-mul-not-above Inv-loop μ-loop
+mul-not-above c = omega (arith, c .before .loop .inv .within)
 
-mul-if1 : tie.Need-mul-if1 Inv-loop μ-loop
-mul-if1 c = omega arith
+shared-slice-read-not-above : tie.Need-shared-slice-read-not-above Inv-loop μ-loop
+shared-slice-read-not-above c = omega (arith, c .before .before .loop .inv .within)
 
-shared-slice-read-if1 : tie.Need-shared-slice-read-if1 Inv-loop μ-loop
-shared-slice-read-if1 c = omega arith
+not-above-requires : tie.Need-not-above-requires Inv-loop μ-loop
+not-above-requires c κs = search needs
 
-add-lower-idx : tie.Need-add-lower-idx Inv-loop μ-loop
-add-lower-idx c = omega arith
+-- the half that the last place is in
+half : (c : tie.After-not-above Inv-loop μ-loop) →
+    let at-loop = c .before .before .before in
+    let a = at-loop .before .before .args in
+    Bracket (a .needle) (a .indices .now) (at-loop .loop .place + at-loop .loop .size / 2 * c .not-above .result) (at-loop .loop .size - at-loop .loop .size / 2)
+half c =
+    let at-loop = c .before .before .before in
+    bracket-half (at-loop .loop .inv) (at-loop .before .before .pre .rises) _ (omega arith) (omega arith) _ (c .not-above .ensures)
+
+mul-place : tie.Need-mul-place Inv-loop μ-loop
+mul-place c = omega (arith, half c .within)
+
+add-place : tie.Need-add-place Inv-loop μ-loop
+add-place c = omega (arith, half c .within)
+
+sub-size : tie.Need-sub-size Inv-loop μ-loop
+sub-size c = omega arith
 
 loop-less : tie.Need-loop-less Inv-loop μ-loop
 loop-less c = omega arith
 
 loop-again : tie.Need-loop-again Inv-loop μ-loop
-loop-again c =
-    let at-loop = c .before .before .before in
-    bracket-up (at-loop .loop .inv) (at-loop .before .pre) _ (omega arith) (omega arith) (c .if1 .taken)
-
-loop-less-2 : tie.Need-loop-less-2 Inv-loop μ-loop
-loop-less-2 c = omega arith
-
-loop-again-2 : tie.Need-loop-again-2 Inv-loop μ-loop
-loop-again-2 c =
-    let at-loop = c .before .before .before in
-    bracket-down (at-loop .loop .inv) (at-loop .before .pre) _ (omega arith) (omega arith) (c .if1 .left)
+loop-again c = half c
 
 returns : tie.Need-returns Inv-loop μ-loop
-returns c = bracket-met (c .before .loop .inv) (c .loop-test .left)
+returns c = bracket-one (c .before .loop .inv) (omega arith)
 
 pub binary-search-spec : {M : Type 1} → statement M
 binary-search-spec =
@@ -57,13 +62,13 @@ binary-search-spec =
     Inv-loop
     μ-loop
     loop-holds
-    sub-mid-idx
-    add-mid-idx
-    mul-if1
-    shared-slice-read-if1
-    add-lower-idx
+    add-not-above
+    mul-not-above
+    shared-slice-read-not-above
+    not-above-requires
+    mul-place
+    add-place
+    sub-size
     loop-less
     loop-again
-    loop-less-2
-    loop-again-2
     returns)

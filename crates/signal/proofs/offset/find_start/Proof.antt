@@ -7,7 +7,7 @@ use native.Mathlib.Omega.{arith}
 use borrow.Author.Needs.{needs}
 use borrow.Author.Tests.{eqb-false, not-true}
 use lib.ListN.{getD}
-use Rattle.signal.proofs.Search.{start-is, split-place}
+use Rattle.signal.proofs.Search.{rising, start-is, start-first, start-behind}
 use Rattle.signal.proofs.offset.find_start.Statement.{statement}
 use Rattle.signal.proofs.offset.find_start.Tie as tie
 
@@ -37,13 +37,42 @@ returns c =
     let at-start = c .before .before .before in
     start-is (at-start .args .indices .now) (at-start .args .place) (at-start .pre .0) (at-start .pre .1) (other c)
 
-binary-search-requires : tie.Need-binary-search-requires
-binary-search-requires c κs = search needs
+shared-slice-read-if3 : tie.Need-shared-slice-read-if3
+shared-slice-read-if3 c = search needs
 
 returns-2 : tie.Need-returns-2
 returns-2 c =
-    let at-start = c .before .before .before .before .before .before in
-    split-place (at-start .pre .0) (c .binary-search .ensures) (at-start .args .place) (at-start .pre .1) refl
+    let at-start = c .before .before .before .before .before .before .before in
+    start-first (at-start .args .indices .now) _ (omega arith) (c .if3 .taken)
+
+abbrev start : tie.Else3 → tie.Start
+start c = c .before .before .before .before .before .before .before
+
+-- the list's first index is smaller
+smaller : (c : tie.Else3) →
+    let a = start c .args in
+    getD (a .indices .now) 0 0 < getD (a .indices .now) (a .place) 0
+smaller c =
+    let at-start = start c in
+    let a = at-start .args in
+    omega (arith, rising (a .indices .now) (at-start .pre .0) 0 (a .place) (omega arith) (at-start .pre .1), c .if3 .left)
+
+sub-binary-search : tie.Need-sub-binary-search
+sub-binary-search c = omega (arith, smaller c)
+
+binary-search-requires : tie.Need-binary-search-requires
+binary-search-requires c κs =
+    let at-start = start c in
+    record { rises = at-start .pre .0; some = omega arith; first = omega (arith, smaller c) }
+
+add-result : tie.Need-add-result
+add-result c = search needs
+
+returns-3 : tie.Need-returns-3
+returns-3 c =
+    let at-start = start (c .before) in
+    let a = at-start .args in
+    start-behind (at-start .pre .0) (c .binary-search .ensures) (omega (arith, smaller (c .before))) (a .place) (at-start .pre .1) refl
 
 pub find-start-spec : {M : Type 1} → statement M
 find-start-spec =
@@ -55,5 +84,9 @@ find-start-spec =
     mul-if2
     shared-slice-read-if2
     returns
+    shared-slice-read-if3
+    returns-2
+    sub-binary-search
     binary-search-requires
-    returns-2)
+    add-result
+    returns-3)

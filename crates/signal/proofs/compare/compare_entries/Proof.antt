@@ -1,0 +1,152 @@
+-- `signal::compare::compare_entries` meets its contract: the records agree exactly where their entries from `k` on do.
+-- Assumes nothing.
+use mathlib.Core.Path.{_≡_}
+use mathlib.Core.Logic.{⊎-elim}
+use Prim.Native.Nat.{_-_, _≤_, _<_}
+use native.Mathlib.Omega.{arith}
+use denote.Ref.{now}
+use borrow.Author.Needs.{needs}
+use borrow.Author.Tests.{ltb-true, ltb-false}
+use Rattle.fst.specs.Record.{Lent}
+use Rattle.signal.specs.Compare.{walked, compareRecords}
+use Rattle.signal.proofs.Comparing.{rest, kept-few, kept-inside, kept-whole, kept-index, walk-starts, walk-on, walk-ends, first-longer, second-longer, both-end}
+use Rattle.signal.proofs.compare.compare_entries.Statement.{statement}
+use Rattle.signal.proofs.compare.compare_entries.Tie as tie
+
+abbrev Inv-loop : tie.InvT-loop
+Inv-loop a a-bytes a-byte-start a-indices a-index-start b b-bytes b-byte-start b-indices b-index-start a-encoding b-encoding k₀ k =
+    let la : Lent = record { bytes = a-bytes; byteStart = a-byte-start; indices = a-indices; indexStart = a-index-start } in
+    let lb : Lent = record { bytes = b-bytes; byteStart = b-byte-start; indices = b-indices; indexStart = b-index-start } in
+    (k ≤ a .count) × (k ≤ b .count) × (compareRecords a la b lb ≡ walked (rest a la k) (rest b lb k))
+
+abbrev μ-loop : tie.MeasureT-loop
+μ-loop a a-bytes a-byte-start a-indices a-index-start b b-bytes b-byte-start b-indices b-index-start a-encoding b-encoding k₀ k = a .count - k
+
+-- the start and the two records' slices
+abbrev start : tie.At-loop Inv-loop μ-loop → tie.Start Inv-loop μ-loop
+start l = l .before .before .before .before .before
+
+abbrev lentA : tie.Start Inv-loop μ-loop → Lent
+lentA s = record { bytes = now (s .args .a-bytes); byteStart = s .args .a-byte-start; indices = now (s .args .a-indices); indexStart = s .args .a-index-start }
+
+abbrev lentB : tie.Start Inv-loop μ-loop → Lent
+lentB s = record { bytes = now (s .args .b-bytes); byteStart = s .args .b-byte-start; indices = now (s .args .b-indices); indexStart = s .args .b-index-start }
+
+-- both records have an entry k
+abbrev turn : tie.Then2 Inv-loop μ-loop → tie.At-loop Inv-loop μ-loop
+turn e = e .before .before .before .before
+
+in-a : (e : tie.Then2 Inv-loop μ-loop) → turn e .loop .k < start (turn e) .args .a .count
+in-a e = e .before .before .if1 .taken
+
+in-b : (e : tie.Then2 Inv-loop μ-loop) → turn e .loop .k < start (turn e) .args .b .count
+in-b e = ltb-true _ _ (e .if2 .taken)
+
+loop-holds : tie.Need-loop-holds Inv-loop μ-loop
+loop-holds c =
+    let s = c .before .before .before .before in
+    (omega arith, omega arith, walk-starts (s .args .a) (lentA s) (s .args .b) (lentB s) (s .pre .0) (s .pre .1))
+
+entry-at-requires : tie.Need-entry-at-requires Inv-loop μ-loop
+entry-at-requires e κs =
+    let s = start (turn e) in
+    kept-inside (s .args .a) (lentA s) (s .pre .0) (turn e .loop .k) (in-a e)
+
+index-at-requires : tie.Need-index-at-requires Inv-loop μ-loop
+index-at-requires c κs =
+    let e = c .before in
+    let s = start (turn e) in
+    kept-index (s .args .a) (lentA s) (s .pre .0) (turn e .loop .k) (in-a e)
+
+entry-at-requires-2 : tie.Need-entry-at-requires-2 Inv-loop μ-loop
+entry-at-requires-2 c κs =
+    let e = c .before .before in
+    let s = start (turn e) in
+    kept-inside (s .args .b) (lentB s) (s .pre .1) (turn e .loop .k) (in-b e)
+
+index-at-requires-2 : tie.Need-index-at-requires-2 Inv-loop μ-loop
+index-at-requires-2 c κs =
+    let e = c .before .before .before in
+    let s = start (turn e) in
+    kept-index (s .args .b) (lentB s) (s .pre .1) (turn e .loop .k) (in-b e)
+
+compare-pair-requires : tie.Need-compare-pair-requires Inv-loop μ-loop
+compare-pair-requires c κs =
+    let e = c .before .before .before .before in
+    let s = start (turn e) in (
+      rw (c .before .before .before .entry-at .ensures) (kept-whole (s .args .a) (lentA s) (s .pre .0) (turn e .loop .k) (in-a e)),
+      rw (c .before .entry-at2 .ensures) (kept-whole (s .args .b) (lentB s) (s .pre .1) (turn e .loop .k) (in-b e)),
+    )
+
+add-k : tie.Need-add-k Inv-loop μ-loop
+add-k c =
+    let e = c .before .before .before .before .before in
+    let s = start (turn e) in
+    omega (arith, in-a e, kept-few (s .args .a) (lentA s) (s .pre .0))
+
+enum-told : tie.Need-enum-told Inv-loop μ-loop
+enum-told c = search needs
+
+loop-less : tie.Need-loop-less Inv-loop μ-loop
+loop-less c = omega (arith, in-a (c .before .before .before .before .before .before .before))
+
+loop-again : tie.Need-loop-again Inv-loop μ-loop
+loop-again c =
+    let m = c .before .before in
+    let e = m .before .before .before .before .before in
+    let s = start (turn e) in (
+      omega (arith, in-a e),
+      omega (arith, in-b e),
+      walk-on (s .args .a) (lentA s) (s .args .b) (lentB s) (s .pre .0) (s .pre .1) (turn e .loop .k) (turn e .loop .inv .2) (in-a e) (in-b e) (m .compare-pair .result) _ _ _ _
+          (m .before .before .before .before .entry-at .ensures) (m .before .before .entry-at2 .ensures) (m .before .before .before .index-at .ensures) (m .before .index-at2 .ensures) (m .compare-pair .ensures) (c .enum-told .given .1),
+    )
+
+returns : tie.Need-returns Inv-loop μ-loop
+returns c =
+    let m = c .before in
+    let e = m .before .before .before .before .before in
+    let s = start (turn e) in
+    walk-ends (s .args .a) (lentA s) (s .args .b) (lentB s) (s .pre .0) (s .pre .1) (turn e .loop .k) (turn e .loop .inv .2) (in-a e) (in-b e) (m .compare-pair .result) _ _ _ _
+    (m .before .before .before .before .entry-at .ensures) (m .before .before .entry-at2 .ensures) (m .before .before .before .index-at .ensures) (m .before .index-at2 .ensures) (m .compare-pair .ensures) (c .match .keys2)
+
+returns-2 : tie.Need-returns-2 Inv-loop μ-loop
+returns-2 c =
+    let j = c .before .before .before in
+    let l = j .before .before in
+    let s = start l in
+    let end = both-end (s .args .a) (lentA s) (s .args .b) (lentB s) (s .pre .0) (s .pre .1) (l .loop .k) (l .loop .inv .2) in
+    ⊎-elim
+    (λ w. let q = ltb-false _ _ (w .2 .left) in end (omega (arith, q, c .if3 .taken)) q)
+    (λ w. end (w .left) (omega (arith, w .left, c .if3 .taken)))
+    (j .if1 .came)
+
+returns-3 : tie.Need-returns-3 Inv-loop μ-loop
+returns-3 c =
+    let j = c .before .before .before in
+    let l = j .before .before in
+    let s = start l in
+    let w = l .loop .inv .2 in
+    ⊎-elim
+    (λ o. first-longer (s .args .a) (lentA s) (s .args .b) (lentB s) (s .pre .0) (s .pre .1) (l .loop .k) w (o .0 .taken) (ltb-false _ _ (o .2 .left)))
+    (λ o. second-longer (s .args .a) (lentA s) (s .args .b) (lentB s) (s .pre .0) (s .pre .1) (l .loop .k) w (o .left) (omega (arith, o .left, l .loop .inv .1, c .if3 .left)))
+    (j .if1 .came)
+
+pub compare-entries-spec : {M : Type 1} → statement M
+compare-entries-spec =
+    tie.close
+    (tie.spec
+    Inv-loop
+    μ-loop
+    loop-holds
+    entry-at-requires
+    index-at-requires
+    entry-at-requires-2
+    index-at-requires-2
+    compare-pair-requires
+    add-k
+    enum-told
+    loop-less
+    loop-again
+    returns
+    returns-2
+    returns-3)
