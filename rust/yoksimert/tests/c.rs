@@ -1,0 +1,35 @@
+//! A program in C that includes the header, is linked with the archive, and runs.
+#![cfg(archive)]
+
+use std::path::Path;
+use std::process::Command;
+
+const EXPECTED: &str = "\
+3: 61
+4: 40 21 84 31
+8: 0 0 0 0 6, 2 entries at 5 7
+9: start 1, 2, unequal, next 9
+12: 41 01
+text: 0 1, compared: 0 equal
+";
+
+#[test]
+fn rows_from_c() {
+    let here = Path::new(env!("CARGO_MANIFEST_DIR"));
+    let program = Path::new(env!("CARGO_TARGET_TMPDIR")).join("rows");
+    let flags = ["-std=c11", "-Wall", "-Wextra", "-Werror", "-pedantic", "-I"];
+    let compiled = Command::new("cc")
+        .args(flags)
+        .arg(here.join("../../include"))
+        .arg(here.join("tests/rows.c"))
+        .arg(here.join("../../target/staticlib/libyoksimert.a"))
+        .arg("-o")
+        .arg(&program)
+        .output()
+        .expect("cc, which links every Rust program, is there");
+    let said = String::from_utf8_lossy(&compiled.stderr);
+    assert!(compiled.status.success(), "{said}");
+    let ran = Command::new(&program).output().expect("the program runs");
+    assert!(ran.status.success());
+    assert_eq!(String::from_utf8_lossy(&ran.stdout), EXPECTED);
+}

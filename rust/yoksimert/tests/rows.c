@@ -1,0 +1,64 @@
+/* Some of document 01's rows through the header, from C. */
+#include "yoksimert.h"
+
+#include <stdio.h>
+#include <string.h>
+
+static const uint8_t *text(const char *string) { return (const uint8_t *)string; }
+
+static void show(const char *row, const uint8_t *bytes, size_t count) {
+    printf("%s:", row);
+    for (size_t at = 0; at < count; at++) printf(" %02X", bytes[at]);
+    printf("\n");
+}
+
+int main(void) {
+    uint8_t bytes[8] = {0};
+    uint32_t indices[4] = {0};
+
+    /* Rows 3 and 4, by value. */
+    yoksimert_made made = yoksimert_fresh(3);
+    yoksimert_added added = yoksimert_add_change(made.description, bytes, 8, 0, indices, 4, 0, 0, text("x01"), 3);
+    show("3", bytes, 1);
+    added = yoksimert_add_change(added.next, bytes, 8, 0, indices, 4, 0, 1, text("hz1"), 3);
+    show("4", bytes, 4);
+
+    /* Row 8, with the recorder lent. */
+    yoksimert_description recorder = {0};
+    uint32_t numbers[5];
+    numbers[0] = yoksimert_recorder_fresh(&recorder, 1);
+    numbers[1] = yoksimert_recorder_add_change(&recorder, bytes, 8, 0, indices, 4, 0, 5, text("0"), 1);
+    numbers[2] = yoksimert_recorder_add_change(&recorder, bytes, 8, 0, indices, 4, 0, 10, text("0"), 1);
+    numbers[3] = yoksimert_recorder_add_change(&recorder, bytes, 8, 0, indices, 4, 0, 7, text("1"), 1);
+    numbers[4] = yoksimert_recorder_add_change(&recorder, bytes, 8, 0, indices, 4, 0, 6, text("0"), 1);
+    printf("8: %u %u %u %u %u, %u entries at %u %u\n", numbers[0], numbers[1], numbers[2], numbers[3], numbers[4], recorder.count, indices[0],
+           indices[1]);
+
+    /* Row 9. */
+    const uint32_t times[4] = {0, 5, 5, 9};
+    yoksimert_offset offset = yoksimert_look_up(times, 4, 6);
+    printf("9: start %zu, %u, %s, next %u\n", offset.start, (unsigned)offset.elements, offset.time_match ? "equal" : "unequal", offset.next_index);
+
+    /* Row 12: a slice of bit 0. */
+    made = yoksimert_fresh(2);
+    added = yoksimert_add_change(made.description, bytes, 8, 0, indices, 4, 0, 0, text("x1"), 2);
+    added = yoksimert_add_change(added.next, bytes, 8, 0, indices, 4, 0, 4, text("01"), 2);
+    uint32_t names[8] = {0};
+    uint64_t pieces[64] = {0};
+    yoksimert_joined joined = yoksimert_concat_left((yoksimert_derivation){0}, names, pieces, 3, 0, 0);
+    yoksimert_inputs inputs;
+    memset(&inputs, 0, sizeof inputs);
+    inputs.count = 1;
+    inputs.inputs[0].description = added.next;
+    uint8_t out[2] = {0};
+    uint32_t out_indices[2] = {0};
+    made = yoksimert_derive(joined.next, names, pieces, inputs, bytes, 8, indices, 4, out, 2, out_indices, 2);
+    show("12", out, made.description.count);
+
+    /* The text of its first entry, and a comparison with itself. */
+    uint8_t string[2] = {0};
+    uint32_t number = yoksimert_text(made.description, out, 2, 0, 0, string, 2);
+    yoksimert_equal equal = yoksimert_compare(made.description, out, 2, 0, out_indices, 2, 0, made.description, out, 2, 0, out_indices, 2, 0);
+    printf("text: %u %s, compared: %u %s\n", number, (const char *)string, equal.number, equal.equal ? "equal" : "unequal");
+    return 0;
+}
