@@ -7,7 +7,7 @@ ghost use Rattle.value.specs.Slice.{part, overlay, same};
 ghost use Rattle.fst.specs.declared.Encoding.the-variants as encoding;
 ghost use Rattle.fst.specs.declared.Verdict.the-variants as verdict;
 ghost use Rattle.layout.specs.Entry.{entrySize, widenEntry, widenAll};
-ghost use Rattle.layout.specs.Writable.{entryFrom};
+ghost use Rattle.layout.specs.Writable.{Numbered, entryFrom};
 ghost use Rattle.fst.specs.Record.{maximum, isBad};
 ghost use Rattle.fst.specs.Change.{text, isBelowLast, repeats, addChange, leftBy};
 ghost use Rattle.fst.specs.Adding.{Levels, Comparable};
@@ -19,8 +19,10 @@ use crate::Verdict;
 use crate::record::is_bad;
 use layout::entry::entry_equals;
 use layout::entry::entry_size;
-use layout::entry::write_entry;
 use layout::expand::expand_entries;
+use layout::number::entry_number;
+use layout::number::equals_entry;
+use layout::number::store_entry;
 use value::States;
 use value::StatesAnswer;
 
@@ -91,21 +93,22 @@ fn repeats_last(
     joint: States,
     states: States,
     value: &[u8],
+    size: usize,
+    number: u64,
     bytes: &[u8],
     byte_start: usize,
     count: u32,
 ) -> bool
-    requires { ⌜ Comparable «max_states» joint states (now value) (length (now bytes)) «byte_start» count ⌝ }
+    requires { ⌜ Comparable «max_states» joint states (now value) (length (now bytes)) «byte_start» count × Numbered joint states (now value) size number ⌝ }
     ensures { λ r. ⌜ r ≡ repeats (entrySize (length (now (value .entry))) joint) count (widenAll (length (now (value .entry))) «max_states» joint count (part «byte_start» (count * entrySize (length (now (value .entry))) «max_states») (now (bytes .entry)))) (entryFrom joint states (now (value .entry))) ⌝ }
 {
     if count == 0 {
         return false;
     }
-    let bits = value.len() as u32;
-    let size = entry_size(max_states, bits);
-    let at = byte_start + (count as usize - 1) * size;
-    if size == entry_size(joint, bits) {
-        entry_equals(joint, states, value, bytes, at)
+    let before = entry_size(max_states, value.len() as u32);
+    let at = byte_start + (count as usize - 1) * before;
+    if before == size {
+        equals_entry(joint, states, value, size, number, bytes, at)
     } else {
         widened_equals(max_states, joint, states, value, bytes, at)
     }
@@ -138,7 +141,19 @@ impl Description {
         let width = value.len() as u32;
         let count = self.count;
         let joint = States::join(max_states, states);
-        let repeat = repeats_last(max_states, joint, states, value, bytes, byte_start, count);
+        let size = entry_size(joint, width);
+        let number = entry_number(joint, states, value, size);
+        let repeat = repeats_last(
+            max_states,
+            joint,
+            states,
+            value,
+            size,
+            number,
+            bytes,
+            byte_start,
+            count,
+        );
         let before = self;
         self = Description {
             encoding: Encoding::BitVector {
@@ -155,8 +170,8 @@ impl Description {
         if repeat {
             return accepted(self);
         }
-        let at = byte_start + entries * entry_size(joint, width);
-        write_entry(joint, states, value, bytes, at);
+        let at = byte_start + entries * size;
+        store_entry(joint, states, value, size, number, bytes, at);
         indices[index_start + entries] = index;
         accepted(self)
     }
