@@ -22,13 +22,13 @@ place : (c : tie.After-entry-size) →
     a .byte-start + (a .count - 1) * c .entry-size .result + c .entry-size .result ≤ length (now (a .bytes))
 place c =
     let x = c .before .before .before .before in
-    rw (c .entry-size .ensures) (last-place (x .args .count) _ (x .args .byte-start) _ (c .before .if1 .left) (x .pre .0 .fits))
+    rw (c .entry-size .ensures) (last-place (x .args .count) _ (x .args .byte-start) _ (c .before .if1 .left) (x .pre .fits))
 
 returns : tie.Need-returns
 returns c = none-repeated _ _ _ _ (c .if1 .taken)
 
-cast-entry-size : tie.Need-cast-entry-size
-cast-entry-size c = search needs
+cast-bits : tie.Need-cast-bits
+cast-bits c = search needs
 
 entry-size-requires : tie.Need-entry-size-requires
 entry-size-requires c κs = search needs
@@ -42,50 +42,51 @@ mul-at c = let p = place c in omega arith
 add-at : tie.Need-add-at
 add-at c = let p = place c in omega arith
 
-equals-entry-requires : tie.Need-equals-entry-requires
-equals-entry-requires c κs =
-    let x = c .before .before .before .before .before in
-    let p = place (c .before) in (
-      record {
-        under = x .pre .0 .under;
-        codes = x .pre .0 .codes;
-        wide = x .pre .0 .wide;
-        short = x .pre .0 .short;
-        fits = omega (arith, x .pre .1 .sized, c .if2 .taken);
-      },
-      x .pre .1,
-    )
+entry-size-requires-2 : tie.Need-entry-size-requires-2
+entry-size-requires-2 c κs = search needs
+
+entry-equals-requires : tie.Need-entry-equals-requires
+entry-equals-requires c κs =
+    let x = c .before .before .before .before .before .before in
+    let p = place (c .before .before) in
+    record {
+      under = x .pre .under;
+      codes = x .pre .codes;
+      wide = x .pre .wide;
+      short = x .pre .short;
+      fits = omega (arith, c .before .entry-size2 .ensures, c .if2 .taken);
+    }
 
 widened-equals-requires : tie.Need-widened-equals-requires
 widened-equals-requires c κs =
-    let x = c .before .before .before .before .before in
-    let p = place (c .before) in
+    let x = c .before .before .before .before .before .before in
+    let p = place (c .before .before) in
     record {
-      under = x .pre .0 .under;
-      up = x .pre .0 .up;
-      codes = x .pre .0 .codes;
-      wide = x .pre .0 .wide;
-      short = x .pre .0 .short;
+      under = x .pre .under;
+      up = x .pre .up;
+      codes = x .pre .codes;
+      wide = x .pre .wide;
+      short = x .pre .short;
       few = omega arith;
-      fits = omega (arith, one-mul (entrySize (length (now (x .args .value))) (x .args .max-states)), c .before .entry-size .ensures);
+      fits = omega (arith, one-mul (entrySize (length (now (x .args .value))) (x .args .max-states)), c .before .before .entry-size .ensures);
     }
 
 returns-2 : tie.Need-returns-2
 returns-2 c =
-    let z = c .before .before in
+    let z = c .before .before .before in
     let x = z .before .before .before .before in
     let a = x .args in
     let w = length (now (a .value)) in
     let b = now (a .bytes) in
     let s = z .entry-size .ensures in
-    let e : entrySize w (a .max-states) ≡ entrySize w (a .joint) = sym s ∙ c .before .if2 .taken ∙ x .pre .1 .sized in
-    c .equals-entry .ensures
+    let e : entrySize w (a .max-states) ≡ entrySize w (a .joint) = sym s ∙ c .before .if2 .taken ∙ c .before .before .entry-size2 .ensures in
+    c .entry-equals .ensures
     ∙ rw (← e, s) (ap (λ (l : List ℕ). same l (entryFrom (a .joint) (a .states) (now (a .value)))) (sym (widen-same w (a .max-states) (a .joint) _ e)))
-    ∙ repeats-widened w (x .pre .0 .wide) (a .max-states) (a .joint) (x .pre .0 .up) (a .count) (a .byte-start) b _ (z .before .if1 .left) (x .pre .0 .fits)
+    ∙ repeats-widened w (x .pre .wide) (a .max-states) (a .joint) (x .pre .up) (a .count) (a .byte-start) b _ (z .before .if1 .left) (x .pre .fits)
 
 returns-3 : tie.Need-returns-3
 returns-3 c =
-    let z = c .before .before in
+    let z = c .before .before .before in
     let x = z .before .before .before .before in
     let a = x .args in
     let w = length (now (a .value)) in
@@ -96,19 +97,20 @@ returns-3 c =
     same (widenEntry w (a .max-states) (a .joint) (part (a .byte-start + (a .count - 1) * k) (entrySize w (a .max-states)) b))
     (entryFrom (a .joint) (a .states) (now (a .value))))
     (z .entry-size .ensures)
-    ∙ repeats-widened w (x .pre .0 .wide) (a .max-states) (a .joint) (x .pre .0 .up) (a .count) (a .byte-start) b _ (z .before .if1 .left) (x .pre .0 .fits)
+    ∙ repeats-widened w (x .pre .wide) (a .max-states) (a .joint) (x .pre .up) (a .count) (a .byte-start) b _ (z .before .if1 .left) (x .pre .fits)
 
 pub repeats-last-spec : {M : Type 1} → statement M
 repeats-last-spec =
     tie.close
     (tie.spec
     returns
-    cast-entry-size
+    cast-bits
     entry-size-requires
     sub-at
     mul-at
     add-at
-    equals-entry-requires
+    entry-size-requires-2
+    entry-equals-requires
     widened-equals-requires
     returns-2
     returns-3)

@@ -1,6 +1,6 @@
--- `fst::Description::add_levels` meets its contract.
+-- `fst::Description::raise_levels` meets its contract.
 -- Assumes nothing.
-use mathlib.Core.Path.{_≡_, refl, sym, ap, ap₂, subst, _∙_}
+use mathlib.Core.Path.{_≡_, refl, sym, ap, ap₂, _∙_}
 use mathlib.Core.Bool.{Bool, false, cond}
 use mathlib.Core.List.{List}
 use Prim.Native.Nat.{ℕ, _+_, _*_, _≤_, _<_}
@@ -20,8 +20,8 @@ use Rattle.layout.specs.Writable.{entryFrom}
 use Rattle.fst.proofs.Adding.{standing}
 use Rattle.fst.proofs.AddingStrings.{wide, comparable, widenable, roomier, writable, levels-full, levels-stay, levels-grow}
 use borrow.Author.Needs.{needs}
-use Rattle.fst.proofs.Description.add_levels.Statement.{statement}
-use Rattle.fst.proofs.Description.add_levels.Tie as tie
+use Rattle.fst.proofs.Description.raise_levels.Statement.{statement}
+use Rattle.fst.proofs.Description.raise_levels.Tie as tie
 
 -- the slices that are lent
 abbrev lent : tie.Start → Lent
@@ -31,30 +31,16 @@ lent x = record { bytes = now (x .args .bytes); byteStart = x .args .byte-start;
 few-indices : (x : tie.Start) → length (now (x .args .indices)) * 4 < 18446744073709551616
 few-indices x = omega arith
 
-few-bytes : (x : tie.Start) → length (now (x .args .bytes)) < 18446744073709551616
-few-bytes x = omega arith
-
--- a product and its sum with a start, below a bound
-product : (a n k b : ℕ) → a + n * k + k ≤ b → b < 18446744073709551616 → (n * k < 18446744073709551616) × (a + n * k < 18446744073709551616)
-product a n k b h l = omega arith
-
 -- what is known once the room is tried
 module _ (z : tie.After-is-bad) where
   abbrev start : tie.Start
-  start = z .before .before .before .before .before .before .before .before .before .before .before .before
+  start = z .before .before .before .before .before .before .before .before .before .before
 
   abbrev joint : States
-  joint = z .before .before .before .before .before .before .before .before .join .result
+  joint = z .before .before .before .before .before .before .join .result
 
   joined : joint ≡ join (start .args .max-states) (start .args .states)
-  joined = z .before .before .before .before .before .before .before .before .join .ensures
-
-  -- the new entry's size, and its number where it is short
-  abbrev size : ℕ
-  size = z .before .before .before .before .before .before .before .entry-size .result
-
-  sized : size ≡ entrySize (length (now (start .args .value))) joint
-  sized = z .before .before .before .before .before .before .before .entry-size .ensures
+  joined = z .before .before .before .before .before .before .join .ensures
 
   abbrev repeat : Bool
   repeat = z .before .before .before .before .repeats-last .result
@@ -81,13 +67,10 @@ module _ (z : tie.After-is-bad) where
   places h e = roomier (start .args .self) (lent start) (start .args .index) (now (start .args .value)) (start .args .max-states) (start .args .states) joint (start .pre) joined repeat told next counted (roomy h) e
 
 -- the new entry's place
-place : (c : tie.Else2) →
-    let x = start (c .before .before .before .before .before .before) in
-    x .args .byte-start + x .args .self .count * c .before .before .before .before .before .before .before .before .before .before .before .before .before .entry-size .result + c .before .before .before .before .before .before .before .before .before .before .before .before .before .entry-size .result ≤ length (now (x .args .bytes))
-place c =
-    let z = c .before .before .before .before .before .before in
-    let a = (start z) .args in
-    subst (λ (k : ℕ). a .byte-start + a .self .count * k + k ≤ length (now (a .bytes))) (sym (sized z)) ((places z (c .before .before .before .before .before .if1 .left) (c .if2 .left)) .0)
+place : (c : tie.After-entry-size) →
+    let x = start (c .before .before .before .before .before .before .before) in
+    x .args .byte-start + x .args .self .count * c .entry-size .result + c .entry-size .result ≤ length (now (x .args .bytes))
+place c = rw (c .entry-size .ensures) ((places (c .before .before .before .before .before .before .before) (c .before .before .before .before .before .before .if1 .left) (c .before .if2 .left)) .0)
 
 cast-width : tie.Need-cast-width
 cast-width c =
@@ -98,30 +81,14 @@ cast-width c =
 join-requires : tie.Need-join-requires
 join-requires c κs = search needs
 
-entry-size-requires : tie.Need-entry-size-requires
-entry-size-requires c κs = search needs
-
-entry-number-requires : tie.Need-entry-number-requires
-entry-number-requires c κs =
-    let j = c .before in
-    let x = j .before .before .before .before in
-    let p = comparable (x .args .self) (lent x) (x .args .index) (now (x .args .value)) (x .args .max-states) (x .args .states) _ (x .pre) (j .join .ensures) in (
-      record { under = p .under; codes = p .codes; wide = p .wide; short = p .short; fits = omega (arith, c .entry-size .ensures) },
-      c .entry-size .ensures,
-    )
-
 repeats-last-requires : tie.Need-repeats-last-requires
 repeats-last-requires c κs =
-    let n = c .before in
-    let j = n .before .before in
-    let x = j .before .before .before .before in (
-      comparable (x .args .self) (lent x) (x .args .index) (now (x .args .value)) (x .args .max-states) (x .args .states) _ (x .pre) (j .join .ensures),
-      n .entry-number .ensures,
-    )
+    let x = c .before .before .before .before .before in
+    comparable (x .args .self) (lent x) (x .args .index) (now (x .args .value)) (x .args .max-states) (x .args .states) _ (x .pre) (c .before .join .ensures)
 
 next-count-requires : tie.Need-next-count-requires
 next-count-requires c κs =
-    let x = c .before .before .before .before .before .before .before .before in
+    let x = c .before .before .before .before .before .before in
     (standing (x .args .self) (lent x) (x .pre .admitted .sound)) .count
 
 is-bad-requires : tie.Need-is-bad-requires
@@ -168,31 +135,32 @@ returns-2 c =
     ap₂ (λ (r : Added) (b : List ℕ). leftBy r b (now (x .args .indices))) (c .accepted .ensures) (c .before .before .before .before .expand-entries .ensures)
     ∙ levels-stay (x .args .self) (lent x) (x .args .index) (now (x .args .value)) (x .args .max-states) (x .args .states) (joint z) (x .pre) (joined z) (repeat z) (told z) (next z) (counted z) (roomy z (c .before .before .before .before .before .before .if1 .left)) (c .before .if2 .taken)
 
+entry-size-requires : tie.Need-entry-size-requires
+entry-size-requires c κs = search needs
+
 mul-at : tie.Need-mul-at
-mul-at c = record { fits = (product _ _ _ _ (place c) (few-bytes (start (c .before .before .before .before .before .before)))) .0 }
+mul-at c = let p = place c in omega arith
 
 add-at : tie.Need-add-at
-add-at c = record { fits = (product _ _ _ _ (place c) (few-bytes (start (c .before .before .before .before .before .before)))) .1 }
+add-at c = let p = place c in omega arith
 
-store-entry-requires : tie.Need-store-entry-requires
-store-entry-requires c κs =
-    let z = c .before .before .before .before .before .before .before in
-    let x = start z in (
-      writable (x .args .self) (lent x) (x .args .index) (now (x .args .value)) (x .args .max-states) (x .args .states) (joint z) (x .pre) (joined z) (repeat z) (told z) (next z) (counted z) (roomy z (c .before .before .before .before .before .before .if1 .left)) (c .before .if2 .left) _ _ (c .before .before .before .before .expand-entries .kept .1 .1 .0)
-          (ap (λ (k : ℕ). x .args .byte-start + x .args .self .count * k) (sized z)),
-      z .before .before .before .before .before .before .entry-number .ensures,
-    )
+write-entry-requires : tie.Need-write-entry-requires
+write-entry-requires c κs =
+    let z = c .before .before .before .before .before .before .before .before in
+    let x = start z in
+    writable (x .args .self) (lent x) (x .args .index) (now (x .args .value)) (x .args .max-states) (x .args .states) (joint z) (x .pre) (joined z) (repeat z) (told z) (next z) (counted z) (roomy z (c .before .before .before .before .before .before .before .if1 .left)) (c .before .before .if2 .left) _ _ (c .before .before .before .before .before .expand-entries .kept .1 .1 .0)
+    (ap (λ (k : ℕ). x .args .byte-start + x .args .self .count * k) (c .before .entry-size .ensures))
 
 index-in : (c : tie.After-slice-known4) →
-    let x = start (c .before .before .before .before .before .before .before .before .before .before) in
+    let x = start (c .before .before .before .before .before .before .before .before .before .before .before) in
     x .args .index-start + x .args .self .count < length (now (x .args .indices))
-index-in c = (places (c .before .before .before .before .before .before .before .before .before .before) (c .before .before .before .before .before .before .before .before .before .if1 .left) (c .before .before .before .before .if2 .left)) .1
+index-in c = (places (c .before .before .before .before .before .before .before .before .before .before .before) (c .before .before .before .before .before .before .before .before .before .before .if1 .left) (c .before .before .before .before .before .if2 .left)) .1
 
 add-indices : tie.Need-add-indices
-add-indices c = let p = index-in c in omega (arith, few-indices (start (c .before .before .before .before .before .before .before .before .before .before)))
+add-indices c = let p = index-in c in omega (arith, few-indices (start (c .before .before .before .before .before .before .before .before .before .before .before)))
 
 mul-indices : tie.Need-mul-indices
-mul-indices c = let p = index-in c in omega (arith, few-indices (start (c .before .before .before .before .before .before .before .before .before .before)))
+mul-indices c = let p = index-in c in omega (arith, few-indices (start (c .before .before .before .before .before .before .before .before .before .before .before)))
 
 slice-write-indices : tie.Need-slice-write-indices
 slice-write-indices c = index-in c
@@ -208,25 +176,23 @@ same-length-6 c = search needs
 
 returns-3 : tie.Need-returns-3
 returns-3 c =
-    let z = c .before .before .before .before .before .before .before .before .before .before .before in
+    let z = c .before .before .before .before .before .before .before .before .before .before .before .before in
     let x = start z in
-    let w = c .before .before .before .store-entry in
+    let w = c .before .before .before .write-entry in
     ap₂ (λ (r : Added) (b : List ℕ). leftBy r b (set (now (x .args .indices)) (x .args .index-start + x .args .self .count) (x .args .index))) (c .accepted2 .ensures)
-    (w .ensures
+    (w .ensures .1
     ∙ ap₂
     (λ (b : List ℕ) (k : ℕ).
     overlay b (x .args .byte-start + x .args .self .count * k) (entryFrom (joint z) (x .args .states) (now (x .args .value))))
-    (c .before .before .before .before .before .before .before .before .expand-entries .ensures) (sized z))
-    ∙ levels-grow (x .args .self) (lent x) (x .args .index) (now (x .args .value)) (x .args .max-states) (x .args .states) (joint z) (x .pre) (joined z) (repeat z) (told z) (next z) (counted z) (roomy z (c .before .before .before .before .before .before .before .before .before .before .if1 .left)) (c .before .before .before .before .before .if2 .left)
+    (c .before .before .before .before .before .before .before .before .before .expand-entries .ensures) (c .before .before .before .before .before .entry-size .ensures))
+    ∙ levels-grow (x .args .self) (lent x) (x .args .index) (now (x .args .value)) (x .args .max-states) (x .args .states) (joint z) (x .pre) (joined z) (repeat z) (told z) (next z) (counted z) (roomy z (c .before .before .before .before .before .before .before .before .before .before .before .if1 .left)) (c .before .before .before .before .before .before .if2 .left)
 
-pub add-levels-spec : {M : Type 1} → statement M
-add-levels-spec =
+pub raise-levels-spec : {M : Type 1} → statement M
+raise-levels-spec =
     tie.close
     (tie.spec
     cast-width
     join-requires
-    entry-size-requires
-    entry-number-requires
     repeats-last-requires
     next-count-requires
     is-bad-requires
@@ -240,9 +206,10 @@ add-levels-spec =
     same-length-3
     same-length-4
     returns-2
+    entry-size-requires
     mul-at
     add-at
-    store-entry-requires
+    write-entry-requires
     add-indices
     mul-indices
     slice-write-indices
