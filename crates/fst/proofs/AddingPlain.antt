@@ -1,20 +1,23 @@
 -- What Add a change leaves of a string for an event, and of a real.
 -- Assumes nothing.
-use mathlib.Core.Path.{_≡_, sym, ap, _∙_}
-use mathlib.Core.Bool.{Bool, true, false}
+use mathlib.Core.Path.{_≡_, refl, sym, ap, _∙_}
+use mathlib.Core.Bool.{Bool, true, false, not, _&&_}
 use mathlib.Core.List.{List, [], _∷_, _++_, reverse, append-nil}
-use Prim.Native.Nat.{ℕ, _+_, _*_, _≤_, _<_}
+use Prim.Native.Nat.{ℕ, _+_, _-_, _*_, _≤_, _<_}
+use native.Mathlib.Nat.{suc-mul}
 use native.Mathlib.Numerals.{add-one}
 use native.Mathlib.Omega.{arith}
-use borrow.Author.Tests.{lt-ltb, le-ltb}
+use lib.Dec.{eqb, leb}
+use borrow.Author.Tests.{lt-ltb, le-ltb, lt-leb, le-leb, eq-eqb, ne-eqb}
 use lib.ListN.{length, set}
 use Rattle.value.specs.Digits.{digits}
 use Rattle.value.specs.Slice.{part, overlay}
+use Rattle.value.proofs.Tests.{by-eq}
 use Rattle.value.proofs.Slices.{overlay-nil, overlay-part}
 use Rattle.fst.specs.declared.Encoding.{Encoding}
 use Rattle.fst.specs.declared.Encoding.the-variants.{Event, Real}
 use Rattle.fst.specs.declared.Description.{Description}
-use Rattle.fst.specs.Record.{Lent, Kept, sizeOf, usedSize, keptIn, isBad}
+use Rattle.fst.specs.Record.{Lent, Kept, maximum, sizeOf, usedSize, keptIn, fitsBytes, fits, isBad}
 use Rattle.fst.specs.Change.{Change, text, real, isOtherKind, isOtherLength, isForeign, repeats, appended, changed, withChange, stored, addChange}
 use Rattle.fst.specs.Adding.{Admitted}
 use Rattle.fst.proofs.Records.{not-bad}
@@ -24,9 +27,52 @@ use Rattle.fst.proofs.Adding.{standing, refusedWith, acceptedWith, Suit
 abbrev pub oneMore : Description → Description
 oneMore d = record { encoding = d .encoding; count = d .count + 1 }
 
+-- ---- nothing more, and room for one more
+
+module _ (d : Description) (l : Lent) (sound : isBad d l ≡ false) where
+  abbrev used : ℕ
+  used = l .byteStart + usedSize d
+
+  more-used : l .byteStart + usedSize (oneMore d) ≡ used + sizeOf (d .encoding)
+  more-used = omega (arith, ap (λ (n : ℕ). n * sizeOf (d .encoding)) (add-one (d .count)), suc-mul (d .count) (sizeOf (d .encoding)))
+
+  -- the record as it was
+  pub same-stored : stored l (keptIn d l) ≡ record { description = d; bytes = l .bytes; indices = l .indices }
+  unfolding keptIn
+  same-stored =
+      let f = standing d l sound in
+      stored-same l d (d .count) (part (l .byteStart) (usedSize d) (l .bytes)) (f .indices) ∙ rw (overlay-part (l .bytes) (l .byteStart) (usedSize d) (f .bytes))
+
+  -- by the outcomes of the three tests
+  by-tests : (x y z : Bool) → leb (d .count + 1) maximum ≡ x → leb (l .byteStart + usedSize (oneMore d)) (length (l .bytes)) ≡ y
+      → leb (l .indexStart + (d .count + 1)) (length (l .indices)) ≡ z → not (x && y && z) ≡ isBad (oneMore d) l
+  unfolding isBad fits fitsBytes
+  by-tests x y z a b c = rw ((not-bad d l sound) .0, a, b, c)
+
+  pub most : d .count ≡ maximum → true ≡ isBad (oneMore d) l
+  most h = by-tests false _ _ (lt-leb (d .count + 1) maximum (omega arith)) refl refl
+
+  module _ (fewer : d .count ≡ maximum → ⊥) where
+    one-more : leb (d .count + 1) maximum ≡ true
+    one-more = le-leb (d .count + 1) maximum (omega (arith, (standing d l sound) .count))
+
+    pub no-bytes : length (l .bytes) - used < sizeOf (d .encoding) → true ≡ isBad (oneMore d) l
+    no-bytes h =
+        by-tests true false _ one-more (lt-leb (l .byteStart + usedSize (oneMore d)) (length (l .bytes)) (omega (arith, more-used, (standing d l sound) .bytes))) refl
+
+    pub by-indices : sizeOf (d .encoding) ≤ length (l .bytes) - used → eqb (length (l .indices) - l .indexStart) (d .count) ≡ isBad (oneMore d) l
+    by-indices h =
+        let f = standing d l sound in
+        let b : leb (l .byteStart + usedSize (oneMore d)) (length (l .bytes)) ≡ true =
+        le-leb (l .byteStart + usedSize (oneMore d)) (length (l .bytes)) (omega (arith, more-used, f .bytes)) in
+        let i = f .indices in
+        by-eq (length (l .indices) - l .indexStart) (d .count)
+        (λ e. eq-eqb _ _ e ∙ by-tests true true false one-more b (lt-leb (l .indexStart + (d .count + 1)) (length (l .indices)) (omega arith)))
+        (λ n. ne-eqb _ _ n ∙ by-tests true true true one-more b (le-leb (l .indexStart + (d .count + 1)) (length (l .indices)) (omega arith)))
+
 -- a change that is kept as some bytes behind the others, with its index
 module _ (d : Description) (l : Lent) (i : ℕ) (c : Change) (a : Admitted d l i c) (new : List ℕ) where
-  abbrev behind : Kept
+  abbrev pub behind : Kept
   behind =
       record {
         description = oneMore d;
@@ -35,10 +81,10 @@ module _ (d : Description) (l : Lent) (i : ℕ) (c : Change) (a : Admitted d l i
       }
 
   module _ (kept : withChange (keptIn d l) i c ≡ behind) where
-    kept-full : isBad (oneMore d) l ≡ true → refusedWith d l i c 7 ≡ addChange d l i c
+    pub kept-full : isBad (oneMore d) l ≡ true → refusedWith d l i c 7 ≡ addChange d l i c
     kept-full h = seven d l i c a behind kept ((not-bad d l (a .sound)) .0) h
 
-    kept-more : isBad (oneMore d) l ≡ false
+    pub kept-more : isBad (oneMore d) l ≡ false
         → acceptedWith d l i c
         (record {
           description = oneMore d;
@@ -116,15 +162,9 @@ module _ (d : Description) (l : Lent) (i x : ℕ) (sound : isBad d l ≡ false) 
     unfolding keptIn changed appended
     real-same e = rw (isReal, ← e)
 
-    real-stored : stored l (keptIn d l) ≡ record { description = d; bytes = l .bytes; indices = l .indices }
-    unfolding keptIn
-    real-stored =
-        let f = standing d l sound in
-        stored-same l d (d .count) (part (l .byteStart) (usedSize d) (l .bytes)) (f .indices) ∙ rw (overlay-part (l .bytes) (l .byteStart) (usedSize d) (f .bytes))
-
     pub real-stays : true ≡ repeated → acceptedWith d l i (real x) (record { description = d; bytes = l .bytes; indices = l .indices }) ≡ addChange d l i (real x)
     unfolding keptIn
-    real-stays e = accepted d l i (real x) a (keptIn d l) (real-same e) _ real-stored sound
+    real-stays e = accepted d l i (real x) a (keptIn d l) (real-same e) _ (same-stored d l sound) sound
 
     pub real-full : false ≡ repeated → isBad (oneMore d) l ≡ true → refusedWith d l i (real x) 7 ≡ addChange d l i (real x)
     real-full e h = kept-full d l i (real x) a (realBytes x) (real-kept e) h

@@ -15,7 +15,7 @@ use Rattle.value.specs.declared.StatesAnswer.the-variants as answer
 use Rattle.value.specs.Slice.{part, overlay}
 use Rattle.value.specs.Level.{markOf, codesOf, foldAll, hasNoCode, leastOf, join}
 use Rattle.value.specs.Answer.{leastStates}
-use Rattle.value.proofs.Levels.{mark-join, all-below}
+use Rattle.value.proofs.Levels.{mark-inj, mark-join, all-below}
 use Rattle.value.proofs.Levels as levels
 use Rattle.value.proofs.Slices.{part-length}
 use Rattle.wavemem.specs.Packed.{Codes}
@@ -25,11 +25,12 @@ use Rattle.fst.specs.declared.Description.{Description}
 use Rattle.layout.specs.Entry.{entrySize, entryOf, widenAll}
 use Rattle.layout.specs.Writable.{Writable}
 use Rattle.layout.specs.Expand.{Widenable}
-use Rattle.fst.specs.Record.{Lent, Kept, keptIn, widthStands, isBad}
+use Rattle.fst.specs.Record.{Lent, Kept, sizeOf, keptIn, widthStands, isBad}
 use Rattle.fst.specs.Change.{text, isOtherKind, isOtherLength, isForeign, repeats, appended, changed, withChange, addChange}
 use Rattle.fst.specs.Adding.{Admitted, Levels, Comparable}
-use Rattle.layout.proofs.Sizes.{widen-all-length}
+use Rattle.layout.proofs.Sizes.{widen-all-same, widen-all-length}
 use Rattle.fst.proofs.Records.{not-bad}
+use Rattle.fst.proofs.AddingPlain.{oneMore, same-stored, behind, kept-full, kept-more}
 use Rattle.fst.proofs.Adding.{standing, width-known, width-any, refusedWith, acceptedWith, Suited, four, five, seven, accepted, indicesKept, stored-same, stored-more}
 
 -- ---- what the least set of a string says
@@ -248,3 +249,73 @@ module _ (d : Description) (l : Lent) (i : ℕ) (s : List ℕ) (M own J : States
           ∙ accepted d l i (text s) (v .admitted) (kept false) (with-levels false (sym e ∙ told)) _
           (stored-more l (under (suc n)) n (n * entrySize w J) i wide entry x (omega (arith, (roomier e) .0)) ((roomier e) .1))
           (ap (λ (d : Description). isBad d l) (sym q) ∙ roomy)
+
+-- ---- a string that raises no set
+
+module _ (d : Description) (l : Lent) (i : ℕ) (s : List ℕ) (M own : States) (v : Levels d l i M own s) (low : markOf own ≤ markOf M) where
+  joined : M ≡ join M own
+  joined = mark-inj M (join M own) (omega (arith, mark-join M own))
+
+  pub same-comparable : Comparable M M own s (length (l .bytes)) (l .byteStart) (d .count)
+  same-comparable = comparable d l i s M own M v joined
+
+  -- the bytes as they are, and whether their last entry is the string's
+  abbrev kept-bytes : List ℕ
+  kept-bytes = part (l .byteStart) (d .count * entrySize (length s) M) (l .bytes)
+
+  abbrev pub new : List ℕ
+  new = entryOf (length s) M own (codesOf (foldAll s))
+
+  abbrev pub repeated : Bool
+  repeated = repeats (entrySize (length s) M) (d .count) kept-bytes new
+
+  stay : widenAll (length s) M M (d .count) kept-bytes ≡ kept-bytes
+  stay = widen-all-same (length s) M M refl (d .count) kept-bytes (part-length (l .bytes) (l .byteStart) _ (room-here d l i s M own M v joined))
+
+  append-kept : false ≡ repeated → withChange (keptIn d l) i (text s) ≡ behind d l i (text s) (v .admitted) new
+  unfolding keptIn changed appended
+  append-kept e = rw (v .vector, ← v .least, ← joined, stay, ← e, add-one)
+
+  append-same : true ≡ repeated → withChange (keptIn d l) i (text s) ≡ keptIn d l
+  unfolding keptIn changed appended
+  append-same e = rw (v .vector, ← v .least, ← joined, stay, ← e)
+
+  pub append-stays : true ≡ repeated → acceptedWith d l i (text s) (record { description = d; bytes = l .bytes; indices = l .indices }) ≡ addChange d l i (text s)
+  unfolding keptIn
+  append-stays e = accepted d l i (text s) (v .admitted) (keptIn d l) (append-same e) _ (same-stored d l (v .admitted .sound)) (v .admitted .sound)
+
+  pub append-full : false ≡ repeated → isBad (oneMore d) l ≡ true → refusedWith d l i (text s) 7 ≡ addChange d l i (text s)
+  append-full e h = kept-full d l i (text s) (v .admitted) new (append-kept e) h
+
+  pub append-more : false ≡ repeated → isBad (oneMore d) l ≡ false
+      → acceptedWith d l i (text s)
+      (record {
+        description = oneMore d;
+        bytes = overlay (l .bytes) (l .byteStart + d .count * entrySize (length s) M) new;
+        indices = set (l .indices) (l .indexStart + d .count) i;
+      })
+      ≡ addChange d l i (text s)
+  append-more e h =
+      ap
+      (λ (k : Encoding).
+      acceptedWith d l i (text s)
+      (record {
+        description = oneMore d;
+        bytes = overlay (l .bytes) (l .byteStart + d .count * sizeOf k) new;
+        indices = set (l .indices) (l .indexStart + d .count) i;
+      }))
+      (sym (v .vector))
+      ∙ kept-more d l i (text s) (v .admitted) new (append-kept e) h
+
+  -- room for one more
+  pub append-roomier : isBad (oneMore d) l ≡ false
+      → (l .byteStart + d .count * entrySize (length s) M + entrySize (length s) M ≤ length (l .bytes)) × (l .indexStart + d .count < length (l .indices))
+  append-roomier h =
+      let f = standing (oneMore d) l h in
+      let S = entrySize (length s) M in
+      let b : l .byteStart + (d .count + 1) * S ≤ length (l .bytes) = rw (v .vector) at (f .bytes) in
+      let e : (d .count + 1) * S ≡ d .count * S + S = ap (λ (n : ℕ). n * S) (add-one (d .count)) ∙ suc-mul (d .count) S in
+      (omega arith, omega (arith, f .indices))
+
+  pub append-size : sizeOf (d .encoding) ≡ entrySize (length s) M
+  append-size = ap sizeOf (v .vector)

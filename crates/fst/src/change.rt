@@ -6,8 +6,9 @@ ghost use lib.ListN.{length};
 ghost use Rattle.value.specs.Slice.{part, overlay, same};
 ghost use Rattle.fst.specs.declared.Encoding.the-variants as encoding;
 ghost use Rattle.fst.specs.declared.Verdict.the-variants as verdict;
+ghost use Rattle.value.specs.Level.{markOf};
 ghost use Rattle.layout.specs.Entry.{entrySize, widenEntry, widenAll};
-ghost use Rattle.layout.specs.Writable.{entryFrom};
+ghost use Rattle.layout.specs.Writable.{Numbered, entryFrom};
 ghost use Rattle.fst.specs.Record.{maximum, isBad};
 ghost use Rattle.fst.specs.Change.{text, isBelowLast, repeats, addChange, leftBy};
 ghost use Rattle.fst.specs.Adding.{Levels, Comparable};
@@ -17,10 +18,14 @@ use crate::Encoding;
 use crate::Refusal;
 use crate::Verdict;
 use crate::record::is_bad;
+use crate::record::lacks_room;
 use layout::entry::entry_equals;
 use layout::entry::entry_size;
 use layout::entry::write_entry;
 use layout::expand::expand_entries;
+use layout::number::entry_number;
+use layout::number::equals_entry;
+use layout::number::store_entry;
 use value::States;
 use value::StatesAnswer;
 
@@ -111,6 +116,27 @@ fn repeats_last(
     }
 }
 
+// Whether a string repeats the last of `count` entries of a size.
+fn repeats_number(
+    max_states: States,
+    states: States,
+    value: &[u8],
+    size: usize,
+    number: u64,
+    bytes: &[u8],
+    byte_start: usize,
+    count: u32,
+) -> bool
+    requires { ⌜ Comparable «max_states» «max_states» states (now value) (length (now bytes)) «byte_start» count × Numbered «max_states» states (now value) size number ⌝ }
+    ensures { λ r. ⌜ r ≡ repeats (entrySize (length (now (value .entry))) «max_states») count (part «byte_start» (count * entrySize (length (now (value .entry))) «max_states») (now (bytes .entry))) (entryFrom «max_states» states (now (value .entry))) ⌝ }
+{
+    if count == 0 {
+        return false;
+    }
+    let at = byte_start + (count as usize - 1) * size;
+    equals_entry(max_states, states, value, size, number, bytes, at)
+}
+
 // The entries with a change.
 fn next_count(count: u32, repeat: bool) -> u32
     requires { ⌜ count ≤ maximum ⌝ }
@@ -120,8 +146,8 @@ fn next_count(count: u32, repeat: bool) -> u32
 }
 
 impl Description {
-    // Number 7, and what is stored. The room is that of the record with the change.
-    fn add_levels(
+    // Number 7, and what is stored, of a string of any set. The room is that of the record with the change.
+    fn raise_levels(
         mut self,
         max_states: States,
         states: States,
@@ -159,6 +185,92 @@ impl Description {
         write_entry(joint, states, value, bytes, at);
         indices[index_start + entries] = index;
         accepted(self)
+    }
+
+    // The same of a string that raises no set: the entries stay as they are, and a repeat needs no room.
+    fn append_levels(
+        mut self,
+        max_states: States,
+        states: States,
+        bytes: &mut [u8],
+        byte_start: usize,
+        indices: &mut [u32],
+        index_start: usize,
+        index: u32,
+        value: &[u8],
+    ) -> Added
+        requires { ⌜ Levels self (record { bytes = now bytes; byteStart = «byte_start»; indices = now indices; indexStart = «index_start» }) index «max_states» states (now value) × (markOf states ≤ markOf «max_states») ⌝ }
+        ensures { λ r. ⌜ leftBy r (now (bytes .exit)) (now (indices .exit)) ≡ addChange self (record { bytes = now (bytes .entry); byteStart = «byte_start»; indices = now (indices .entry); indexStart = «index_start» }) index (text (now (value .entry))) ⌝ }
+    {
+        let count = self.count;
+        let size = entry_size(max_states, value.len() as u32);
+        let number = entry_number(max_states, states, value, size);
+        if repeats_number(
+            max_states,
+            states,
+            value,
+            size,
+            number,
+            bytes,
+            byte_start,
+            count,
+        ) {
+            return accepted(self);
+        }
+        if lacks_room(self, size, bytes, byte_start, indices, index_start) {
+            return refused(self, Refusal::NoRoom);
+        }
+        self.count += 1;
+        let entries = count as usize;
+        store_entry(
+            max_states,
+            states,
+            value,
+            size,
+            number,
+            bytes,
+            byte_start + entries * size,
+        );
+        indices[index_start + entries] = index;
+        accepted(self)
+    }
+
+    fn add_levels(
+        self,
+        max_states: States,
+        states: States,
+        bytes: &mut [u8],
+        byte_start: usize,
+        indices: &mut [u32],
+        index_start: usize,
+        index: u32,
+        value: &[u8],
+    ) -> Added
+        requires { ⌜ Levels self (record { bytes = now bytes; byteStart = «byte_start»; indices = now indices; indexStart = «index_start» }) index «max_states» states (now value) ⌝ }
+        ensures { λ r. ⌜ leftBy r (now (bytes .exit)) (now (indices .exit)) ≡ addChange self (record { bytes = now (bytes .entry); byteStart = «byte_start»; indices = now (indices .entry); indexStart = «index_start» }) index (text (now (value .entry))) ⌝ }
+    {
+        if max_states.mark() < states.mark() {
+            return self.raise_levels(
+                max_states,
+                states,
+                bytes,
+                byte_start,
+                indices,
+                index_start,
+                index,
+                value,
+            );
+        }
+        self.append_levels(
+            max_states,
+            states,
+            bytes,
+            byte_start,
+            indices,
+            index_start,
+            index,
+            value,
+        )
     }
 
     // Numbers 4 to 6 of a string for a bit vector.

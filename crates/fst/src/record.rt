@@ -1,10 +1,10 @@
 // Fresh records, and what a description asks of the slices that it is lent with.
 ghost use mathlib.Core.Path.{_≡_};
-ghost use mathlib.Core.Bool.{_&&_};
+ghost use mathlib.Core.Bool.{_&&_, false};
 ghost use Prim.Native.Nat.{_+_, _*_, _≤_};
 ghost use lib.Dec.{leb};
 ghost use Rattle.fst.specs.Refusal.{madeOf};
-ghost use Rattle.fst.specs.Record.{maximum, isBadBytes, isBad, fresh, freshReal};
+ghost use Rattle.fst.specs.Record.{maximum, sizeOf, isBadBytes, isBad, fresh, freshReal};
 use crate::Description;
 use crate::Encoding;
 use crate::Made;
@@ -99,4 +99,27 @@ pub fn is_bad(
         return true;
     }
     indices.len() - index_start < description.count as usize
+}
+
+// Number 7 of one entry more, where the record is not bad and its entries have a size.
+pub fn lacks_room(
+    description: Description,
+    size: usize,
+    bytes: &[u8],
+    byte_start: usize,
+    indices: &[u32],
+    index_start: usize,
+) -> bool
+    requires { ⌜ (isBad description (record { bytes = now bytes; byteStart = «byte_start»; indices = now indices; indexStart = «index_start» }) ≡ false) × (size ≡ sizeOf (description .encoding)) ⌝ }
+    ensures { λ r. ⌜ r ≡ isBad (record { encoding = description .encoding; count = description .count + 1 }) (record { bytes = now (bytes .entry); byteStart = «byte_start»; indices = now (indices .entry); indexStart = «index_start» }) ⌝ }
+{
+    let count = description.count;
+    if count == MAXIMUM {
+        return true;
+    }
+    let entries = count as usize;
+    if bytes.len() - (byte_start + entries * size) < size {
+        return true;
+    }
+    indices.len() - index_start == entries
 }

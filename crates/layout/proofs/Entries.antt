@@ -13,11 +13,11 @@ use Rattle.value.specs.declared.States.{States}
 use Rattle.value.specs.declared.States.the-variants.{Two, Four, Nine}
 use Rattle.value.specs.Digits.{number, digits, Below}
 use Rattle.value.specs.Level.{markOf, bitsOf, lenOf}
-use Rattle.value.proofs.Tests.{by-eq}
+use Rattle.value.proofs.Tests.{by-eq, by-le}
 use Rattle.value.proofs.Levels.{mark-inj, mark-small, bits-up, len-room}
-use Rattle.value.proofs.Digits.{pow-pow, number-lt, number-inj, digits-length, base-pos, digits-below, digits-inj, digits-high, digits-zeros}
+use Rattle.value.proofs.Digits.{pow-pow, number-lt, number-inj, digits-length, base-pos, digits-below, number-digits, digits-inj, digits-high, digits-zeros}
 use Rattle.layout.specs.Entry.{hasMeta, entrySize, entryOf, markByte, unmarked, levelBytes, widenEntry}
-use Rattle.layout.proofs.Sizes.{Marked, size-by, size-pos, len-pos, mark-bits, mark-room, widen-same, widen-moved}
+use Rattle.layout.proofs.Sizes.{Marked, size-by, size-pos, len-pos, len-le, mark-bits, mark-room, widen-same, widen-moved}
 use Rattle.layout.proofs.EntryLaws.{Codes, EntryLaws}
 
 pos256 : (n : ℕ) → 0 < 256 ^ n
@@ -62,7 +62,7 @@ marked-inj n m k u v hm hk hu hv e =
 -- ---- the levels of an entry as a number
 
 -- of any number of bits
-value-lt : (w : ℕ) (M own : States) (cs : List ℕ) → Codes w own cs → markOf own ≤ markOf M
+pub value-lt : (w : ℕ) (M own : States) (cs : List ℕ) → Codes w own cs → markOf own ≤ markOf M
     → (k : ℕ) → w * bitsOf M ≤ k → number (2 ^ bitsOf own) cs < 2 ^ k
 value-lt w M own cs c h k r =
     let b : ℕ = bitsOf own in
@@ -100,6 +100,24 @@ module _ (w : ℕ) (pos : 0 < w) where
   value-free : (M : States) → Marked M → (n : ℕ) → entrySize w M ≡ suc n → (own : States) (cs : List ℕ) → Codes w own cs → markOf own ≤ markOf M
       → number (2 ^ bitsOf own) cs < 64 * 256 ^ n
   value-free M m n e own cs c h = rw (← mark-weight n) (value-lt w M own cs c h (8 * suc n - 2) (omega (arith, mark-bits w pos M m)))
+
+  -- the number of an entry
+  pub entry-lt : (M own : States) (cs : List ℕ) → Codes w own cs → markOf own ≤ markOf M
+      → markOf own * 2 ^ (8 * entrySize w M - 2) + number (2 ^ bitsOf own) cs < 256 ^ entrySize w M
+  entry-lt M own cs c h =
+      let N = number (2 ^ bitsOf own) cs in
+      let n = entrySize w M - 1 in
+      let s : entrySize w M ≡ suc n = omega (arith, size-pos w pos M) in
+      by-le 1 (markOf own)
+      (λ m. rw (s, mark-weight n) (marked-lt n (markOf own) N (mark-small own) (value-free M (omega arith) n s own cs c h)))
+      (λ m.
+      let z : markOf own ≡ 0 = omega arith in
+      rw (z, zero-mul, zero-add) (lt-of-lt-of-le (value-bytes M own cs c h) (pow-le-pow-right (omega arith) (len-le w M))))
+
+  pub entry-number : (M own : States) (cs : List ℕ) → Codes w own cs → markOf own ≤ markOf M
+      → number 256 (entryOf w M own cs) ≡ markOf own * 2 ^ (8 * entrySize w M - 2) + number (2 ^ bitsOf own) cs
+  unfolding entryOf
+  entry-number M own cs c h = number-digits 256 (omega arith) (entrySize w M) _ ∙ mod-eq-of-lt (entry-lt M own cs c h)
 
   -- ---- an entry says its own set and its levels
 

@@ -4,3 +4,4 @@ pub mod Entries
 pub mod EntryParts
 pub mod EntryWriting
 pub mod Expanding
+pub mod Numbers

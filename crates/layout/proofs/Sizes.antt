@@ -1,12 +1,12 @@
 -- The size of an entry, and of what widening makes of any bytes.
 -- Assumes nothing.
 use mathlib.Core.Path.{_≡_, refl, sym, ap, ap₂, _∙_}
-use Prim.Native.Nat.{ℕ, zero, suc, _+_, _-_, _*_, _%_, _≤_, _<_}
+use Prim.Native.Nat.{ℕ, zero, suc, _+_, _-_, _*_, _/_, _%_, _≤_, _<_}
 use native.Mathlib.Nat.{zero-mul, suc-mul}
 use native.Mathlib.Omega.{arith}
 use mathlib.Core.Bool.{Bool, true, false, cond, true≢false}
 use mathlib.Core.List.{List, [], _∷_, _++_}
-use borrow.Author.Tests.{eqb-false, eq-eqb, ne-eqb}
+use borrow.Author.Tests.{eqb-true, eqb-false, eq-eqb, ne-eqb}
 use lib.ListN.{length, take, drop, replicate, length-append, length-drop, length-replicate, take-append-drop}
 use lib.Seq.{length-take-le}
 use Rattle.value.specs.declared.States.{States}
@@ -19,6 +19,11 @@ use Rattle.layout.specs.Entry.{hasMeta, entrySize, markByte, unmarked, l
 -- the set of a stored mark
 abbrev pub Marked : States → Type 0
 Marked M = 0 < markOf M
+
+abbrev pub sizePlain : ℕ → States → ℕ
+sizePlain w Two = (w + 7) / 8
+sizePlain w Four = (w + 4) / 4
+sizePlain w Nine = (w + 2) / 2
 
 module _ (w : ℕ) where
   -- a larger set that has no meta byte: the smaller has none
@@ -36,6 +41,20 @@ module _ (w : ℕ) where
   pub size-by : (M : States) (x : Bool) → hasMeta w M ≡ x → entrySize w M ≡ cond x (lenOf w M + 1) (lenOf w M)
   unfolding entrySize
   size-by M x e = ap (λ (b : Bool). cond b (lenOf w M + 1) (lenOf w M)) e
+
+  -- the size without a test
+  pub size-plain : (M : States) → entrySize w M ≡ sizePlain w M
+  size-plain Two = size-by Two false refl
+  size-plain Four = go (hasMeta w Four) refl
+    where
+      go : (x : Bool) → hasMeta w Four ≡ x → entrySize w Four ≡ (w + 4) / 4
+      go true e = let z : w % 4 ≡ 0 = eqb-true (w % 4) 0 e in omega (arith, size-by Four true e)
+      go false e = let n : w % 4 ≡ 0 → ⊥ = eqb-false (w % 4) 0 e in omega (arith, size-by Four false e)
+  size-plain Nine = go (hasMeta w Nine) refl
+    where
+      go : (x : Bool) → hasMeta w Nine ≡ x → entrySize w Nine ≡ (w + 2) / 2
+      go true e = let z : w % 2 ≡ 0 = eqb-true (w % 2) 0 e in omega (arith, size-by Nine true e)
+      go false e = let n : w % 2 ≡ 0 → ⊥ = eqb-false (w % 2) 0 e in omega (arith, size-by Nine false e)
 
   pub len-bound : (M : States) → lenOf w M ≤ w
   len-bound Two = omega arith

@@ -1,9 +1,11 @@
 -- Inner: what writing an entry and comparing one ask.
 -- Assumes nothing.
 use Prim.Native.Nat.{ℕ, _+_, _≤_}
+use mathlib.Core.Path.{_≡_}
 use mathlib.Core.List.{List}
 use lib.ListN.{length}
 use Rattle.value.specs.declared.States.{States}
+use Rattle.value.specs.Digits.{number}
 use Rattle.value.specs.Level.{foldAll, codesOf, markOf}
 use Rattle.wavemem.specs.Packed.{Codes}
 use Rattle.layout.specs.Entry.{entrySize, entryOf}
@@ -19,3 +21,8 @@ pub record Writable (M own : States) (value : List ℕ) (room at : ℕ) : Type 0
 -- the entry of a string
 abbrev pub entryFrom : States → States → List ℕ → List ℕ
 entryFrom M own value = entryOf (length value) M own (codesOf (foldAll value))
+
+-- the size of a string's entry, and the number that an entry of at most eight bytes is
+pub record Numbered (M own : States) (value : List ℕ) (size n : ℕ) : Type 0 where
+  pub sized : size ≡ entrySize (length value) M
+  pub is : size ≤ 8 → n ≡ number 256 (entryFrom M own value)

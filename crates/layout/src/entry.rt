@@ -35,18 +35,15 @@ pub fn get_len_and_meta(states: States, bits: u32) -> LenAndMeta
     }
 }
 
-pub fn get_bytes_per_entry(len: usize, has_meta: bool) -> usize
-    requires { ⌜ len + 1 < 2 ^ 64 ⌝ }
-    ensures { λ r. ⌜ r ≡ cond «has_meta» (len + 1) len ⌝ }
-{
-    if has_meta { len + 1 } else { len }
-}
-
+// wellen's get_bytes_per_entry, of a set and a width: the levels' bytes, and one more where no first byte has room for the mark.
 pub fn entry_size(states: States, bits: u32) -> usize
     ensures { λ r. ⌜ r ≡ entrySize bits states ⌝ }
 {
-    let layout = get_len_and_meta(states, bits);
-    get_bytes_per_entry(layout.len, layout.has_meta)
+    match states {
+        States::Two => (bits as usize + 7) >> 3,
+        States::Four => (bits as usize + 4) >> 2,
+        States::Nine => (bits as usize + 2) >> 1,
+    }
 }
 
 // The bytes that a string's levels take, the bytes of its entry, and the byte with the mark of its set in the top two bits.

@@ -83,6 +83,22 @@ fn expand_entry(widening: Widening, data: &mut [u8], p: usize, q: usize)
 }
 
 // From the last entry to the first: no entry is written over before it is moved.
+fn expand_all(from: States, to: States, data: &mut [u8], start: usize, entries: usize, bits: u32)
+    requires { ⌜ Widenable from to start entries bits (length (now «data»)) × (entrySize bits from ≡ entrySize bits to → ⊥) ⌝ }
+    ensures { λ _. ⌜ now («data» .exit) ≡ overlay (now («data» .entry)) start (widenAll bits from to entries (part start (entries * entrySize bits from) (now («data» .entry)))) ⌝ }
+{
+    let widening = get_widening(from, to, bits);
+    let from_size = widening.from_size;
+    let to_size = widening.to_size;
+    let mut done = 0;
+    while done < entries {
+        done += 1;
+        let k = entries - done;
+        expand_entry(widening, data, start + k * from_size, start + k * to_size);
+    }
+}
+
+// Where the size stays nothing moves.
 pub fn expand_entries(
     from: States,
     to: States,
@@ -94,16 +110,8 @@ pub fn expand_entries(
     requires { ⌜ Widenable from to start entries bits (length (now «data»)) ⌝ }
     ensures { λ _. ⌜ now («data» .exit) ≡ overlay (now («data» .entry)) start (widenAll bits from to entries (part start (entries * entrySize bits from) (now («data» .entry)))) ⌝ }
 {
-    let widening = get_widening(from, to, bits);
-    let from_size = widening.from_size;
-    let to_size = widening.to_size;
-    if from_size == to_size {
+    if entry_size(from, bits) == entry_size(to, bits) {
         return;
     }
-    let mut done = 0;
-    while done < entries {
-        done += 1;
-        let k = entries - done;
-        expand_entry(widening, data, start + k * from_size, start + k * to_size);
-    }
+    expand_all(from, to, data, start, entries, bits);
 }

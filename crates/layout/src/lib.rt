@@ -2,3 +2,4 @@
 pub mod bytes;
 pub mod entry;
 pub mod expand;
+pub mod number;

@@ -46,13 +46,22 @@ low-bits c h k =
     eqb-true (getD lowBits (bitAnd c 31) 0) (codeOf (fold c))
     (each-byte (λ (n : ℕ). ltb (codeOf (fold n)) 9) (λ (n : ℕ). eqb (getD lowBits (bitAnd n 31) 0) (codeOf (fold n))) tt c h (lt-ltb (codeOf (fold c)) 9 k))
 
--- 0 and 1, and the characters of these codes
-pub low-bit : (c : ℕ) → c < 256 → bitAnd c 254 ≡ 48 → codeOf (fold c) < 9 → bitAnd c 1 ≡ codeOf (fold c)
-unfolding codeOf placeIn fold
-low-bit c h e k =
-    eqb-true (bitAnd c 1) (codeOf (fold c))
-    (each-byte (λ (n : ℕ). eqb (bitAnd n 254) 48) (λ (n : ℕ). eqb (bitAnd n 1) (codeOf (fold n))) tt c h (eq-eqb (bitAnd c 254) 48 e))
+-- the same by the low bits alone
+pub low-code : (c k r : ℕ) → c < 256 → bitAnd c 31 ≡ k → getD lowBits k 0 ≡ r → codeOf (fold c) < 9 → r ≡ codeOf (fold c)
+low-code c k r h e g n = sym g ∙ ap (λ (i : ℕ). getD lowBits i 0) (sym e) ∙ low-bits c h n
 
+-- the low bits of the known characters but 0
+abbrev pub lowPlaces : List ℕ
+lowPlaces = 17 ∷ 24 ∷ 26 ∷ 8 ∷ 21 ∷ 23 ∷ 12 ∷ 13 ∷ []
+
+pub other-low : (c : ℕ) → c < 256 → any (eqb (bitAnd c 31)) lowPlaces ≡ false → codeOf (fold c) < 9 → 0 ≡ codeOf (fold c)
+unfolding codeOf placeIn fold any
+other-low c h o k =
+    eqb-true 0 (codeOf (fold c))
+    (each-byte (λ (n : ℕ). ltb (codeOf (fold n)) 9 && not (any (eqb (bitAnd n 31)) lowPlaces)) (λ (n : ℕ). eqb 0 (codeOf (fold n))) tt c h
+    (rw (lt-ltb (codeOf (fold c)) 9 k, o)))
+
+-- 0 and 1
 pub binary-bit : (c : ℕ) → c < 256 → codeOf (fold c) < 2 → bitAnd c 1 ≡ codeOf (fold c)
 unfolding codeOf placeIn fold
 binary-bit c h k =

@@ -30,14 +30,21 @@ pub enum StatesAnswer {
 pub const LOW_BITS: [u8; 32] =
     *b"\t\t\t\t\t\t\t\t\x04\t\t\t\x07\x08\t\t\0\x01\t\t\t\x05\t\x06\x02\t\x03\t\t\t\t\t";
 
-// The code of a character that is not foreign.
-fn known_code(value: u8) -> u8
+// The code of a character that is not foreign, by its low five bits too: a constant array would be made anew for each character.
+pub fn known_code(value: u8) -> u8
     ensures { λ r. ⌜ (codeOf (fold value) < 9 → r ≡ codeOf (fold value)) ⌝ }
 {
-    if value & 254 == b'0' {
-        value & 1
-    } else {
-        LOW_BITS[(value & 31) as usize]
+    let low = value & 31;
+    match low {
+        17 => 1,
+        24 => 2,
+        26 => 3,
+        8 => 4,
+        21 => 5,
+        23 => 6,
+        12 => 7,
+        13 => 8,
+        _ => 0,
     }
 }
 

@@ -26,47 +26,36 @@ use Rattle.value.proofs.Tests.{by-le}
 use Rattle.value.proofs.Slices.{part-length, part-at, overlay-nil, overlay-one, overlay-overlay, overlay-store}
 use Rattle.value.proofs.Levels.{len-bits}
 use Rattle.value.proofs.Classes.{lowBits, low-bits}
-use Rattle.value.proofs.Digits.{below-at, below-drop, pow-pow, number-lt, number-append, number-more, number-prefix, digits-at, digits-length, digits-high, base-pos}
+use Rattle.value.proofs.Digits.{below-at, below-take, below-drop, pow-pow, number-lt, number-append, number-more, number-prefix, digits-at, digits-length, digits-high, base-pos}
 use Rattle.wavemem.proofs.Compare.{same-is, same-not}
-use Rattle.wavemem.specs.Packed.{packedWith, packedFrom, firstCount, Codes, OneByte, FullByte, ByLowBits, Whole, Packable}
+use Rattle.wavemem.specs.Packed.{packedWith, packedFrom, firstCount, Codes, OneWord, OneByte, FullByte, ByLowBits, Whole, Packable}
 
--- ---- the code of a character
-
-pub code-is : (c n : ℕ) → charCode c ≡ code.Code n → n ≡ codeOf (fold c)
-unfolding charCode
-code-is c n e = go (isNoCode (codeOf (fold c))) e
-  where
-    go : (t : Bool) → cond t code.Foreign (code.Code (codeOf (fold c))) ≡ code.Code n → n ≡ codeOf (fold c)
-    go true e = cc
-    go false e = cc
-
-pub not-foreign : (c : ℕ) → codeOf (fold c) < 9 → charCode c ≡ code.Foreign → ⊥
-unfolding charCode
-not-foreign c h e =
-    let f : code.Code (codeOf (fold c)) ≡ code.Foreign = sym (simp (lt-leb 9 (codeOf (fold c)) h)) ∙ e in
-    let z : _≡_ {A = ℕ} 0 1 = cc in
-    omega arith
-
--- ---- the working byte
+-- ---- the working number
 
 pub code-at : (s : List ℕ) (i : ℕ) → getD (codesOf (foldAll s)) i (codeOf (fold 0)) ≡ codeOf (fold (getD s i 0))
 code-at s i = List·getD-map codeOf (foldAll s) i (fold 0) ∙ ap codeOf (List·getD-map fold s i 0)
 
-pub below-take : (B : ℕ) (ds : List ℕ) → Below B ds → (i : ℕ) → Below B (take i ds)
-below-take B ds h zero = tt
-below-take B [] h (suc i) = tt
-below-take B (d ∷ ds) h (suc i) = (h .0, below-take B ds (h .1) i)
-
-module _ (b : ℕ) (cs : List ℕ) (below : Below (2 ^ b) cs) (short : length cs * b ≤ 8) (i c d working : ℕ) (more : i < length cs) (is : c ≡ getD cs i d)
+module _ (room b : ℕ) (cs : List ℕ) (below : Below (2 ^ b) cs) (short : length cs * b ≤ room) (i c d working : ℕ) (more : i < length cs) (is : c ≡ getD cs i d)
     (so-far : working ≡ number (2 ^ b) (take i cs)) where
-  -- `(working << b) | c`
-  pub shifted : bitOr (working * 2 ^ b % 256) c ≡ number (2 ^ b) (take (i + 1) cs)
+  -- `(working << b) | c`, of so many bits
+  pub shifted : bitOr (working * 2 ^ b % 2 ^ room) c ≡ number (2 ^ b) (take (i + 1) cs)
   shifted =
       let n = number (2 ^ b) (take i cs) in
       let l : n < 2 ^ (i * b) = rw (← pow-pow 2 b i) (rw (length-take-le i cs (omega arith)) at (number-lt (2 ^ b) (take i cs) (below-take (2 ^ b) cs below i))) in
-      let f : i * b + b ≤ 8 = omega (arith, mul-le-mul-right b more, suc-mul i b) in
+      let f : i * b + b ≤ room = omega (arith, mul-le-mul-right b more, suc-mul i b) in
       let k : c < 2 ^ b = rw is (below-at (2 ^ b) cs below i d more) in
-      rw (so-far, shl-exact {a = n} (i * b) b 8 l f, or-shifted n b c k, number-more (2 ^ b) cs i d more, is)
+      rw (so-far, shl-exact {a = n} (i * b) b room l f, or-shifted n b c k, number-more (2 ^ b) cs i d more, is)
+
+-- `(working << 8) | x`, x the number of eight digits
+pub eight-more : (cs : List ℕ) → Below 2 cs → length cs ≤ 64 → (from working x : ℕ) → from + 8 ≤ length cs → working ≡ number 2 (take from cs)
+    → x ≡ number 2 (take 8 (drop from cs)) → bitOr (working * 2 ^ 8 % 2 ^ 64) x ≡ number 2 (take (from + 8) cs)
+eight-more cs below short from working x h so-far is =
+    let n = number 2 (take from cs) in
+    let ys = take 8 (drop from cs) in
+    let l : n < 2 ^ from = rw (length-take-le from cs (omega arith)) at (number-lt 2 (take from cs) (below-take 2 cs below from)) in
+    let m : length ys ≡ 8 = length-take-le 8 (drop from cs) (rw length-drop (omega arith)) in
+    let k : number 2 ys < 2 ^ 8 = rw m at (number-lt 2 ys (below-take 2 (drop from cs) (below-drop 2 cs below from) 8)) in
+    rw (so-far, is, shl-exact {a = n} from 8 64 l (omega arith), or-shifted n 8 (number 2 ys) k, take-add from 8 cs, number-append 2 (take from cs) ys, m)
 
 -- ---- the walk over the bytes
 
@@ -218,6 +207,20 @@ codes-part (suc m) zero (c ∷ v) = ap (λ (l : List ℕ). codeOf (fold c) ∷ l
 codes-part (suc m) (suc f) [] = refl
 codes-part (suc m) (suc f) (c ∷ v) = codes-part (suc m) f v
 
+-- the codes of a part of a string
+pub part-codes : {s : States} (m f : ℕ) (v : List ℕ) → Codes s (codesOf (foldAll v)) → Codes s (codesOf (foldAll (take m (drop f v))))
+part-codes {s} m f v ok =
+    record {
+      known = rw codes-part (below-take 9 _ (below-drop 9 _ (ok .known) f) m);
+      below = rw codes-part (below-take (2 ^ bitsOf s) _ (below-drop (2 ^ bitsOf s) _ (ok .below) f) m);
+    }
+
+pub byte-small : {s : States} {v : List ℕ} → OneByte s v → number (2 ^ bitsOf s) (codesOf (foldAll v)) < 256
+byte-small {s} {v} ok =
+    let cs = codesOf (foldAll v) in
+    lt-of-lt-of-le (rw (pow-pow 2 (bitsOf s) (length cs)) at (number-lt (2 ^ bitsOf s) cs (ok .codes .below)))
+    (pow-mono {j = 8} (rw length-codes (ok .short)))
+
 module _ {s : States} {v : List ℕ} {room at meta : ℕ} (ok : Packable s v room at meta) where
   pub packed-from-length : length (packedFrom s meta v) ≡ lenOf (length v) s
   unfolding packedWith
@@ -229,11 +232,7 @@ module _ {s : States} {v : List ℕ} {room at meta : ℕ} (ok : Packable s v roo
         let h = to-within walk more in
         let l : length (take (to - from) (drop from v)) ≡ to - from = length-take-le (to - from) (drop from v) (simp length-drop (omega arith)) in
         record {
-          codes =
-              record {
-                known = rw codes-part (below-take 9 _ (below-drop 9 _ (ok .codes .known) from) (to - from));
-                below = rw codes-part (below-take (2 ^ bitsOf s) _ (below-drop (2 ^ bitsOf s) _ (ok .codes .below) from) (to - from));
-              };
+          codes = part-codes (to - from) from v (ok .codes);
           short = rw l (omega (arith, mul-le-mul-right (bitsOf s) (at-most walk more), per-bits s));
         }
 

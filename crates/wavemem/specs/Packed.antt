@@ -29,6 +29,11 @@ pub record Codes (s : States) (codes : List ℕ) : Type 0 where
   pub known : Below 9 codes
   pub below : Below (2 ^ bitsOf s) codes
 
+-- characters whose levels 64 bits hold
+pub record OneWord (s : States) (value : List ℕ) : Type 0 where
+  pub codes : Codes s (codesOf (foldAll value))
+  pub short : length value * bitsOf s ≤ 64
+
 -- characters of one byte
 pub record OneByte (s : States) (value : List ℕ) : Type 0 where
   pub codes : Codes s (codesOf (foldAll value))

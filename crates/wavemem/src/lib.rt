@@ -5,8 +5,7 @@ ghost use lib.ListN.{length};
 ghost use Rattle.value.specs.Digits.{number};
 ghost use Rattle.value.specs.Slice.{part, overlay, same};
 ghost use Rattle.value.specs.Level.{foldAll, codesOf, bitsOf, lenOf};
-ghost use Rattle.wavemem.specs.Packed.{packedFrom, firstCount, OneByte, FullByte, ByLowBits, Whole, Packable};
-use value::CharCode;
+ghost use Rattle.wavemem.specs.Packed.{packedFrom, firstCount, OneWord, OneByte, FullByte, ByLowBits, Whole, Packable};
 use value::States;
 
 // How many levels a byte holds.
@@ -20,25 +19,31 @@ fn bits_in_a_byte(states: States) -> usize
     }
 }
 
-// The byte of so few characters that one byte holds them. None is foreign.
-fn byte_from_ascii(states: States, value: &[u8]) -> u8
-    requires { ⌜ OneByte states (now value) ⌝ }
+// The number of so few characters that 64 bits hold their levels. None is foreign.
+fn levels_from_ascii(states: States, value: &[u8]) -> u64
+    requires { ⌜ OneWord states (now value) ⌝ }
     ensures { λ r. ⌜ r ≡ number (2 ^ bitsOf states) (codesOf (foldAll (now (value .entry)))) ⌝ }
 {
     let bits = states.bits();
-    let mut working: u8 = 0;
+    let mut working: u64 = 0;
     let mut i = 0;
     while i < value.len() {
-        let CharCode::Code(code) = value::bit_char_to_num(value[i]) else {
-            return working;
-        };
+        let code = wide(value::known_code(value[i]));
         i += 1;
         working = (working << bits) | code;
     }
     working
 }
 
-// The same where the characters are known, by a table of codes.
+// The byte of so few characters that one byte holds them.
+fn byte_from_ascii(states: States, value: &[u8]) -> u8
+    requires { ⌜ OneByte states (now value) ⌝ }
+    ensures { λ r. ⌜ r ≡ number (2 ^ bitsOf states) (codesOf (foldAll (now (value .entry)))) ⌝ }
+{
+    levels_from_ascii(states, value) as u8
+}
+
+// The same by a table of codes, which a loop over whole bytes reads faster.
 fn byte_by_low_bits(states: States, codes: &[u8; 32], value: &[u8]) -> u8
     requires { ⌜ OneByte states (now value) × ByLowBits (now codes) ⌝ }
     ensures { λ r. ⌜ r ≡ number (2 ^ bitsOf states) (codesOf (foldAll (now (value .entry)))) ⌝ }
@@ -85,6 +90,33 @@ fn byte_of_bits(value: &[u8]) -> u8
     let y = x | (x >> 7);
     let z = y | (y >> 14);
     ((z | (z >> 28)) & 255) as u8
+}
+
+// The number of a string of 0 and 1, eight at a time behind the first.
+fn bits_from_ascii(value: &[u8]) -> u64
+    requires { ⌜ OneWord States.Two (now value) ⌝ }
+    ensures { λ r. ⌜ r ≡ number 2 (codesOf (foldAll (now (value .entry)))) ⌝ }
+{
+    let mut from = value.len() % 8;
+    let mut working = levels_from_ascii(States::Two, &value[..from]);
+    while from < value.len() {
+        let to = from + 8;
+        working = (working << 8) | wide(byte_of_bits(&value[from..to]));
+        from = to;
+    }
+    working
+}
+
+// The number of a string whose levels 64 bits hold.
+pub fn number_from_ascii(states: States, value: &[u8]) -> u64
+    requires { ⌜ OneWord states (now value) ⌝ }
+    ensures { λ r. ⌜ r ≡ number (2 ^ bitsOf states) (codesOf (foldAll (now (value .entry)))) ⌝ }
+{
+    match states {
+        States::Two => bits_from_ascii(value),
+        States::Four => levels_from_ascii(States::Four, value),
+        States::Nine => levels_from_ascii(States::Nine, value),
+    }
 }
 
 // The byte of as many known characters as a byte holds.

@@ -64,7 +64,7 @@ loop-again c =
     let m : a .loop .i < length (codesOf (foldAll v)) = rw (length-map, length-map) (omega arith) in
     let k : codeOf (fold x) < 9 = rw (← code-at v (a .loop .i)) (below-at 9 (codesOf (foldAll v)) (s .pre .0 .codes .known) (a .loop .i) (codeOf (fold 0)) m) in (
       omega arith,
-      shifted (a .before .bits .result) (codesOf (foldAll v)) (rw e (s .pre .0 .codes .below)) (rw (length-map, length-map, e) (s .pre .0 .short))
+      shifted 8 (a .before .bits .result) (codesOf (foldAll v)) (rw e (s .pre .0 .codes .below)) (rw (length-map, length-map, e) (s .pre .0 .short))
           (a .loop .i) _ (codeOf (fold 0)) (a .loop .working) m
           (s .pre .1 .here x (omega (arith, c .before .shared-slice-known2 .given (a .loop .i))) k ∙ sym (code-at v (a .loop .i)))
           (a .loop .inv .1),

@@ -1,25 +1,56 @@
 -- `layout::entry::entry_size` meets its contract.
 -- Assumes nothing.
-use mathlib.Core.Path.{_∙_}
-use native.Mathlib.Omega.{arith}
+use mathlib.Core.Path.{_≡_, sym, ap, _∙_}
 use Rattle.layout.specs.Entry.{entrySize}
-use Rattle.layout.proofs.EntryParts.{len-small}
+use Rattle.layout.proofs.Sizes.{sizePlain, size-plain}
+use Rattle.value.specs.declared.States.{States}
 use borrow.Author.Needs.{needs}
 use Rattle.layout.proofs.entry.entry_size.Statement.{statement}
 use Rattle.layout.proofs.entry.entry_size.Tie as tie
 
-get-len-and-meta-requires : tie.Need-get-len-and-meta-requires
-get-len-and-meta-requires c κs = search needs
+enum-told : tie.Need-enum-told
+enum-told c = search needs
 
-get-bytes-per-entry-requires : tie.Need-get-bytes-per-entry-requires
-get-bytes-per-entry-requires c κs = omega (arith, c .get-len-and-meta .ensures .0, len-small (c .before .args .bits) (c .before .args .states))
+add-result : tie.Need-add-result
+add-result c = search needs
+
+enum-told-2 : tie.Need-enum-told-2
+enum-told-2 c = search needs
+
+add-result-2 : tie.Need-add-result-2
+add-result-2 c = search needs
+
+enum-told-3 : tie.Need-enum-told-3
+enum-told-3 c = search needs
+
+add-result-3 : tie.Need-add-result-3
+add-result-3 c = search needs
 
 returns : tie.Need-returns
-unfolding entrySize
 returns c =
-    let l = c .before .get-len-and-meta .ensures in
-    c .get-bytes-per-entry .ensures ∙ rw (l .0, l .1)
+    let x = c .before .before .args in
+    ap (sizePlain (x .bits)) (sym (c .enum-told .given .1)) ∙ sym (size-plain (x .bits) (x .states))
+
+returns-2 : tie.Need-returns-2
+returns-2 c =
+    let x = c .before .before .args in
+    ap (sizePlain (x .bits)) (sym (c .enum-told2 .given .1)) ∙ sym (size-plain (x .bits) (x .states))
+
+returns-3 : tie.Need-returns-3
+returns-3 c =
+    let x = c .before .before .args in
+    ap (sizePlain (x .bits)) (sym (c .enum-told3 .given .1)) ∙ sym (size-plain (x .bits) (x .states))
 
 pub entry-size-spec : {M : Type 1} → statement M
 entry-size-spec =
-    tie.close (tie.spec get-len-and-meta-requires get-bytes-per-entry-requires returns)
+    tie.close
+    (tie.spec
+    enum-told
+    add-result
+    enum-told-2
+    add-result-2
+    enum-told-3
+    add-result-3
+    returns
+    returns-2
+    returns-3)

@@ -1,169 +1,44 @@
--- `layout::expand::expand_entries` meets its contract. Assumes nothing.
-use mathlib.Core.Path.{_≡_, refl, sym, ap, subst, _∙_}
-use mathlib.Core.List.{List}
-use Prim.Native.Nat.{ℕ, _+_, _-_, _*_, _≤_}
-use native.Mathlib.Nat.{mul-le-mul-left, sub-zero}
-use native.Mathlib.Omega.{arith}
+-- `layout::expand::expand_entries` meets its contract.
+-- Assumes nothing.
+use mathlib.Core.Path.{_≡_, sym, ap, _∙_}
+use Prim.Native.Nat.{ℕ, _+_, _*_, _≤_}
 use borrow.Author.Needs.{needs}
 use denote.Ref.{now}
 use lib.ListN.{length}
 use Rattle.value.specs.Slice.{part, overlay}
-use Rattle.value.specs.Digits.{Below}
-use Rattle.value.proofs.Digits.{below-all}
 use Rattle.value.proofs.Slices.{part-length, overlay-part}
-use Rattle.value.proofs.Backward.{below-part}
-use Rattle.layout.specs.declared.expand.Widening.{Widening}
 use Rattle.layout.specs.Entry.{entrySize}
-use Rattle.layout.specs.Expand.{wideningOf, moved, Grows}
-use Rattle.layout.proofs.Sizes.{size-up, widen-all-same}
-use Rattle.layout.proofs.Expanding.{expanded, movedAll, none-expanded, old-place, new-place, more-expanded, all-expanded, widening-grows, all-widen}
+use Rattle.layout.proofs.Sizes.{widen-all-same}
 use Rattle.layout.proofs.expand.expand_entries.Statement.{statement}
 use Rattle.layout.proofs.expand.expand_entries.Tie as tie
 
-abbrev Inv-loop : tie.InvT-loop
-Inv-loop data₀ start entries bits widening from-size to-size done₀ «data» done =
-    (done ≤ entries) × («data» ≡ expanded widening data₀ start entries (entries - done)) × (length «data» ≡ length data₀)
+entry-size-requires : tie.Need-entry-size-requires
+entry-size-requires c κs = search needs
 
-abbrev μ-loop : tie.MeasureT-loop
-μ-loop data₀ start entries bits widening from-size to-size done₀ «data» done = entries - done
+entry-size-requires-2 : tie.Need-entry-size-requires-2
+entry-size-requires-2 c κs = search needs
 
-get-widening-requires : tie.Need-get-widening-requires Inv-loop μ-loop
-get-widening-requires c κs = search needs
-
-returns : tie.Need-returns Inv-loop μ-loop
-unfolding wideningOf
+returns : tie.Need-returns
 returns c =
-    let s = c .before .before .before in
+    let b = c .before in
+    let s = b .before .before .before in
     let x = s .args in
     let d = now (x .«data») in
-    let g = c .before .get-widening .ensures in
-    let e : entrySize (x .bits) (x .from) ≡ entrySize (x .bits) (x .to)
-    = sym (ap (λ (m : Widening). m .«from_size») g) ∙ c .if1 .taken ∙ ap (λ (m : Widening). m .«to_size») g in
+    let e : entrySize (x .bits) (x .from) ≡ entrySize (x .bits) (x .to) = sym (b .before .entry-size .ensures) ∙ c .if1 .taken ∙ b .entry-size2 .ensures in
     let r : x .start + x .entries * entrySize (x .bits) (x .from) ≤ length d = rw e (s .pre .room) in
     sym (ap (overlay d (x .start)) (widen-all-same (x .bits) (x .from) (x .to) e (x .entries) _ (part-length d (x .start) _ r)) ∙ overlay-part d (x .start) _ r)
 
--- what is known once the sizes differ
-module _ (e : tie.Else1 Inv-loop μ-loop) where
-  abbrev start : tie.Start Inv-loop μ-loop
-  start = e .before .before .before
+expand-all-requires : tie.Need-expand-all-requires
+expand-all-requires c κs =
+    let b = c .before .before in
+    let s = b .before .before .before in
+    (s .pre, λ e. c .before .if1 .left (b .before .entry-size .ensures ∙ e ∙ sym (b .entry-size2 .ensures)))
 
-  abbrev old : List ℕ
-  old = now (start .args .«data»)
+same-length : tie.Need-same-length
+same-length c = search needs
 
-  abbrev sizes : Widening
-  sizes = e .before .get-widening .result
-
-  known : sizes ≡ wideningOf (start .args .bits) (start .args .from) (start .args .to)
-  known = e .before .get-widening .ensures
-
-  grown : entrySize (start .args .bits) (start .args .from) ≡ entrySize (start .args .bits) (start .args .to) → ⊥
-  unfolding wideningOf
-  grown q = e .if1 .left (ap (λ (m : Widening). m .«from_size») known ∙ q ∙ sym (ap (λ (m : Widening). m .«to_size») known))
-
-  grows : Grows sizes
-  grows = rw known (widening-grows (start .args .bits) (start .pre .wide) (start .args .from) (start .args .to) (start .pre .up) grown)
-
-  room : start .args .start + start .args .entries * sizes .«to_size» ≤ length old
-  unfolding wideningOf
-  room = subst (λ (m : Widening). start .args .start + start .args .entries * m .«to_size» ≤ length old) (sym known) (start .pre .room)
-
-loop-holds : tie.Need-loop-holds Inv-loop μ-loop
-loop-holds c = (omega arith, rw sub-zero (sym (none-expanded (sizes c) (grows c) (old c) _ _ (room c))), refl)
-
-add-done : tie.Need-add-done Inv-loop μ-loop
-add-done c = omega arith
-
-sub-k : tie.Need-sub-k Inv-loop μ-loop
-sub-k c = omega arith
-
--- entry k's places lie in the slice
-places : (c : tie.After-expand-entry-arg Inv-loop μ-loop) →
-    let e = c .before .before .before in
-    let x = start e .args in
-    let k = x .entries - (c .before .before .loop .done + 1) in
-    (x .start + k * sizes e .«from_size» ≤ x .start + k * sizes e .«to_size») × (x .start + k * sizes e .«to_size» + sizes e .«to_size» ≤ length (old e))
-places c =
-    let e = c .before .before .before in
-    let k = start e .args .entries - (c .before .before .loop .done + 1) in
-    (old-place (sizes e) (grows e) (old e) _ _ (room e) k (omega arith), new-place (sizes e) (grows e) (old e) _ _ (room e) k (omega arith))
-
-mul-expand-entry : tie.Need-mul-expand-entry Inv-loop μ-loop
-mul-expand-entry c = let p = places c in omega arith
-
-add-expand-entry : tie.Need-add-expand-entry Inv-loop μ-loop
-add-expand-entry c = let p = places c in omega arith
-
-mul-expand-entry-2 : tie.Need-mul-expand-entry-2 Inv-loop μ-loop
-mul-expand-entry-2 c = let p = places c in omega arith
-
-add-expand-entry-2 : tie.Need-add-expand-entry-2 Inv-loop μ-loop
-add-expand-entry-2 c = let p = places c in omega arith
-
-expand-entry-requires : tie.Need-expand-entry-requires Inv-loop μ-loop
-expand-entry-requires c κs =
-    let p = places c in
-    record { grows = grows (c .before .before .before); onward = p .0; room = omega arith }
-
-loop-less : tie.Need-loop-less Inv-loop μ-loop
-loop-less c = omega arith
-
-loop-again : tie.Need-loop-again Inv-loop μ-loop
-loop-again c =
-    let a = c .before .before .before .before .before in
-    let e = a .before in
-    let x = start e .args in
-    let m = sizes e in
-    let k = x .entries - (a .loop .done + 1) in
-    let f : x .entries - a .loop .done ≡ k + 1 = omega arith in
-    let w = c .before .before .expand-entry in (
-      omega arith,
-      w .ensures
-          ∙ ap (λ (l : List ℕ). overlay l (x .start + k * m .«to_size») (moved m (part (x .start + k * m .«from_size») (m .«from_size») l)))
-          (a .loop .inv .1 ∙ ap (expanded m (old e) (x .start) (x .entries)) f)
-          ∙ more-expanded m (grows e) (old e) (x .start) (x .entries) (room e) k (omega arith),
-      w .kept .1 .0 ∙ a .loop .inv .2,
-    )
-
-same-length : tie.Need-same-length Inv-loop μ-loop
-same-length c = c .before .loop .inv .2
-
-returns-2 : tie.Need-returns-2 Inv-loop μ-loop
-unfolding wideningOf
-returns-2 c =
-    let e = c .before .before in
-    let x = start e .args in
-    let d = old e in
-    let m = sizes e in
-    let z : x .entries - c .before .loop .done ≡ 0 = omega arith in
-    let F = entrySize (x .bits) (x .from) in
-    let r : x .start + x .entries * F ≤ length d = omega (arith, start e .pre .room, mul-le-mul-left (x .entries) (size-up (x .bits) (x .from) (x .to) (start e .pre .up))) in
-    let b : Below 256 d = below-all 256 d (λ i. e .before .before .slice-known .given i .fits) in
-    let t = part-length d (x .start) (x .entries * F) r in
-    c .before .loop .inv .1
-    ∙ ap (expanded m d (x .start) (x .entries)) z
-    ∙ all-expanded m (grows e) d (x .start) (x .entries) (room e)
-    ∙ ap (λ (k : Widening). overlay d (x .start) (movedAll k (x .entries) (part (x .start) (x .entries * k .«from_size») d))) (known e)
-    ∙ ap (overlay d (x .start))
-    (all-widen (x .bits) (start e .pre .wide) (x .from) (x .to) (start e .pre .up) (grown e) (x .entries) (part (x .start) (x .entries * F) d) (omega arith)
-    (below-part 256 d b (x .start) (x .entries * F)))
+returns-2 : tie.Need-returns-2
+returns-2 c = search needs
 
 pub expand-entries-spec : {M : Type 1} → statement M
-expand-entries-spec =
-    tie.close
-    (tie.spec
-    Inv-loop
-    μ-loop
-    get-widening-requires
-    returns
-    loop-holds
-    add-done
-    sub-k
-    mul-expand-entry
-    add-expand-entry
-    mul-expand-entry-2
-    add-expand-entry-2
-    expand-entry-requires
-    loop-less
-    loop-again
-    same-length
-    returns-2)
+expand-entries-spec = tie.close (tie.spec entry-size-requires entry-size-requires-2 returns expand-all-requires same-length returns-2)

@@ -1,4 +1,4 @@
--- `fst::Description::add_levels` meets its contract.
+-- `fst::Description::raise_levels` meets its contract.
 -- Assumes nothing.
 use mathlib.Core.Path.{_≡_, refl, sym, ap, ap₂, _∙_}
 use mathlib.Core.Bool.{Bool, false, cond}
@@ -20,8 +20,8 @@ use Rattle.layout.specs.Writable.{entryFrom}
 use Rattle.fst.proofs.Adding.{standing, untouched}
 use Rattle.fst.proofs.AddingStrings.{wide, comparable, widenable, roomier, writable, levels-full, levels-stay, levels-grow}
 use borrow.Author.Needs.{needs}
-use Rattle.fst.proofs.Description.add_levels.Statement.{statement}
-use Rattle.fst.proofs.Description.add_levels.Tie as tie
+use Rattle.fst.proofs.Description.raise_levels.Statement.{statement}
+use Rattle.fst.proofs.Description.raise_levels.Tie as tie
 
 -- the slices that are lent
 abbrev lent : tie.Start → Lent
@@ -187,8 +187,8 @@ returns-3 c =
     (c .before .before .before .before .before .before .before .before .before .expand-entries .ensures) (c .before .before .before .before .before .entry-size .ensures))
     ∙ levels-grow (x .args .self) (lent x) (x .args .index) (now (x .args .value)) (x .args .max-states) (x .args .states) (joint z) (x .pre) (joined z) (repeat z) (told z) (next z) (counted z) (roomy z (c .before .before .before .before .before .before .before .before .before .before .before .if1 .left)) (c .before .before .before .before .before .before .if2 .left)
 
-pub add-levels-spec : {M : Type 1} → statement M
-add-levels-spec =
+pub raise-levels-spec : {M : Type 1} → statement M
+raise-levels-spec =
     tie.close
     (tie.spec
     cast-width

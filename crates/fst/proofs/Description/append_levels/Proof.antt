@@ -1,0 +1,214 @@
+-- `fst::Description::append_levels` meets its contract.
+-- Assumes nothing.
+use mathlib.Core.Path.{_≡_, refl, sym, ap, ap₂, subst, _∙_}
+use mathlib.Core.Bool.{Bool, true, false}
+use mathlib.Core.List.{List}
+use Prim.Native.Nat.{ℕ, _+_, _*_, _≤_, _<_}
+use native.Mathlib.Omega.{arith}
+use denote.Ref.{now}
+use lib.ListN.{length, set}
+use Rattle.value.specs.Slice.{overlay}
+use Rattle.layout.specs.Entry.{entrySize}
+use Rattle.layout.specs.Writable.{entryFrom}
+use Rattle.fst.specs.declared.Added.{Added}
+use Rattle.fst.specs.Record.{Lent, isBad}
+use Rattle.fst.specs.Change.{leftBy}
+use Rattle.fst.proofs.Adding.{standing}
+use Rattle.fst.proofs.AddingPlain.{oneMore}
+use Rattle.fst.proofs.AddingStrings.{same-comparable, repeated, append-stays, append-full, append-more, append-roomier, append-size}
+use borrow.Author.Needs.{needs}
+use Rattle.fst.proofs.Description.append_levels.Statement.{statement}
+use Rattle.fst.proofs.Description.append_levels.Tie as tie
+
+-- the slices that are lent
+abbrev lent : tie.Start → Lent
+lent x = record { bytes = now (x .args .bytes); byteStart = x .args .byte-start; indices = now (x .args .indices); indexStart = x .args .index-start }
+
+-- an index's place counts no more bytes than a slice has
+few-indices : (x : tie.Start) → length (now (x .args .indices)) * 4 < 18446744073709551616
+few-indices x = omega arith
+
+few-bytes : (x : tie.Start) → length (now (x .args .bytes)) < 18446744073709551616
+few-bytes x = omega arith
+
+-- a product and its sum with a start, below a bound
+product : (a n k b : ℕ) → a + n * k + k ≤ b → b < 18446744073709551616 → (n * k < 18446744073709551616) × (a + n * k < 18446744073709551616)
+product a n k b h l = omega arith
+
+-- what is known once the room is tried
+module _ (z : tie.After-lacks-room) where
+  abbrev start : tie.Start
+  start = z .before .before .before .before .before .before .before .before .before .before .before
+
+  sized : z .before .before .before .before .before .before .before .entry-size .result ≡ entrySize (length (now (start .args .value))) (start .args .max-states)
+  sized = z .before .before .before .before .before .before .before .entry-size .ensures
+
+  other : false ≡ repeated (start .args .self) (lent start) (start .args .index) (now (start .args .value)) (start .args .max-states) (start .args .states) (start .pre .0) (start .pre .1)
+  other = sym (z .before .before .before .if1 .left) ∙ z .before .before .before .before .repeats-number .ensures
+
+  roomy : z .lacks-room .result ≡ false → isBad (oneMore (start .args .self)) (lent start) ≡ false
+  roomy h = sym (z .lacks-room .ensures) ∙ h
+
+  places : z .lacks-room .result ≡ false
+      → (start .args .byte-start + start .args .self .count * entrySize (length (now (start .args .value))) (start .args .max-states) + entrySize (length (now (start .args .value))) (start .args .max-states) ≤ length (now (start .args .bytes)))
+      × (start .args .index-start + start .args .self .count < length (now (start .args .indices)))
+  places h =
+      append-roomier (start .args .self) (lent start) (start .args .index) (now (start .args .value)) (start .args .max-states) (start .args .states) (start .pre .0) (start .pre .1) (roomy h)
+
+cast-entry-size : tie.Need-cast-entry-size
+cast-entry-size c =
+    let x = c .before .before .before in
+    let p = same-comparable (x .args .self) (lent x) (x .args .index) (now (x .args .value)) (x .args .max-states) (x .args .states) (x .pre .0) (x .pre .1) in
+    omega (arith, p .short)
+
+entry-size-requires : tie.Need-entry-size-requires
+entry-size-requires c κs = search needs
+
+entry-number-requires : tie.Need-entry-number-requires
+entry-number-requires c κs =
+    let x = c .before .before .before .before in
+    let p = same-comparable (x .args .self) (lent x) (x .args .index) (now (x .args .value)) (x .args .max-states) (x .args .states) (x .pre .0) (x .pre .1) in (
+      record { under = p .under; codes = p .codes; wide = p .wide; short = p .short; fits = omega (arith, c .entry-size .ensures) },
+      c .entry-size .ensures,
+    )
+
+repeats-number-requires : tie.Need-repeats-number-requires
+repeats-number-requires c κs =
+    let n = c .before in
+    let x = n .before .before .before .before .before in
+    (same-comparable (x .args .self) (lent x) (x .args .index) (now (x .args .value)) (x .args .max-states) (x .args .states) (x .pre .0) (x .pre .1), n .entry-number .ensures)
+
+accepted-requires : tie.Need-accepted-requires
+accepted-requires c κs = search needs
+
+same-length : tie.Need-same-length
+same-length c = search needs
+
+returns : tie.Need-returns
+returns c =
+    let x = c .before .before .before .before .before .before .before .before .before in
+    ap (λ (r : Added). leftBy r ((lent x) .bytes) ((lent x) .indices)) (c .accepted .ensures)
+    ∙ append-stays (x .args .self) (lent x) (x .args .index) (now (x .args .value)) (x .args .max-states) (x .args .states) (x .pre .0) (x .pre .1) (sym (c .before .if1 .taken) ∙ c .before .before .repeats-number .ensures)
+
+lacks-room-requires : tie.Need-lacks-room-requires
+lacks-room-requires c κs =
+    let x = c .before .before .before .before .before .before .before .before .before .before in
+    (x .pre .0 .admitted .sound, c .before .before .before .before .before .before .entry-size .ensures ∙ sym (append-size (x .args .self) (lent x) (x .args .index) (now (x .args .value)) (x .args .max-states) (x .args .states) (x .pre .0) (x .pre .1)))
+
+refused-requires : tie.Need-refused-requires
+refused-requires c κs = search needs
+
+same-length-2 : tie.Need-same-length-2
+same-length-2 c = search needs
+
+same-length-3 : tie.Need-same-length-3
+same-length-3 c = search needs
+
+returns-2 : tie.Need-returns-2
+returns-2 c =
+    let z = c .before .before in
+    let x = start z in
+    ap (λ (r : Added). leftBy r ((lent x) .bytes) ((lent x) .indices)) (c .refused .ensures)
+    ∙ append-full (x .args .self) (lent x) (x .args .index) (now (x .args .value)) (x .args .max-states) (x .args .states) (x .pre .0) (x .pre .1) (other z) (sym (z .lacks-room .ensures) ∙ c .before .if2 .taken)
+
+add-self : tie.Need-add-self
+add-self c =
+    let x = c .before .before .before .before .before .before .before .before .before .before .before .before .before in
+    let f = (standing (x .args .self) (lent x) (x .pre .0 .admitted .sound)) .count in
+    omega arith
+
+cast-entries : tie.Need-cast-entries
+cast-entries c = search needs
+
+-- the new entry's place
+place : (c : tie.After-store-entry-arg) →
+    let x = c .before .before .before .before .before .before .before .before .before .before .before .before .before .before in
+    x .args .byte-start + x .args .self .count * c .before .before .before .before .before .before .before .before .before .before .entry-size .result + c .before .before .before .before .before .before .before .before .before .before .entry-size .result ≤ length (now (x .args .bytes))
+place c =
+    let z = c .before .before .before in
+    let a = (start z) .args in
+    subst (λ (k : ℕ). a .byte-start + a .self .count * k + k ≤ length (now (a .bytes))) (sym (sized z)) ((places z (c .before .before .if2 .left)) .0)
+
+mul-store-entry : tie.Need-mul-store-entry
+mul-store-entry c = record { fits = (product _ _ _ _ (place c) (few-bytes (c .before .before .before .before .before .before .before .before .before .before .before .before .before .before))) .0 }
+
+add-store-entry : tie.Need-add-store-entry
+add-store-entry c = record { fits = (product _ _ _ _ (place c) (few-bytes (c .before .before .before .before .before .before .before .before .before .before .before .before .before .before))) .1 }
+
+store-entry-requires : tie.Need-store-entry-requires
+store-entry-requires c κs =
+    let z = c .before .before .before in
+    let x = start z in
+    let p = same-comparable (x .args .self) (lent x) (x .args .index) (now (x .args .value)) (x .args .max-states) (x .args .states) (x .pre .0) (x .pre .1) in
+    let S = entrySize (length (now (x .args .value))) (x .args .max-states) in (
+      record {
+        under = p .under;
+        codes = p .codes;
+        wide = p .wide;
+        short = p .short;
+        fits = subst (λ (k : ℕ). x .args .byte-start + x .args .self .count * k + S ≤ length (now (x .args .bytes))) (sym (sized z)) ((places z (c .before .before .if2 .left)) .0);
+      },
+      z .before .before .before .before .before .before .entry-number .ensures,
+    )
+
+index-in : (c : tie.After-slice-known3) →
+    let x = start (c .before .before .before .before .before .before) in
+    x .args .index-start + x .args .self .count < length (now (x .args .indices))
+index-in c = (places (c .before .before .before .before .before .before) (c .before .before .before .before .before .if2 .left)) .1
+
+add-indices : tie.Need-add-indices
+add-indices c = let p = index-in c in omega (arith, few-indices (start (c .before .before .before .before .before .before)))
+
+mul-indices : tie.Need-mul-indices
+mul-indices c = let p = index-in c in omega (arith, few-indices (start (c .before .before .before .before .before .before)))
+
+slice-write-indices : tie.Need-slice-write-indices
+slice-write-indices c = index-in c
+
+accepted-requires-2 : tie.Need-accepted-requires-2
+accepted-requires-2 c κs = search needs
+
+same-length-4 : tie.Need-same-length-4
+same-length-4 c = search needs
+
+same-length-5 : tie.Need-same-length-5
+same-length-5 c = search needs
+
+returns-3 : tie.Need-returns-3
+returns-3 c =
+    let z = c .before .before .before .before .before .before .before in
+    let x = start z in
+    let w = c .before .before .before .store-entry in
+    let E = entryFrom (x .args .max-states) (x .args .states) (now (x .args .value)) in
+    ap₂ (λ (r : Added) (b : List ℕ). leftBy r b (set (now (x .args .indices)) (x .args .index-start + x .args .self .count) (x .args .index))) (c .accepted2 .ensures)
+    (w .ensures ∙ ap (λ (k : ℕ). overlay (now (x .args .bytes)) (x .args .byte-start + x .args .self .count * k) E) (sized z))
+    ∙ append-more (x .args .self) (lent x) (x .args .index) (now (x .args .value)) (x .args .max-states) (x .args .states) (x .pre .0) (x .pre .1) (other z) (roomy z (c .before .before .before .before .before .before .if2 .left))
+
+pub append-levels-spec : {M : Type 1} → statement M
+append-levels-spec =
+    tie.close
+    (tie.spec
+    cast-entry-size
+    entry-size-requires
+    entry-number-requires
+    repeats-number-requires
+    accepted-requires
+    same-length
+    returns
+    lacks-room-requires
+    refused-requires
+    same-length-2
+    same-length-3
+    returns-2
+    add-self
+    cast-entries
+    mul-store-entry
+    add-store-entry
+    store-entry-requires
+    add-indices
+    mul-indices
+    slice-write-indices
+    accepted-requires-2
+    same-length-4
+    same-length-5
+    returns-3)

@@ -1,0 +1,69 @@
+-- `layout::number::number_at` meets its contract: the number is that of the bytes so far.
+-- Assumes nothing.
+use mathlib.Core.Path.{_≡_, refl, sym, ap, _∙_}
+use Prim.Native.Nat.{ℕ, _+_, _-_, _*_, _^_, _<_, _≤_, zero-le}
+use native.Mathlib.Omega.{arith}
+use denote.Ref.{now}
+use lib.ListN.{length}
+use Rattle.value.specs.Digits.{number}
+use Rattle.value.specs.Slice.{part}
+use Rattle.value.proofs.Digits.{below-all}
+use Rattle.value.proofs.Slices.{part-nil}
+use Rattle.layout.proofs.Numbers.{number-next}
+use Rattle.layout.proofs.number.number_at.Statement.{statement}
+use Rattle.layout.proofs.number.number_at.Tie as tie
+
+abbrev Inv-loop : tie.InvT-loop
+Inv-loop bytes at size number₀ j₀ n j = (j ≤ size) × (n ≡ number 256 (part at j bytes))
+
+abbrev μ-loop : tie.MeasureT-loop
+μ-loop bytes at size number₀ j₀ n j = size - j
+
+loop-holds : tie.Need-loop-holds Inv-loop μ-loop
+unfolding number
+loop-holds c = (zero-le, ap (number 256) (sym (part-nil _ _)))
+
+add-number : tie.Need-add-number Inv-loop μ-loop
+add-number c = omega arith
+
+shared-slice-read-number : tie.Need-shared-slice-read-number Inv-loop μ-loop
+shared-slice-read-number c = omega arith
+
+cast-number : tie.Need-cast-number Inv-loop μ-loop
+cast-number c = omega (arith, c .shared-slice-known .given (c .before .before .before .args .at + c .before .before .loop .j))
+
+add-j : tie.Need-add-j Inv-loop μ-loop
+add-j c = omega arith
+
+loop-less : tie.Need-loop-less Inv-loop μ-loop
+loop-less c = omega arith
+
+loop-again : tie.Need-loop-again Inv-loop μ-loop
+loop-again c =
+    let a = c .before .before in
+    let x = a .before .args in
+    let b = now (x .bytes) in (
+      omega arith,
+      number-next b (below-all 256 b (λ i. omega (arith, c .shared-slice-known .given i))) (x .at) (a .loop .j) (a .loop .number) (omega arith) (omega arith) (a .loop .inv .1),
+    )
+
+returns : tie.Need-returns Inv-loop μ-loop
+returns c =
+    let x = c .before .before .args in
+    let e : c .before .loop .j ≡ x .size = omega arith in
+    c .before .loop .inv .1 ∙ ap (λ (j : ℕ). number 256 (part (x .at) j (now (x .bytes)))) e
+
+pub number-at-spec : {M : Type 1} → statement M
+number-at-spec =
+    tie.close
+    (tie.spec
+    Inv-loop
+    μ-loop
+    loop-holds
+    add-number
+    shared-slice-read-number
+    cast-number
+    add-j
+    loop-less
+    loop-again
+    returns)

@@ -1,0 +1,84 @@
+-- `layout::number::write_number` meets its contract: as many of the lowest digits stand there as turns were taken.
+-- Assumes nothing.
+use mathlib.Core.Path.{_≡_, refl, sym, ap, ap₂, _∙_}
+use mathlib.Core.List.{List}
+use Prim.Native.Nat.{ℕ, suc, _+_, _-_, _*_, _^_, _/_, _%_, _<_, _≤_}
+use native.Mathlib.Nat.{sub-self, add-zero, sub-zero, div-one}
+use native.Mathlib.Omega.{arith}
+use denote.Ref.{now}
+use lib.Bits.{bitAnd, and-mask}
+use lib.ListN.{length, set, length-set}
+use Rattle.value.specs.Digits.{digits}
+use Rattle.value.specs.Slice.{overlay}
+use Rattle.value.proofs.Slices.{overlay-nil}
+use Rattle.layout.proofs.Numbers.{stored-next, rest-next}
+use Rattle.layout.proofs.number.write_number.Statement.{statement}
+use Rattle.layout.proofs.number.write_number.Tie as tie
+
+abbrev Inv-loop : tie.InvT-loop
+Inv-loop number size out₀ at rest₀ left₀ out rest left =
+    (left ≤ size) × (out ≡ overlay out₀ (at + left) (digits 256 (size - left) number)) × (rest ≡ number / 256 ^ (size - left)) × (length out ≡ length out₀)
+
+abbrev μ-loop : tie.MeasureT-loop
+μ-loop number size out₀ at rest₀ left₀ out rest left = left
+
+loop-holds : tie.Need-loop-holds Inv-loop μ-loop
+unfolding digits
+loop-holds c = (omega arith, rw (sub-self, overlay-nil), rw sub-self (sym (div-one _)), refl)
+
+sub-left : tie.Need-sub-left Inv-loop μ-loop
+sub-left c = omega arith
+
+cast-out : tie.Need-cast-out Inv-loop μ-loop
+cast-out c = omega (arith, and-mask (c .before .loop .rest) 8)
+
+add-out : tie.Need-add-out Inv-loop μ-loop
+add-out c = omega arith
+
+slice-write-out : tie.Need-slice-write-out Inv-loop μ-loop
+slice-write-out c = omega arith
+
+loop-less : tie.Need-loop-less Inv-loop μ-loop
+loop-less c = omega arith
+
+loop-again : tie.Need-loop-again Inv-loop μ-loop
+loop-again c =
+    let a = c .before in
+    let x = a .before .args in
+    let d = now (x .out) in
+    let l = a .loop .left - 1 in
+    let k = x .size - a .loop .left in
+    let e : x .at + a .loop .left ≡ x .at + l + 1 = omega arith in
+    let f : suc k ≡ x .size - l = omega arith in
+    let v : bitAnd (a .loop .rest) 255 ≡ x .number / 256 ^ k % 256 = and-mask (a .loop .rest) 8 ∙ ap (λ (r : ℕ). r % 256) (a .loop .inv .2) in (
+      omega arith,
+      ap₂ (λ (o : List ℕ) (y : ℕ). set o (x .at + l) y) (a .loop .inv .1 ∙ ap (λ (q : ℕ). overlay d q (digits 256 k (x .number))) e) v
+          ∙ stored-next (x .number) d k (x .at + l) (omega arith)
+          ∙ ap (λ (j : ℕ). overlay d (x .at + l) (digits 256 j (x .number))) f,
+      ap (λ (r : ℕ). r / 256) (a .loop .inv .2) ∙ rest-next (x .number) d k ∙ ap (λ (j : ℕ). x .number / 256 ^ j) f,
+      rw length-set (a .loop .inv .3),
+    )
+
+same-length : tie.Need-same-length Inv-loop μ-loop
+same-length c = c .before .loop .inv .3
+
+returns : tie.Need-returns Inv-loop μ-loop
+returns c =
+    let e : c .before .loop .left ≡ 0 = omega arith in
+    c .before .loop .inv .1 ∙ rw (e, add-zero, sub-zero)
+
+pub write-number-spec : {M : Type 1} → statement M
+write-number-spec =
+    tie.close
+    (tie.spec
+    Inv-loop
+    μ-loop
+    loop-holds
+    sub-left
+    cast-out
+    add-out
+    slice-write-out
+    loop-less
+    loop-again
+    same-length
+    returns)

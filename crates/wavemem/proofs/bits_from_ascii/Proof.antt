@@ -1,0 +1,109 @@
+-- `wavemem::bits_from_ascii` meets its contract: the working number is that of the characters so far.
+-- Assumes nothing.
+use mathlib.Core.Path.{_≡_, refl, sym, ap, _∙_}
+use Prim.Native.Nat.{ℕ, _+_, _-_, _*_, _%_, _^_, _<_, _≤_}
+use native.Mathlib.Omega.{arith}
+use borrow.Author.Needs.{needs}
+use denote.Ref.{now}
+use lib.ListN.{length, take, drop, length-drop}
+use lib.Seq.{take-all, length-take-le}
+use Rattle.value.specs.Digits.{number}
+use Rattle.value.specs.Level.{foldAll, codesOf}
+use Rattle.wavemem.proofs.Packing.{length-codes, codes-part, part-codes, eight-more}
+use Rattle.wavemem.proofs.bits_from_ascii.Statement.{statement}
+use Rattle.wavemem.proofs.bits_from_ascii.Tie as tie
+
+abbrev Inv-loop : tie.InvT-loop
+Inv-loop value from₀ working₀ from working = (from ≤ length value) × ((length value - from) % 8 ≡ 0) × (working ≡ number 2 (take from (codesOf (foldAll value))))
+
+abbrev μ-loop : tie.MeasureT-loop
+μ-loop value from₀ working₀ from working = length value - from
+
+slice-aggregate-levels-from-ascii : tie.Need-slice-aggregate-levels-from-ascii Inv-loop μ-loop
+slice-aggregate-levels-from-ascii c =
+    let v = now (c .before .before .args .value) in
+    sym (length-take-le (length v % 8) v (omega arith))
+
+levels-from-ascii-requires : tie.Need-levels-from-ascii-requires Inv-loop μ-loop
+levels-from-ascii-requires c κs =
+    let s = c .before .before in
+    let v = now (s .args .value) in
+    record {
+      codes = part-codes (length v % 8) 0 v (s .pre .codes);
+      short = rw (length-take-le (length v % 8) v (omega arith)) (omega arith);
+    }
+
+loop-holds : tie.Need-loop-holds Inv-loop μ-loop
+loop-holds c =
+    let v = now (c .before .before .before .args .value) in
+    (omega arith, omega arith, c .levels-from-ascii .ensures ∙ ap (number 2) (codes-part (length v % 8) 0 v))
+
+-- eight characters are left
+within : (c : tie.In-loop Inv-loop μ-loop) → c .before .loop .from + 8 ≤ length (now (c .before .before .before .before .before .args .value))
+within c = omega (arith, c .before .loop .inv .0, c .before .loop .inv .1, c .loop-test .taken)
+
+add-to : tie.Need-add-to Inv-loop μ-loop
+add-to c = omega (arith, c .before .before .before .before .before .pre .short)
+
+sub-byte-of-bits : tie.Need-sub-byte-of-bits Inv-loop μ-loop
+sub-byte-of-bits c = omega arith
+
+part-byte-of-bits-start : tie.Need-part-byte-of-bits-start Inv-loop μ-loop
+part-byte-of-bits-start c = omega arith
+
+part-byte-of-bits-end : tie.Need-part-byte-of-bits-end Inv-loop μ-loop
+part-byte-of-bits-end c = within c
+
+byte-of-bits-requires : tie.Need-byte-of-bits-requires Inv-loop μ-loop
+byte-of-bits-requires c κs =
+    let i = c .before in
+    let f = i .before .loop .from in
+    let s = i .before .before .before .before .before in
+    let v = now (s .args .value) in
+    let l : length (take (f + 8 - f) (drop f v)) ≡ 8 = length-take-le (f + 8 - f) (drop f v) (rw length-drop (omega (arith, within i))) ∙ omega arith in
+    record { one = record { codes = part-codes (f + 8 - f) f v (s .pre .codes); short = omega arith }; full = l }
+
+wide-requires : tie.Need-wide-requires Inv-loop μ-loop
+wide-requires c κs = search needs
+
+loop-less : tie.Need-loop-less Inv-loop μ-loop
+loop-less c = omega arith
+
+loop-again : tie.Need-loop-again Inv-loop μ-loop
+loop-again c =
+    let i = c .before .before .before in
+    let a = i .before in
+    let f = a .loop .from in
+    let s = a .before .before .before .before in
+    let v = now (s .args .value) in
+    let z : f + 8 - f ≡ 8 = omega arith in (
+      within i,
+      omega (arith, within i, a .loop .inv .1),
+      eight-more (codesOf (foldAll v)) (s .pre .codes .below) (rw length-codes (omega (arith, s .pre .short))) f (a .loop .working) _ (rw length-codes (within i)) (a .loop .inv .2)
+          (c .wide .ensures ∙ c .before .byte-of-bits .ensures ∙ ap (λ (n : ℕ). number 2 (codesOf (foldAll (take n (drop f v))))) z ∙ ap (number 2) (codes-part 8 f v)),
+    )
+
+returns : tie.Need-returns Inv-loop μ-loop
+returns c =
+    let a = c .before in
+    let v = now (a .before .before .before .before .args .value) in
+    a .loop .inv .2 ∙ ap (number 2) (take-all (a .loop .from) (codesOf (foldAll v)) (rw length-codes (c .loop-test .left)))
+
+pub bits-from-ascii-spec : {M : Type 1} → statement M
+bits-from-ascii-spec =
+    tie.close
+    (tie.spec
+    Inv-loop
+    μ-loop
+    slice-aggregate-levels-from-ascii
+    levels-from-ascii-requires
+    loop-holds
+    add-to
+    sub-byte-of-bits
+    part-byte-of-bits-start
+    part-byte-of-bits-end
+    byte-of-bits-requires
+    wide-requires
+    loop-less
+    loop-again
+    returns)
