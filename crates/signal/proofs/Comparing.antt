@@ -265,10 +265,21 @@ module _ (a b : Encoding) (x y : List ℕ) (i j : ℕ) where
 -- ---- the walk over the pairs
 
 -- what a pair leaves to reply
-unfoldable follow : Reply Bool → Reply Bool → Reply Bool
+unfoldable pub follow : Reply Bool → Reply Bool → Reply Bool
 follow (refused n) rest = refused n
 follow (given true) rest = rest
 follow (given false) rest = given false
+
+-- after a pair that agrees, the rest; after another, its own reply
+pub goes-on : (later : Reply Bool) (r : EqualAnswer) → r ≡ answer.Equal → follow (equalOf r) later ≡ later
+unfolding follow
+goes-on later r e = ap (λ (z : EqualAnswer). follow (equalOf z) later) e
+
+pub ends : (later : Reply Bool) (r : EqualAnswer) → OneOf (1 ∷ 2 ∷ []) (tagOf equal-type r) → follow (equalOf r) later ≡ equalOf r
+unfolding follow
+ends later answer.Equal o = absurd (⊎-elim (λ z. omega arith) (λ z. omega arith) o)
+ends later answer.Unequal o = refl
+ends later (answer.Refused n) o = refl
 
 walked-step : (p q : Indexed) (l m : List Indexed)
     → walked (p ∷ l) (q ∷ m) ≡ follow (pairOf (p .encoding) (p .bytes) (p .index) (q .encoding) (q .bytes) (q .index)) (walked l m)
@@ -352,23 +363,10 @@ module _ (d : Description) (l : Lent) (e : Description) (m : Lent) where
         pair : equalOf r ≡ pairOf (d .encoding) (entryAt d (l .byteStart) (l .bytes) k) (getD (l .indices) (l .indexStart + k) 0) (e .encoding) (entryAt e (m .byteStart) (m .bytes) k) (getD (m .indices) (m .indexStart + k) 0)
         pair = rw (← a, ← b, ← u, ← v) t
 
-        step : compareRecords d l e m ≡ follow (equalOf r) (walked (rest d l (k + 1)) (rest e m (k + 1)))
+        pub step : compareRecords d l e m ≡ follow (equalOf r) (walked (rest d l (k + 1)) (rest e m (k + 1)))
         step =
             w ∙ ap₂ walked (rest-more d l h k p) (rest-more e m g k q) ∙ walked-step (entryNumber d l k) (entryNumber e m k) (rest d l (k + 1)) (rest e m (k + 1))
             ∙ ap (λ (z : Reply Bool). follow z (walked (rest d l (k + 1)) (rest e m (k + 1)))) (sym pair)
-
-        pub walk-on : r ≡ answer.Equal → compareRecords d l e m ≡ walked (rest d l (k + 1)) (rest e m (k + 1))
-        unfolding follow
-        walk-on s = step ∙ ap (λ (z : EqualAnswer). follow (equalOf z) (walked (rest d l (k + 1)) (rest e m (k + 1)))) s
-
-        pub walk-ends : OneOf (1 ∷ 2 ∷ []) (tagOf equal-type r) → equalOf r ≡ compareRecords d l e m
-        unfolding follow
-        walk-ends o = sym (step ∙ go r o)
-          where
-            go : (r : EqualAnswer) → OneOf (1 ∷ 2 ∷ []) (tagOf equal-type r) → follow (equalOf r) (walked (rest d l (k + 1)) (rest e m (k + 1))) ≡ equalOf r
-            go answer.Equal o = absurd (⊎-elim (λ z. omega arith) (λ z. omega arith) o)
-            go answer.Unequal o = refl
-            go (answer.Refused n) o = refl
 
       pub first-longer : k < d .count → e .count ≤ k → given false ≡ compareRecords d l e m
       unfolding walked

@@ -1,15 +1,15 @@
 -- `signal::compare::compare_entries` meets its contract: the records agree exactly where their entries from `k` on do.
 -- Assumes nothing.
-use mathlib.Core.Path.{_≡_}
+use mathlib.Core.Path.{_≡_, sym, _∙_}
 use mathlib.Core.Logic.{⊎-elim}
-use Prim.Native.Nat.{_-_, _≤_, _<_}
+use Prim.Native.Nat.{_+_, _-_, _≤_, _<_}
 use native.Mathlib.Omega.{arith}
 use denote.Ref.{now}
 use borrow.Author.Needs.{needs}
 use borrow.Author.Tests.{ltb-true, ltb-false}
 use Rattle.fst.specs.Record.{Lent}
-use Rattle.signal.specs.Compare.{walked, compareRecords}
-use Rattle.signal.proofs.Comparing.{rest, kept-few, kept-inside, kept-whole, kept-index, walk-starts, walk-on, walk-ends, first-longer, second-longer, both-end}
+use Rattle.signal.specs.Compare.{walked, compareRecords, equalOf}
+use Rattle.signal.proofs.Comparing.{rest, kept-few, kept-inside, kept-whole, kept-index, follow, walk-starts, step, goes-on, ends, first-longer, second-longer, both-end}
 use Rattle.signal.proofs.compare.compare_entries.Statement.{statement}
 use Rattle.signal.proofs.compare.compare_entries.Tie as tie
 
@@ -90,24 +90,26 @@ enum-told c = search needs
 loop-less : tie.Need-loop-less Inv-loop μ-loop
 loop-less c = omega (arith, in-a (c .before .before .before .before .before .before .before))
 
+-- the rest of the walk, after the pair k
+paired : (m : tie.After-compare-pair Inv-loop μ-loop) →
+    let l = turn (m .before .before .before .before .before) in
+    let s = start l in
+    compareRecords (s .args .a) (lentA s) (s .args .b) (lentB s)
+    ≡ follow (equalOf (m .compare-pair .result)) (walked (rest (s .args .a) (lentA s) (l .loop .k + 1)) (rest (s .args .b) (lentB s) (l .loop .k + 1)))
+paired m =
+    let e = m .before .before .before .before .before in
+    let s = start (turn e) in
+    step (s .args .a) (lentA s) (s .args .b) (lentB s) (s .pre .0) (s .pre .1) (turn e .loop .k) (turn e .loop .inv .2) (in-a e) (in-b e) (m .compare-pair .result) _ _ _ _
+    (m .before .before .before .before .entry-at .ensures) (m .before .before .entry-at2 .ensures) (m .before .before .before .index-at .ensures) (m .before .index-at2 .ensures) (m .compare-pair .ensures)
+
 loop-again : tie.Need-loop-again Inv-loop μ-loop
 loop-again c =
     let m = c .before .before in
     let e = m .before .before .before .before .before in
-    let s = start (turn e) in (
-      omega (arith, in-a e),
-      omega (arith, in-b e),
-      walk-on (s .args .a) (lentA s) (s .args .b) (lentB s) (s .pre .0) (s .pre .1) (turn e .loop .k) (turn e .loop .inv .2) (in-a e) (in-b e) (m .compare-pair .result) _ _ _ _
-          (m .before .before .before .before .entry-at .ensures) (m .before .before .entry-at2 .ensures) (m .before .before .before .index-at .ensures) (m .before .index-at2 .ensures) (m .compare-pair .ensures) (c .enum-told .given .1),
-    )
+    (omega (arith, in-a e), omega (arith, in-b e), paired m ∙ goes-on _ _ (c .enum-told .given .1))
 
 returns : tie.Need-returns Inv-loop μ-loop
-returns c =
-    let m = c .before in
-    let e = m .before .before .before .before .before in
-    let s = start (turn e) in
-    walk-ends (s .args .a) (lentA s) (s .args .b) (lentB s) (s .pre .0) (s .pre .1) (turn e .loop .k) (turn e .loop .inv .2) (in-a e) (in-b e) (m .compare-pair .result) _ _ _ _
-    (m .before .before .before .before .entry-at .ensures) (m .before .before .entry-at2 .ensures) (m .before .before .before .index-at .ensures) (m .before .index-at2 .ensures) (m .compare-pair .ensures) (c .match .keys2)
+returns c = sym (paired (c .before) ∙ ends _ (c .before .compare-pair .result) (c .match .keys2))
 
 returns-2 : tie.Need-returns-2 Inv-loop μ-loop
 returns-2 c =

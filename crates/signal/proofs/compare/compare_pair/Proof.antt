@@ -1,9 +1,9 @@
 -- `signal::compare::compare_pair` meets its contract.
 -- Assumes nothing.
-use mathlib.Core.Path.{sym, ap, _∙_}
+use mathlib.Core.Path.{_≡_, sym, ap, _∙_}
 use denote.Ref.{now}
 use Rattle.signal.proofs.Comparing.{sound, first-refused, second-refused, pair-apart, pair-told}
-use Rattle.signal.specs.Parts.{Sound}
+use Rattle.signal.specs.Parts.{Sound, pairOf}
 use borrow.Author.Needs.{needs}
 use Rattle.fst.specs.Refusal.{numberOf, given}
 use Rattle.signal.proofs.compare.compare_pair.Statement.{statement}
@@ -63,19 +63,21 @@ returns-3 c =
 same-value-requires : tie.Need-same-value-requires
 same-value-requires c κs = (first (c .before .before .before .before), second (c .before))
 
-returns-4 : tie.Need-returns-4
-returns-4 c =
-    let e = c .before .before .before in
+-- where the time indices agree, the values tell
+told : (c : tie.After-same-value) →
+    let a = c .before .before .before .before .before .before .before .before .before .before .args in
+    given (c .same-value .result) ≡ pairOf (a .a) (now (a .x)) (a .i) (a .b) (now (a .y)) (a .j)
+told c =
+    let e = c .before .before in
     let f = e .before .before .before in
     let a = f .before .before .before .before .before .args in
-    sym (ap given (c .if2 .taken)) ∙ pair-told (a .a) (a .b) (now (a .x)) (now (a .y)) (a .i) (a .j) (first f) (second e) (c .before .before .if1 .left) _ (c .before .same-value .ensures)
+    pair-told (a .a) (a .b) (now (a .x)) (now (a .y)) (a .i) (a .j) (first f) (second e) (c .before .if1 .left) _ (c .same-value .ensures)
+
+returns-4 : tie.Need-returns-4
+returns-4 c = sym (ap given (c .if2 .taken)) ∙ told (c .before)
 
 returns-5 : tie.Need-returns-5
-returns-5 c =
-    let e = c .before .before .before in
-    let f = e .before .before .before in
-    let a = f .before .before .before .before .before .args in
-    sym (ap given (c .if2 .left)) ∙ pair-told (a .a) (a .b) (now (a .x)) (now (a .y)) (a .i) (a .j) (first f) (second e) (c .before .before .if1 .left) _ (c .before .same-value .ensures)
+returns-5 c = sym (ap given (c .if2 .left)) ∙ told (c .before)
 
 pub compare-pair-spec : {M : Type 1} → statement M
 compare-pair-spec =
