@@ -234,17 +234,6 @@ module _ (d : DerivedBitVecSignal) (inputs : Inputs) (bytes indices : List ℕ) 
       pub set-in : markOf (largestNow bytes cs) ≤ markOf (largestAmong ks)
       set-in = largest-within bytes indices (inputsOf inputs) (p .begun) (all-known (SetWithin bytes) (set-within bytes indices))
 
-      pub stepped : Stepped inputs bytes p (take (d .«piece_count») (d .bits)) (largestNow bytes cs) (d .width)
-      stepped =
-          record {
-            shown = all-showing;
-            pieces = pieces-in;
-            under = all-under bytes (largestNow bytes cs) cs (omega arith);
-            whole = sym (parts .whole);
-            wide = wide;
-            narrow = parts .narrow;
-          }
-
       -- each picked level is a letter's
       letters-of : (e : Extract) → isBadPiece (d .«input_count») e ≡ false → codeIsBad ks e ≡ false → Below 9 (pickedOf e (getD (map (levelsNow bytes) cs) (e .signal) []))
       unfolding keptIn
@@ -273,3 +262,15 @@ module _ (d : DerivedBitVecSignal) (inputs : Inputs) (bytes indices : List ℕ) 
               below-append 9 (pickedOf e (getD (map (levelsNow bytes) cs) (e .signal) [])) (pickedNow bytes cs es)
               (letters-of e (or-left (B e) (any B es) x) (or-left (codeIsBad ks e) (any (codeIsBad ks) es) y))
               (go es (or-right (B e) (any B es) x) (or-right (codeIsBad ks e) (any (codeIsBad ks) es) y))
+
+      pub stepped : Stepped inputs bytes p (take (d .«piece_count») (d .bits)) (largestNow bytes cs) (d .width)
+      stepped =
+          record {
+            shown = all-showing;
+            pieces = pieces-in;
+            under = all-under bytes (largestNow bytes cs) cs (omega arith);
+            letters = letters;
+            whole = sym (parts .whole);
+            wide = wide;
+            narrow = parts .narrow;
+          }

@@ -8,9 +8,9 @@ use lib.Dec.{eqb}
 use lib.ListN.{length, drop, getD, set}
 use Rattle.value.specs.declared.States.{States}
 use Rattle.value.specs.declared.States.the-variants.{Two}
+use Rattle.value.specs.Digits.{Below}
 use Rattle.value.specs.Slice.{part, overlay, same, sum}
-use Rattle.value.specs.Level.{markOf, bitsOf, join}
-use Rattle.value.specs.Answer.{withLevel}
+use Rattle.value.specs.Level.{markOf, join}
 use Rattle.layout.specs.Entry.{entrySize, entryOf}
 use Rattle.fst.specs.Change.{repeats}
 use Rattle.fst.specs.Record.{largestIn}
@@ -113,33 +113,32 @@ pub record AllShowing (inputs : Inputs) (bytes : List ℕ) (p : Position) : Type
   pub few : inputs .count ≤ 8
   pub shown : All (Showing bytes) (cursorsOf inputs p)
 
--- ---- an entry stored level by level
+-- ---- the characters of a step gathered, and the entry that they make
 
--- big-endian bytes with levels put in, highest first, where so many levels are still to be put in
-unfoldable pub filled : ℕ → ℕ → List ℕ → List ℕ → List ℕ
-filled b left [] out = out
-filled b left (c ∷ cs) out = filled b (left - 1) cs (withLevel b (left - 1) c out)
-
--- a piece lies within its input's width, whose set is not above the step's, and its levels are among those that are left
-pub record Picks (bytes : List ℕ) (c : Cursor) (e : Extract) (S : States) (left size : ℕ) : Type 0 where
+-- a piece lies within its input's width, and there is room for its characters from a place on
+pub record Picks (bytes : List ℕ) (c : Cursor) (e : Extract) (room at : ℕ) : Type 0 where
   pub shows : Showing bytes c
   pub within : endOf e ≤ widthNow c
-  pub under : markOf (setNow bytes c) ≤ markOf S
-  pub some : e .width ≤ left
-  pub few : left ≤ 4096
-  pub room : left * bitsOf S ≤ 8 * size
+  pub fits : at + e .width ≤ room
 
 abbrev pub PieceIn : List Cursor → Extract → Type 0
 PieceIn cs e = (e .signal < length cs) × (endOf e ≤ getD (map widthNow cs) (e .signal) 0)
 
+-- each piece lies within its input's width, and there is room for the characters of all
+pub record Pickable (inputs : Inputs) (bytes : List ℕ) (p : Position) (packed : List ℕ) (room : ℕ) : Type 0 where
+  pub shown : AllShowing inputs bytes p
+  pub pieces : All (PieceIn (cursorsOf inputs p)) (map extractOf packed)
+  pub fits : sum (map pieceWidth (map extractOf packed)) ≤ room
+
 abbrev pub Under : List ℕ → States → Cursor → Type 0
 Under bytes S c = markOf (setNow bytes c) ≤ markOf S
 
--- the pieces of a step and its set
+-- the pieces of a step and its set, of which each picked level is a letter's
 pub record Stepped (inputs : Inputs) (bytes : List ℕ) (p : Position) (packed : List ℕ) (S : States) (width : ℕ) : Type 0 where
   pub shown : AllShowing inputs bytes p
   pub pieces : All (PieceIn (cursorsOf inputs p)) (map extractOf packed)
   pub under : All (Under bytes S) (cursorsOf inputs p)
+  pub letters : Below 9 (pickedNow bytes (cursorsOf inputs p) (map extractOf packed))
   pub whole : sum (map pieceWidth (map extractOf packed)) ≡ width
   pub wide : 1 ≤ width
   pub narrow : width ≤ 4096

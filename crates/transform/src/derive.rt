@@ -97,9 +97,10 @@ fn take_step(
     position: Position,
     max_states: States,
     index: u32,
+    text: &mut [u8],
     entry: &mut [u8],
 ) -> Position
-    requires { ⌜ Takeable inputs (now bytes) (now indices) position (now pieces) «max_states» width index × (length (now entry) ≡ entrySize width «max_states») ⌝ }
+    requires { ⌜ Takeable inputs (now bytes) (now indices) position (now pieces) «max_states» width index × (width ≤ length (now text)) × (length (now entry) ≡ entrySize width «max_states») ⌝ }
     ensures { λ r. ⌜ Taken inputs (now (bytes .entry)) (now (indices .entry)) position (now (pieces .entry)) «max_states» width index r (now (entry .exit)) ⌝ }
 {
     let next = advance(inputs, indices, position, index);
@@ -112,6 +113,7 @@ fn take_step(
         next,
         max_states,
         states,
+        text,
         entry,
     );
     next
@@ -179,6 +181,7 @@ fn count_steps(
 {
     let bits = derivation.bits;
     let pieces = &bits[0..derivation.piece_count as usize];
+    let mut text = [0u8; 4096];
     let mut position = Position { begun: [0; 8] };
     let mut next = next_index(inputs, indices, position);
     let mut count: u32 = 0;
@@ -195,6 +198,7 @@ fn count_steps(
             position,
             max_states,
             index,
+            &mut text[..],
             entry,
         );
         count = kept_with(count, last, entry);
@@ -219,6 +223,7 @@ fn write_steps(
 {
     let bits = derivation.bits;
     let pieces = &bits[0..derivation.piece_count as usize];
+    let mut text = [0u8; 4096];
     let mut position = Position { begun: [0; 8] };
     let mut next = next_index(inputs, indices, position);
     let mut count: u32 = 0;
@@ -235,6 +240,7 @@ fn write_steps(
             position,
             max_states,
             index,
+            &mut text[..],
             entry,
         );
         count = append_step(count, entry, index, out_bytes, out_indices);

@@ -1,22 +1,24 @@
 // Stepping over the inputs of a derivation, apart from what a step yields.
 ghost use mathlib.Core.Path.{_≡_};
 ghost use mathlib.Core.List.{map};
-ghost use Prim.Native.Nat.{_*_, _≤_, _<_};
+ghost use Prim.Native.Nat.{_+_, _≤_};
 ghost use lib.ListN.{length};
-ghost use Rattle.value.specs.Level.{bitsOf, markOf};
+ghost use Rattle.value.specs.Slice.{part, overlay};
+ghost use Rattle.value.specs.Level.{markOf, textOf};
 ghost use Rattle.layout.specs.Entry.{entrySize, entryOf};
 ghost use Rattle.signal.specs.Decode.{levelPart};
+ghost use Rattle.signal.specs.Parts.{codesAt, Levels};
 ghost use Rattle.signal.specs.Read.{widthOf};
 ghost use Rattle.transform.specs.Derive.{pickedOf};
 ghost use Rattle.transform.specs.Piece.{extractOf};
 ghost use Rattle.transform.specs.Steps.{smaller};
 ghost use Rattle.transform.specs.Stepping.{Reaches, Indexable, cursor, cursorsOf, nextIn, soonest, begunAt, advanced};
-ghost use Rattle.transform.specs.Stepping.{shownBytes, setNow, levelsNow, largestNow, pickedNow, Showing, AllShowing, filled, Picks, Stepped};
+ghost use Rattle.transform.specs.Stepping.{shownBytes, setNow, levelsNow, largestNow, pickedNow, Showing, AllShowing, Picks, Pickable, Stepped};
 use crate::Extract;
 use crate::Input;
 use crate::Inputs;
 use fst::Encoding;
-use layout::entry::push_zeros;
+use layout::entry::write_entry;
 use signal::NextIndex;
 use signal::decode::code_at;
 use signal::decode::level_part;
@@ -24,6 +26,7 @@ use signal::decode::mark_in;
 use signal::decode::states_of;
 use signal::read::entry_at;
 use value::States;
+use value::num_to_bit_char;
 
 // How many entries of each input have begun. An input shows the last of these, and the next one is the entry of that number.
 pub struct Position {
@@ -156,18 +159,50 @@ pub fn step_states(inputs: Inputs, bytes: &[u8], position: Position) -> States
     states
 }
 
-// Stores the levels of one piece, highest first, where `left` levels are still to be stored.
-fn write_piece(
-    extract: Extract,
-    input: Input,
-    bytes: &[u8],
-    begun: u32,
+// Stores the characters of `count` levels, of which `first` is the number of the first, from a place on.
+fn write_levels(
+    width: u32,
     states: States,
-    left: u32,
-    out: &mut [u8],
+    levels: &[u8],
+    first: u32,
+    count: u32,
+    text: &mut [u8],
+    at: usize,
 )
-    requires { ⌜ Picks (now bytes) (cursor input begun) extract states left (length (now out)) ⌝ }
-    ensures { λ _. ⌜ now (out .exit) ≡ filled (bitsOf states) left (pickedOf extract (levelsNow (now (bytes .entry)) (cursor input begun))) (now (out .entry)) ⌝ }
+    requires { ⌜ Levels width states (now levels) × (first + count ≤ width) × (at + count ≤ length (now text)) ⌝ }
+    ensures { λ _. ⌜ now (text .exit) ≡ overlay (now (text .entry)) at (textOf (part first count (codesAt width states (now (levels .entry))))) ⌝ }
+{
+    let mut j = 0;
+    while j < count {
+        text[at + j as usize] = num_to_bit_char(code_at(width, states, levels, first + j));
+        j += 1;
+    }
+}
+
+// `write_levels` for each set apart, so that each is compiled for its own number of bits.
+fn write_levels_of(
+    width: u32,
+    states: States,
+    levels: &[u8],
+    first: u32,
+    count: u32,
+    text: &mut [u8],
+    at: usize,
+)
+    requires { ⌜ Levels width states (now levels) × (first + count ≤ width) × (at + count ≤ length (now text)) ⌝ }
+    ensures { λ _. ⌜ now (text .exit) ≡ overlay (now (text .entry)) at (textOf (part first count (codesAt width states (now (levels .entry))))) ⌝ }
+{
+    match states {
+        States::Two => write_levels(width, States::Two, levels, first, count, text, at),
+        States::Four => write_levels(width, States::Four, levels, first, count, text, at),
+        States::Nine => write_levels(width, States::Nine, levels, first, count, text, at),
+    }
+}
+
+// Stores the characters of one piece from a place on.
+fn write_piece(extract: Extract, input: Input, bytes: &[u8], begun: u32, text: &mut [u8], at: usize)
+    requires { ⌜ Picks (now bytes) (cursor input begun) extract (length (now text)) at ⌝ }
+    ensures { λ _. ⌜ now (text .exit) ≡ overlay (now (text .entry)) at (textOf (pickedOf extract (levelsNow (now (bytes .entry)) (cursor input begun)))) ⌝ }
 {
     let description = input.description;
     let encoding = description.encoding;
@@ -176,48 +211,27 @@ fn write_piece(
     let levels = shown_levels(input, bytes, begun);
     let count = extract.width as u32;
     let first = width - (extract.lsb + count);
-    let mut j = 0;
-    while j < count {
-        let code = code_at(width, own, levels, first + j);
-        states.set_bit(out, left - 1 - j, code);
-        j += 1;
-    }
+    write_levels_of(width, own, levels, first, count, text, at);
 }
 
-// Stores the levels of all pieces, highest first.
-fn write_pieces(
-    width: u32,
-    pieces: &[u64],
-    inputs: Inputs,
-    bytes: &[u8],
-    position: Position,
-    states: States,
-    out: &mut [u8],
-)
-    requires { ⌜ Stepped inputs (now bytes) position (now pieces) states width × (width * bitsOf states ≤ 8 * length (now out)) ⌝ }
-    ensures { λ _. ⌜ now (out .exit) ≡ filled (bitsOf states) width (pickedNow (now (bytes .entry)) (cursorsOf inputs position) (map extractOf (now (pieces .entry)))) (now (out .entry)) ⌝ }
+// Stores the characters of all pieces.
+fn write_pieces(pieces: &[u64], inputs: Inputs, bytes: &[u8], position: Position, text: &mut [u8])
+    requires { ⌜ Pickable inputs (now bytes) position (now pieces) (length (now text)) ⌝ }
+    ensures { λ _. ⌜ now (text .exit) ≡ overlay (now (text .entry)) 0 (textOf (pickedNow (now (bytes .entry)) (cursorsOf inputs position) (map extractOf (now (pieces .entry))))) ⌝ }
 {
-    let mut left = width;
+    let mut at = 0;
     let mut i = 0;
     while i < pieces.len() {
         let extract = Extract::from_u64(pieces[i]);
         let signal = extract.signal as usize;
         let input = inputs.slots[signal];
-        write_piece(
-            extract,
-            input,
-            bytes,
-            position.begun[signal],
-            states,
-            left,
-            out,
-        );
-        left -= extract.width as u32;
+        write_piece(extract, input, bytes, position.begun[signal], text, at);
+        at += extract.width as usize;
         i += 1;
     }
 }
 
-// Stores the entry of a step in bytes that are as many as an entry takes.
+// Stores the entry of a step in bytes that are as many as an entry takes, by its characters, for which there is room.
 pub fn write_step(
     width: u32,
     pieces: &[u64],
@@ -226,13 +240,12 @@ pub fn write_step(
     position: Position,
     max_states: States,
     states: States,
+    text: &mut [u8],
     out: &mut [u8],
 )
-    requires { ⌜ Stepped inputs (now bytes) position (now pieces) states width × (markOf states ≤ markOf «max_states») × (length (now out) ≡ entrySize width «max_states») ⌝ }
+    requires { ⌜ Stepped inputs (now bytes) position (now pieces) states width × (markOf states ≤ markOf «max_states») × (width ≤ length (now text)) × (length (now out) ≡ entrySize width «max_states») ⌝ }
     ensures { λ _. ⌜ now (out .exit) ≡ entryOf width «max_states» states (pickedNow (now (bytes .entry)) (cursorsOf inputs position) (map extractOf (now (pieces .entry)))) ⌝ }
 {
-    let size = out.len();
-    push_zeros(out, 0, size);
-    out[0] = states.mark() << 6;
-    write_pieces(width, pieces, inputs, bytes, position, states, out);
+    write_pieces(pieces, inputs, bytes, position, text);
+    write_entry(max_states, states, &text[..width as usize], out, 0);
 }

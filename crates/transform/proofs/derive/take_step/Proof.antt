@@ -16,7 +16,7 @@ use Rattle.transform.proofs.derive.take_step.Tie as tie
 -- what the inputs show once they have moved
 module _ (a : tie.After-advance) where
   abbrev start : tie.Start
-  start = a .before .before .before .before .before
+  start = a .before .before .before .before .before .before
 
   known : Stepped (start .args .inputs) (now (start .args .bytes)) (a .advance .result) (now (start .args .pieces)) (largestNow (now (start .args .bytes)) (cursorsOf (start .args .inputs) (a .advance .result))) (start .args .width)
       × (markOf (largestNow (now (start .args .bytes)) (cursorsOf (start .args .inputs) (a .advance .result))) ≤ markOf (start .args .max-states))
@@ -30,22 +30,25 @@ step-states-requires c κs = known c .0 .shown
 
 write-step-requires : tie.Need-write-step-requires
 write-step-requires c κs =
-    let t = c .before in
+    let t = c .before .before in
     let a = t .before in
     let e = t .step-states .ensures in
-    (rw e (known a .0), rw e (known a .1), start a .pre .1)
+    (rw e (known a .0), rw e (known a .1), start a .pre .1, start a .pre .2)
 
 same-length : tie.Need-same-length
 same-length c = search needs
 
+same-length-2 : tie.Need-same-length-2
+same-length-2 c = search needs
+
 returns : tie.Need-returns
 returns c =
-    let w = c .before .before in
-    let t = w .before .before in
+    let w = c .before .before .before .before in
+    let t = w .before .before .before in
     let a = t .before in
     record { places = a .advance .ensures .1; on = a .advance .ensures .0; stored = w .write-step .ensures ∙ ap (λ (S : States). entryOf (start a .args .width) (start a .args .max-states) S (pickedNow (now (start a .args .bytes)) (cursorsOf (start a .args .inputs) (a .advance .result)) (map extractOf (now (start a .args .pieces))))) (t .step-states .ensures) }
 
 pub take-step-spec : {M : Type 1} → statement M
 take-step-spec =
     tie.close
-    (tie.spec advance-requires step-states-requires write-step-requires same-length returns)
+    (tie.spec advance-requires step-states-requires write-step-requires same-length same-length-2 returns)

@@ -6,7 +6,7 @@ use Prim.Native.Nat.{ℕ, _+_, _-_, _≤_, _<_}
 use native.Mathlib.Omega.{arith}
 use borrow.Author.Needs.{needs}
 use denote.Ref.{now}
-use lib.ListN.{length, take, drop}
+use lib.ListN.{length, take, drop, length-replicate}
 use Rattle.value.specs.declared.States.{States}
 use Rattle.value.specs.Slice.{overlay}
 use Rattle.layout.specs.Entry.{entrySize}
@@ -22,22 +22,23 @@ use Rattle.transform.proofs.Walks.{sized}
 use Rattle.transform.proofs.Pieces.{Sized}
 use Rattle.transform.proofs.InputTests.{slotted}
 use Rattle.transform.proofs.SteppingTracks.{tracks, toCome}
-use Rattle.transform.proofs.SteppingSources.{indexable, few-pieces}
+use Rattle.transform.proofs.SteppingSources.{indexable, few-pieces, narrow}
 use Rattle.transform.proofs.SteppingWalk.{M, Walk}
 use Rattle.transform.proofs.SteppingKept.{Writing, writing-start, writing-done, writing-on, appendable, takeable, takeable-as, taken-as, roomy-as, walk-as, fewer}
 use Rattle.transform.proofs.derive.write_steps.Statement.{statement}
 use Rattle.transform.proofs.derive.write_steps.Tie as tie
 
 abbrev Inv-loop : tie.InvT-loop
-Inv-loop derivation inputs bytes indices max-states entry₀ out-bytes₀ out-indices₀ pieces position₀ next₀ count₀ entry out-bytes out-indices position next count =
+Inv-loop derivation inputs bytes indices max-states entry₀ out-bytes₀ out-indices₀ pieces text₀ position₀ next₀ count₀ entry out-bytes out-indices text position next count =
     Writing derivation inputs bytes indices out-bytes₀ out-indices₀ position next count out-bytes out-indices
     × (length entry ≡ length entry₀)
     × (length out-bytes ≡ length out-bytes₀)
     × (pieces ≡ take (derivation .«piece_count») (derivation .bits))
     × (length out-indices ≡ length out-indices₀)
+    × (length text ≡ 4096)
 
 abbrev μ-loop : tie.MeasureT-loop
-μ-loop derivation inputs bytes indices max-states entry₀ out-bytes₀ out-indices₀ pieces position₀ next₀ count₀ entry out-bytes out-indices position next count =
+μ-loop derivation inputs bytes indices max-states entry₀ out-bytes₀ out-indices₀ pieces text₀ position₀ next₀ count₀ entry out-bytes out-indices text position next count =
     toCome (tracks bytes indices (cursorsOf inputs position))
 
 -- what is known all along
@@ -70,13 +71,13 @@ module _ (k : tie.After-known-told Inv-loop μ-loop) where
 -- it is taken
 module _ (t : tie.After-take-step Inv-loop μ-loop) where
   abbrev k : tie.After-known-told Inv-loop μ-loop
-  k = t .before .before
+  k = t .before .before .before
 
   abbrev q : Position
   q = t .take-step .result
 
   abbrev made : List ℕ
-  made = t .take-step .last .1 .1 .1 .1 .1 .1 .1 .1 .0
+  made = t .take-step .last .1 .1 .1 .1 .1 .1 .1 .1 .1 .0
 
   taken : Taken (start k .args .inputs) (now (start k .args .bytes)) (now (start k .args .indices)) (l k .loop .position) (take (start k .args .derivation .«piece_count») (start k .args .derivation .bits))
       (M (start k .args .derivation) (start k .args .inputs) (now (start k .args .bytes)) (now (start k .args .indices))) (start k .args .derivation .width) (index k) q made
@@ -85,7 +86,7 @@ module _ (t : tie.After-take-step Inv-loop μ-loop) where
       (start k .args .max-states) (start k .pre .0 .largest) (t .take-step .ensures)
 
   made-long : length made ≡ length (now (start k .args .entry))
-  made-long = t .take-step .kept .1 .1 .1 .1 .1 .1 .1 .1 .0 ∙ l k .loop .inv .1
+  made-long = t .take-step .kept .1 .1 .1 .1 .1 .1 .1 .1 .1 .0 ∙ l k .loop .inv .1
 
   room : Roomy (derivedList (piecesOf (start k .args .derivation)) (keptAll (now (start k .args .bytes)) (now (start k .args .indices)) (start k .args .inputs)))
       (entrySize (start k .args .derivation .width) (M (start k .args .derivation) (start k .args .inputs) (now (start k .args .bytes)) (now (start k .args .indices))))
@@ -124,6 +125,7 @@ loop-holds c =
       refl,
       ap (λ (n : ℕ). take n (a .derivation .bits)) z,
       refl,
+      length-replicate {A = ℕ} 4096 0,
     )
 
 enum-known-next : tie.Need-enum-known-next Inv-loop μ-loop
@@ -150,19 +152,23 @@ returns c =
     let steps = derivedList (piecesOf (a .derivation)) (keptAll (now (a .bytes)) (now (a .indices)) (a .inputs)) in
     (record { entries = z .0 ∙ ap (λ (K : States). overlay (now (a .out-bytes)) 0 (entriesOf (a .derivation .width) K steps)) (sym (s .pre .0 .largest)); times = z .1 }, z .2)
 
+slice-aggregate-take-step : tie.Need-slice-aggregate-take-step Inv-loop μ-loop
+slice-aggregate-take-step c = sym (l (c .before) .loop .inv .5)
+
 take-step-requires : tie.Need-take-step-requires Inv-loop μ-loop
 take-step-requires c κs =
-    let k = c .before in
+    let k = c .before .before in
     let s = start k in
     let a = s .args in (
       takeable-as (a .derivation) (a .inputs) (now (a .bytes)) (now (a .indices)) (l k .loop .position) (index k) _ (l k .loop .inv .3) (a .max-states) (s .pre .0 .largest)
           (takeable (a .derivation) (a .inputs) (now (a .bytes)) (now (a .indices)) (s .pre .0 .derivable) (slots s) (size s) (l k .loop .position) (index k) _ _ (walk k)),
+      rw (l k .loop .inv .5) (narrow (a .derivation) (a .inputs) (now (a .bytes)) (now (a .indices)) (s .pre .0 .derivable) (slots s) (size s)),
       l k .loop .inv .1 ∙ s .pre .0 .sized,
     )
 
 append-step-requires : tie.Need-append-step-requires Inv-loop μ-loop
 append-step-requires c κs =
-    let t = c .before .before .before .before .before in
+    let t = c .before .before .before .before .before .before in
     let v = l (k t) in
     let s = start (k t) in
     let a = s .args in
@@ -171,12 +177,12 @@ append-step-requires c κs =
 
 next-index-requires-2 : tie.Need-next-index-requires-2 Inv-loop μ-loop
 next-index-requires-2 c κs =
-    let t = c .before .before .before .before .before .before .before .before .before .before in
+    let t = c .before .before .before .before .before .before .before .before .before .before .before in
     can-index (start (k t))
 
 loop-less : tie.Need-loop-less Inv-loop μ-loop
 loop-less c =
-    let t = c .before .before .before .before .before .before .before .before .before .before .before in
+    let t = c .before .before .before .before .before .before .before .before .before .before .before .before in
     let s = start (k t) in
     let a = s .args in
     fewer (a .derivation) (a .inputs) (now (a .bytes)) (now (a .indices)) (s .pre .0 .derivable) (slots s) (size s) (l (k t) .loop .position) (index (k t)) _ _ (walk (k t)) (q t) (made t) (taken t)
@@ -184,7 +190,7 @@ loop-less c =
 loop-again : tie.Need-loop-again Inv-loop μ-loop
 loop-again c =
     let g = c .before .before .before .before .before in
-    let t = g .before .before .before .before .before .before in
+    let t = g .before .before .before .before .before .before .before in
     let v = l (k t) in
     let s = start (k t) in
     let a = s .args in (
@@ -195,6 +201,7 @@ loop-again c =
       g .append-step .kept .1 .1 .1 .0 ∙ v .loop .inv .2,
       v .loop .inv .3,
       g .append-step .kept .1 .1 .1 .1 .0 ∙ v .loop .inv .4,
+      t .take-step .kept .1 .1 .1 .1 .1 .1 .1 .1 .0 ∙ v .loop .inv .5,
     )
 
 pub write-steps-spec : {M : Type 1} → statement M
@@ -215,6 +222,7 @@ write-steps-spec =
     same-length-2
     same-length-3
     returns
+    slice-aggregate-take-step
     take-step-requires
     append-step-requires
     next-index-requires-2

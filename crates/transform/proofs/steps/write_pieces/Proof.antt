@@ -1,32 +1,31 @@
 -- `transform::steps::write_pieces` meets its contract: the pieces passed are stored, and those that are left make the rest.
 -- Assumes nothing.
-use mathlib.Core.Path.{_≡_, refl, sym, ap, _∙_}
+use mathlib.Core.Path.{_≡_, refl, sym, _∙_}
 use mathlib.Core.List.{List, map}
 use Prim.Native.Nat.{ℕ, suc, _+_, _-_, _≤_, _<_}
 use native.Mathlib.Omega.{arith}
 use borrow.Author.Needs.{needs}
 use denote.Ref.{now}
 use lib.ListN.{length, drop, getD}
-use Rattle.value.specs.Level.{bitsOf}
-use Rattle.transform.specs.declared.Extract.{Extract}
+use Rattle.value.specs.Level.{textOf}
+use Rattle.value.specs.Slice.{overlay}
 use Rattle.transform.specs.Piece.{extractOf}
-use Rattle.transform.specs.Stepping.{cursorsOf, pickedNow, filled, Stepped}
-use Rattle.transform.proofs.InputTests.{slotted}
+use Rattle.transform.specs.Stepping.{cursor, cursorsOf, pickedNow, Picks}
+use Rattle.transform.proofs.InputTests.{slotted, noInput}
 use Rattle.transform.proofs.Stepping.{begun-sized}
-use Rattle.transform.proofs.SteppingEntry.{widths, signal-in, left-some, left-more, piece-picks, pieces-more, pieces-done, filled-length}
+use Rattle.transform.proofs.SteppingEntry.{widths, signal-in, piece-picks, room-more, pieces-more, pieces-done}
 use Rattle.transform.proofs.steps.write_pieces.Statement.{statement}
 use Rattle.transform.proofs.steps.write_pieces.Tie as tie
 
 abbrev Inv-loop : tie.InvT-loop
-Inv-loop width pieces bytes states out₀ inputs position left₀ i₀ out left i =
+Inv-loop pieces bytes text₀ inputs position at₀ i₀ text at i =
     (i ≤ length pieces)
-    × (length out ≡ length out₀)
-    × (left ≡ widths (drop i pieces))
-    × (left ≤ width)
-    × (filled (bitsOf states) left (pickedNow bytes (cursorsOf inputs position) (map extractOf (drop i pieces))) out ≡ filled (bitsOf states) width (pickedNow bytes (cursorsOf inputs position) (map extractOf pieces)) out₀)
+    × (length text ≡ length text₀)
+    × (at + widths (drop i pieces) ≤ length text₀)
+    × (overlay text at (textOf (pickedNow bytes (cursorsOf inputs position) (map extractOf (drop i pieces)))) ≡ overlay text₀ 0 (textOf (pickedNow bytes (cursorsOf inputs position) (map extractOf pieces))))
 
 abbrev μ-loop : tie.MeasureT-loop
-μ-loop width pieces bytes states out₀ inputs position left₀ i₀ out left i = length pieces - i
+μ-loop pieces bytes text₀ inputs position at₀ i₀ text at i = length pieces - i
 
 -- what is known of the piece at hand
 module _ (k : tie.After-from-u64 Inv-loop μ-loop) where
@@ -36,22 +35,27 @@ module _ (k : tie.After-from-u64 Inv-loop μ-loop) where
   abbrev turn : tie.At-loop Inv-loop μ-loop
   turn = k .before .before .before
 
-  slots : length (start .args .t3 .slots) ≡ 8
-  slots = slotted (start .args .t3) _ (start .good .1 .1 .0)
+  slots : length (start .args .t2 .slots) ≡ 8
+  slots = slotted (start .args .t2) _ (start .good .1 .0)
 
-  places : length (start .args .t5 .begun) ≡ 8
-  places = begun-sized (start .args .t5) _ (start .good .1 .1 .1 .1 .0)
+  places : length (start .args .t4 .begun) ≡ 8
+  places = begun-sized (start .args .t4) _ (start .good .1 .1 .1 .0)
 
-  among : k .from-u64 .result .signal < start .args .t3 .count
+  among : k .from-u64 .result .signal < start .args .t2 .count
   among =
-      signal-in (start .args .t3) (now (start .args .bytes)) (start .args .t5) (now (start .args .pieces)) (start .args .states) (start .args .width) (start .pre .0)
+      signal-in (start .args .t2) (now (start .args .bytes)) (start .args .t4) (now (start .args .pieces)) _ (start .pre)
       slots places (turn .loop .i) (k .before .before .loop-test .taken) (k .from-u64 .result) (k .from-u64 .ensures)
 
   in-eight : k .from-u64 .result .signal < 8
-  in-eight = omega (arith, among, start .pre .0 .shown .few)
+  in-eight = omega (arith, among, start .pre .shown .few)
+
+  picks : Picks (now (start .args .bytes)) (cursor (getD (start .args .t2 .slots) (k .from-u64 .result .signal) noInput) (getD (start .args .t4 .begun) (k .from-u64 .result .signal) 0)) (k .from-u64 .result) (length (now (start .args .text))) (turn .loop .at)
+  picks =
+      piece-picks (start .args .t2) (now (start .args .bytes)) (start .args .t4) (now (start .args .pieces)) _ (start .pre)
+      slots places (turn .loop .i) (k .before .before .loop-test .taken) (k .from-u64 .result) (k .from-u64 .ensures) (turn .loop .at) (turn .loop .inv .2)
 
 loop-holds : tie.Need-loop-holds Inv-loop μ-loop
-loop-holds c = (omega arith, refl, sym (c .before .before .before .pre .0 .whole), omega arith, refl)
+loop-holds c = (omega arith, refl, omega (arith, c .before .before .before .pre .fits), refl)
 
 mul-from-u64 : tie.Need-mul-from-u64 Inv-loop μ-loop
 mul-from-u64 c = search needs
@@ -78,24 +82,13 @@ element-copy-out-write-piece : tie.Need-element-copy-out-write-piece Inv-loop μ
 element-copy-out-write-piece c = in-eight (c .before .before)
 
 write-piece-requires : tie.Need-write-piece-requires Inv-loop μ-loop
-write-piece-requires c κs =
-    let k = c .before .before .before .before in
-    piece-picks (start k .args .t3) (now (start k .args .bytes)) (start k .args .t5) (now (start k .args .pieces)) (start k .args .states) (start k .args .width) (start k .pre .0)
-    (slots k) (places k) (turn k .loop .i) (k .before .before .loop-test .taken) (k .from-u64 .result) (k .from-u64 .ensures) (turn k .loop .left) (turn k .loop .inv .2)
-    _ (turn k .loop .inv .3) (rw (turn k .loop .inv .1) (start k .pre .1))
+write-piece-requires c κs = let k = c .before .before .before .before in rw (turn k .loop .inv .1) (picks k)
 
-cast-left : tie.Need-cast-left Inv-loop μ-loop
-cast-left c =
-    let k = c .before .before .before .before .before .before .before .before in
-    let z = left-some (start k .args .t3) (now (start k .args .bytes)) (start k .args .t5) (now (start k .args .pieces)) (start k .args .states) (start k .args .width) (start k .pre .0)
-    (slots k) (places k) (turn k .loop .i) (k .before .before .loop-test .taken) (k .from-u64 .result) (k .from-u64 .ensures) (turn k .loop .left) (turn k .loop .inv .2) in
-    omega (arith, start k .pre .0 .narrow, turn k .loop .inv .3)
+cast-at : tie.Need-cast-at Inv-loop μ-loop
+cast-at c = search needs
 
-sub-left : tie.Need-sub-left Inv-loop μ-loop
-sub-left c =
-    let k = c .before .before .before .before .before .before .before .before in
-    left-some (start k .args .t3) (now (start k .args .bytes)) (start k .args .t5) (now (start k .args .pieces)) (start k .args .states) (start k .args .width) (start k .pre .0)
-    (slots k) (places k) (turn k .loop .i) (k .before .before .loop-test .taken) (k .from-u64 .result) (k .from-u64 .ensures) (turn k .loop .left) (turn k .loop .inv .2)
+add-at : tie.Need-add-at Inv-loop μ-loop
+add-at c = let k = c .before .before .before .before .before .before .before .before in omega (arith, picks k .fits)
 
 add-i : tie.Need-add-i Inv-loop μ-loop
 add-i c = omega arith
@@ -108,14 +101,13 @@ loop-again c =
     let w = c .before .before .before in
     let k = w .before .before .before .before .before in (
       omega arith,
-      w .write-piece .kept .1 .1 .1 .1 .1 .1 .0 ∙ turn k .loop .inv .1,
-      left-more (start k .args .t3) (now (start k .args .bytes)) (start k .args .t5) (now (start k .args .pieces)) (start k .args .states) (start k .args .width) (start k .pre .0)
-          (slots k) (places k) (turn k .loop .i) (k .before .before .loop-test .taken) (k .from-u64 .result) (k .from-u64 .ensures) (turn k .loop .left) (turn k .loop .inv .2),
-      omega (arith, turn k .loop .inv .3),
-      pieces-more (start k .args .t3) (now (start k .args .bytes)) (start k .args .t5) (now (start k .args .pieces)) (start k .args .states) (start k .args .width) (start k .pre .0)
-          (slots k) (places k) (turn k .loop .i) (k .before .before .loop-test .taken) (k .from-u64 .result) (k .from-u64 .ensures) (turn k .loop .left) (turn k .loop .inv .2)
-          (turn k .loop .out) _ (w .write-piece .ensures)
-          ∙ turn k .loop .inv .4,
+      w .write-piece .kept .1 .1 .1 .1 .0 ∙ turn k .loop .inv .1,
+      room-more (start k .args .t2) (now (start k .args .bytes)) (start k .args .t4) (now (start k .args .pieces)) _ (start k .pre)
+          (slots k) (places k) (turn k .loop .i) (k .before .before .loop-test .taken) (k .from-u64 .result) (k .from-u64 .ensures) (turn k .loop .at) (turn k .loop .inv .2),
+      pieces-more (start k .args .t2) (now (start k .args .bytes)) (start k .args .t4) (now (start k .args .pieces)) _ (start k .pre)
+          (slots k) (places k) (turn k .loop .i) (k .before .before .loop-test .taken) (k .from-u64 .result) (k .from-u64 .ensures) (turn k .loop .at) (turn k .loop .inv .2)
+          (turn k .loop .text) _ (turn k .loop .inv .1) (w .write-piece .ensures)
+          ∙ turn k .loop .inv .3,
     )
 
 same-length : tie.Need-same-length Inv-loop μ-loop
@@ -125,8 +117,8 @@ returns : tie.Need-returns Inv-loop μ-loop
 returns c =
     let l = c .before in
     let s = l .before .before .before .before in
-    sym (pieces-done (now (s .args .bytes)) (cursorsOf (s .args .t3) (s .args .t5)) (now (s .args .pieces)) (bitsOf (s .args .states)) (l .loop .left) (l .loop .i) (l .loop .out) (c .loop-test .left))
-    ∙ l .loop .inv .4
+    sym (pieces-done (now (s .args .bytes)) (cursorsOf (s .args .t2) (s .args .t4)) (now (s .args .pieces)) (l .loop .at) (l .loop .i) (l .loop .text) (c .loop-test .left))
+    ∙ l .loop .inv .3
 
 pub write-pieces-spec : {M : Type 1} → statement M
 write-pieces-spec =
@@ -144,8 +136,8 @@ write-pieces-spec =
     mul-write-piece
     element-copy-out-write-piece
     write-piece-requires
-    cast-left
-    sub-left
+    cast-at
+    add-at
     add-i
     loop-less
     loop-again

@@ -1,64 +1,65 @@
--- `transform::steps::write_step` meets its contract: zeros, the mark, and then the levels of all pieces.
+-- `transform::steps::write_step` meets its contract: the characters of all pieces, and then the entry that they make.
 -- Assumes nothing.
-use mathlib.Core.Path.{_≡_, refl, sym, ap, _∙_}
-use mathlib.Core.List.{List}
-use Prim.Native.Nat.{ℕ, _*_, _%_, _≤_, _<_}
+use mathlib.Core.Path.{_≡_, sym, _∙_}
+use Prim.Native.Nat.{ℕ, _≤_}
 use native.Mathlib.Omega.{arith}
 use denote.Ref.{now}
-use lib.ListN.{length, set, length-set}
-use Rattle.value.specs.Level.{markOf, bitsOf}
-use Rattle.layout.specs.Entry.{entrySize}
-use Rattle.layout.proofs.Sizes.{size-pos}
-use Rattle.transform.proofs.SteppingRoom.{mark-byte}
-use Rattle.transform.proofs.SteppingEntry.{fits-all, step-stored}
+use lib.ListN.{length}
+use lib.Seq.{length-take-le}
+use Rattle.transform.proofs.SteppingEntry.{pickable, writable, step-stored}
 use borrow.Author.Needs.{needs}
 use Rattle.transform.proofs.steps.write_step.Statement.{statement}
 use Rattle.transform.proofs.steps.write_step.Tie as tie
 
--- what is known once the mark is at hand
-module _ (a : tie.After-mark) where
+-- what is known once the characters are gathered
+module _ (w : tie.After-write-pieces) where
   abbrev start : tie.Start
-  start = a .before .before .before .before .before .before .before .before
+  start = w .before .before .before .before .before .before
 
-  long : length (a .before .before .before .push-zeros .last .0) ≡ entrySize (start .args .width) (start .args .max-states)
-  long = a .before .before .before .push-zeros .kept .0 ∙ start .pre .2
-
-push-zeros-requires : tie.Need-push-zeros-requires
-push-zeros-requires c κs = search needs
-
-mark-requires : tie.Need-mark-requires
-mark-requires c κs = search needs
-
-slice-write-out : tie.Need-slice-write-out
-slice-write-out c = omega (arith, long c, size-pos (start c .args .width) (start c .pre .0 .wide) (start c .args .max-states))
+  gathered : start .args .width ≤ length (w .write-pieces .last .1 .1 .1 .1 .0)
+  gathered = rw (w .write-pieces .kept .1 .1 .1 .1 .0) (start .pre .2)
 
 write-pieces-requires : tie.Need-write-pieces-requires
 write-pieces-requires c κs =
-    let a = c .before in
-    let s = start a in
-    (s .pre .0, rw (length-set, long a) (fits-all (s .args .width) (s .args .max-states) (s .args .states) (s .pre .0 .wide) (s .pre .0 .narrow) (s .pre .1)))
+    let s = c .before .before .before .before .before in
+    pickable (s .args .inputs) (now (s .args .bytes)) (s .args .position) (now (s .args .pieces)) (s .args .states) (s .args .width) (s .pre .0) _ (s .pre .2)
+
+slice-reshare-prefix-write-entry : tie.Need-slice-reshare-prefix-write-entry
+slice-reshare-prefix-write-entry c = gathered (c .before .before)
+
+slice-aggregate-write-entry : tie.Need-slice-aggregate-write-entry
+slice-aggregate-write-entry c = sym (length-take-le _ _ (gathered (c .before .before .before)))
+
+write-entry-requires : tie.Need-write-entry-requires
+write-entry-requires c κs =
+    let w = c .before .before .before .before in
+    let s = start w in
+    writable (s .args .inputs) (now (s .args .bytes)) (s .args .position) (now (s .args .pieces)) (s .args .states) (s .args .width) (s .pre .0) (s .args .max-states) (s .pre .1)
+    (now (s .args .text)) _ (w .write-pieces .ensures) _ (s .pre .3)
 
 same-length : tie.Need-same-length
-same-length c =
-    let w = c .before .before in
-    w .write-pieces .kept .1 .1 .1 .1 .1 .1 .0 ∙ simp length-set (w .before .before .before .before .before .push-zeros .kept .0)
+same-length c = search needs
+
+same-length-2 : tie.Need-same-length-2
+same-length-2 c = search needs
 
 returns : tie.Need-returns
 returns c =
-    let w = c .before .before in
-    let a = w .before .before in
-    let s = start a in
-    w .write-pieces .ensures
+    let e = c .before .before in
+    let w = e .before .before .before .before .before in
+    let s = start w in
+    e .write-entry .ensures .1
     ∙ step-stored (s .args .inputs) (now (s .args .bytes)) (s .args .position) (now (s .args .pieces)) (s .args .states) (s .args .width) (s .pre .0) (s .args .max-states) (s .pre .1)
-    (now (s .args .out)) (s .pre .2) _ (a .before .before .before .push-zeros .ensures .1) _ (mark-byte (s .args .states) (a .mark .result) (a .mark .ensures))
+    (now (s .args .text)) _ (w .write-pieces .ensures) (now (s .args .out)) (s .pre .3)
 
 pub write-step-spec : {M : Type 1} → statement M
 write-step-spec =
     tie.close
     (tie.spec
-    push-zeros-requires
-    mark-requires
-    slice-write-out
     write-pieces-requires
+    slice-reshare-prefix-write-entry
+    slice-aggregate-write-entry
+    write-entry-requires
     same-length
+    same-length-2
     returns)
