@@ -30,6 +30,21 @@ use Rattle.value.proofs.Digits.{below-at, below-take, below-drop, pow-pow, numb
 use Rattle.wavemem.proofs.Compare.{same-is, same-not}
 use Rattle.wavemem.specs.Packed.{packedWith, packedFrom, firstCount, Codes, OneWord, OneByte, FullByte, ByLowBits, Whole, Packable}
 
+pub code-is : (c n : ℕ) → charCode c ≡ code.Code n → n ≡ codeOf (fold c)
+unfolding charCode
+code-is c n e = go (isNoCode (codeOf (fold c))) e
+  where
+    go : (t : Bool) → cond t code.Foreign (code.Code (codeOf (fold c))) ≡ code.Code n → n ≡ codeOf (fold c)
+    go true e = cc
+    go false e = cc
+
+pub not-foreign : (c : ℕ) → codeOf (fold c) < 9 → charCode c ≡ code.Foreign → ⊥
+unfolding charCode
+not-foreign c h e =
+    let f : code.Code (codeOf (fold c)) ≡ code.Foreign = sym (simp (lt-leb 9 (codeOf (fold c)) h)) ∙ e in
+    let z : _≡_ {A = ℕ} 0 1 = cc in
+    omega arith
+
 -- ---- the working number
 
 pub code-at : (s : List ℕ) (i : ℕ) → getD (codesOf (foldAll s)) i (codeOf (fold 0)) ≡ codeOf (fold (getD s i 0))

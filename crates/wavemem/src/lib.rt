@@ -6,6 +6,7 @@ ghost use Rattle.value.specs.Digits.{number};
 ghost use Rattle.value.specs.Slice.{part, overlay, same};
 ghost use Rattle.value.specs.Level.{foldAll, codesOf, bitsOf, lenOf};
 ghost use Rattle.wavemem.specs.Packed.{packedFrom, firstCount, OneWord, OneByte, FullByte, ByLowBits, Whole, Packable};
+use value::CharCode;
 use value::States;
 
 // How many levels a byte holds.
@@ -28,9 +29,11 @@ fn levels_from_ascii(states: States, value: &[u8]) -> u64
     let mut working: u64 = 0;
     let mut i = 0;
     while i < value.len() {
-        let code = wide(value::known_code(value[i]));
+        let CharCode::Code(code) = value::bit_char_to_num(value[i]) else {
+            return working;
+        };
         i += 1;
-        working = (working << bits) | code;
+        working = (working << bits) | wide(code);
     }
     working
 }
