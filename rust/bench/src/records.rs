@@ -9,8 +9,8 @@ use yoksimert::raw::{self, FlatDescription};
 
 const MILLION: usize = 1_000_000;
 
-/// The indices sought in a round.
-const SEEKS: u32 = 10_000;
+/// The indices sought in a round, few and many: every round seeks the same, and the processor learns how the jumps of a few searches go.
+const SEEKS: [u32; 2] = [20, 10_000];
 
 /// A record of the archive with its slices.
 struct Recorder {
@@ -297,30 +297,28 @@ pub fn compare() {
 pub fn look_up() {
     println!("\nlook up: ns an answer; wellen has no scan\n");
     println!(
-        "| indices | look up | scan alone | search alone | wellen | wellen / search |\n|---|---|---|---|---|---|"
+        "| indices | sought in a round | look up | scan alone | search alone | wellen | wellen / search |\n|---|---|---|---|---|---|---|"
     );
     for length in [10u32, 1_000, 1_000_000] {
-        look_up_in(length);
+        for seeks in SEEKS {
+            look_up_in(length, seeks);
+        }
     }
 }
 
-fn look_up_in(length: u32) {
+fn look_up_in(length: u32, seeks: u32) {
     let indices: Vec<u32> = (0..length).map(|entry| 3 * entry).collect();
     let description = oracle::fresh(0).map(|d| oracle::Description { count: length, ..d });
     let events = reference::Record::new(description.expect("width 0 stands"), &[], &indices);
     let events = events.expect("wellen takes the record");
     let rising = Rising::new(&indices);
-    let [whole, scan] = {
-        let seeks = (1_000_000 / length).clamp(20, SEEKS);
-        [
-            seek(length, seeks, |sought| raw::look_up(&indices, sought)),
-            seek(length, seeks, |_| inner::falls(black_box(&indices))),
-        ]
-    };
-    let search = seek(length, SEEKS, |sought| rising.search(sought));
-    let wellen = seek(length, SEEKS, |sought| events.look_up_unguarded(sought));
+    let scans = seeks.min((1_000_000 / length).max(20));
+    let whole = seek(length, scans, |sought| raw::look_up(&indices, sought));
+    let scan = seek(length, scans, |_| inner::falls(black_box(&indices)));
+    let search = seek(length, seeks, |sought| rising.search(sought));
+    let wellen = seek(length, seeks, |sought| events.look_up_unguarded(sought));
     println!(
-        "| {length} | {whole:.1} | {scan:.1} | {search:.1} | {wellen:.1} | {:.1} |",
+        "| {length} | {seeks} | {whole:.1} | {scan:.1} | {search:.1} | {wellen:.1} | {:.1} |",
         wellen / search
     );
 }
