@@ -103,7 +103,7 @@ fn repeats_last(
     requires { ⌜ Comparable «max_states» joint states (now value) (length (now bytes)) «byte_start» count ⌝ }
     ensures { λ r. ⌜ r ≡ repeats (entrySize (length (now (value .entry))) joint) count (widenAll (length (now (value .entry))) «max_states» joint count (part «byte_start» (count * entrySize (length (now (value .entry))) «max_states») (now (bytes .entry)))) (entryFrom joint states (now (value .entry))) ⌝ }
 {
-    if count == 0 {
+    if count < 1 {
         return false;
     }
     let bits = value.len() as u32;
@@ -131,10 +131,11 @@ fn repeats_number(
     ensures { λ r. ⌜ r ≡ repeats (entrySize (length (now (value .entry))) «max_states») count (part «byte_start» (count * entrySize (length (now (value .entry))) «max_states») (now (bytes .entry))) (entryFrom «max_states» states (now (value .entry))) ⌝ }
 {
     if count == 0 {
-        return false;
+        false
+    } else {
+        let at = byte_start + (count as usize - 1) * size;
+        equals_entry(max_states, states, value, size, number, bytes, at)
     }
-    let at = byte_start + (count as usize - 1) * size;
-    equals_entry(max_states, states, value, size, number, bytes, at)
 }
 
 // The entries with a change.

@@ -22,10 +22,10 @@ place : (c : tie.After-entry-size) →
     a .byte-start + (a .count - 1) * c .entry-size .result + c .entry-size .result ≤ length (now (a .bytes))
 place c =
     let x = c .before .before .before .before in
-    rw (c .entry-size .ensures) (last-place (x .args .count) _ (x .args .byte-start) _ (c .before .if1 .left) (x .pre .fits))
+    rw (c .entry-size .ensures) (last-place (x .args .count) _ (x .args .byte-start) _ (λ e. omega arith) (x .pre .fits))
 
 returns : tie.Need-returns
-returns c = none-repeated _ _ _ _ (c .if1 .taken)
+returns c = none-repeated _ _ _ _ (omega arith)
 
 cast-bits : tie.Need-cast-bits
 cast-bits c = search needs
@@ -82,7 +82,7 @@ returns-2 c =
     let e : entrySize w (a .max-states) ≡ entrySize w (a .joint) = sym s ∙ c .before .if2 .taken ∙ c .before .before .entry-size2 .ensures in
     c .entry-equals .ensures
     ∙ rw (← e, s) (ap (λ (l : List ℕ). same l (entryFrom (a .joint) (a .states) (now (a .value)))) (sym (widen-same w (a .max-states) (a .joint) _ e)))
-    ∙ repeats-widened w (x .pre .wide) (a .max-states) (a .joint) (x .pre .up) (a .count) (a .byte-start) b _ (z .before .if1 .left) (x .pre .fits)
+    ∙ repeats-widened w (x .pre .wide) (a .max-states) (a .joint) (x .pre .up) (a .count) (a .byte-start) b _ (λ e. omega (arith, z .before .if1 .left)) (x .pre .fits)
 
 returns-3 : tie.Need-returns-3
 returns-3 c =
@@ -97,7 +97,7 @@ returns-3 c =
     same (widenEntry w (a .max-states) (a .joint) (part (a .byte-start + (a .count - 1) * k) (entrySize w (a .max-states)) b))
     (entryFrom (a .joint) (a .states) (now (a .value))))
     (z .entry-size .ensures)
-    ∙ repeats-widened w (x .pre .wide) (a .max-states) (a .joint) (x .pre .up) (a .count) (a .byte-start) b _ (z .before .if1 .left) (x .pre .fits)
+    ∙ repeats-widened w (x .pre .wide) (a .max-states) (a .joint) (x .pre .up) (a .count) (a .byte-start) b _ (λ e. omega (arith, z .before .if1 .left)) (x .pre .fits)
 
 pub repeats-last-spec : {M : Type 1} → statement M
 repeats-last-spec =

@@ -53,4 +53,4 @@ returns-2 c =
 
 pub repeats-number-spec : {M : Type 1} → statement M
 repeats-number-spec =
-    tie.close (tie.spec returns sub-at mul-at add-at equals-entry-requires returns-2)
+    tie.close (tie.spec sub-at mul-at add-at equals-entry-requires returns returns-2)
