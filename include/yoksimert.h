@@ -143,6 +143,9 @@ yoksimert_added yoksimert_add_real(
 /* Fresh, whatever the description was. Refused: 1. */
 uint32_t yoksimert_recorder_fresh(yoksimert_description *recorder, uint32_t width);
 
+/* Fresh of reals, whatever the description was. The answer is 0. */
+uint32_t yoksimert_recorder_fresh_real(yoksimert_description *recorder);
+
 /* Add a change: a string. Refused: 2, 3, 4, 5, 6, 7. */
 uint32_t yoksimert_recorder_add_change(
     yoksimert_description *recorder,

@@ -2,10 +2,12 @@
 // stores what that hands back.
 ghost use mathlib.Core.Path.{_≡_};
 ghost use Rattle.fst.specs.Refusal.{Outcome, numberOf};
+ghost use Rattle.fst.specs.Record.{freshReal};
 ghost use Rattle.fst.specs.Change.{text, real};
 ghost use Rattle.yoksimert.specs.Flat.{encoded};
 ghost use Rattle.yoksimert.specs.Exports.{leftByFlat, flatAdd};
 ghost use Rattle.yoksimert.specs.declared.FlatDescription.{FlatDescription};
+ghost use Rattle.yoksimert.specs.declared.FlatAdded.{FlatAdded};
 ghost use Rattle.yoksimert.specs.Recorder.{addedTo, flatFresh};
 use crate::Decoded;
 use crate::FlatAdded;
@@ -17,6 +19,7 @@ use crate::flat::verdict_number;
 use fst::Added;
 use fst::Made;
 use fst::record::fresh;
+use fst::record::fresh_real;
 
 // What a change leaves of a recorder: its kind and width stay.
 pub struct Recorded {
@@ -97,12 +100,32 @@ pub fn record_fresh(recorder: FlatDescription, width: u32) -> FlatAdded
     }
 }
 
+// The old recorder is not looked at: Fresh of reals refuses nothing.
+pub fn record_fresh_real(_recorder: FlatDescription) -> FlatAdded
+    ensures { λ r. ⌜ r ≡ record { number = 0; next = encoded freshReal } ⌝ }
+{
+    FlatAdded {
+        number: 0,
+        next: encode(fresh_real()),
+    }
+}
+
 // Fresh: the empty record of a width; width 0 makes an event.
 #[no_mangle]
 pub extern "C" fn yoksimert_recorder_fresh(recorder: &mut FlatDescription, width: u32) -> u32
     ensures { λ n. ⌜ _≡_ {A = Outcome FlatDescription} (record { refused = n; left = now (recorder .exit) }) (flatFresh (now (recorder .entry)) width) ⌝ }
 {
     let s = record_fresh(*recorder, width);
+    *recorder = s.next;
+    s.number
+}
+
+// Fresh: the empty record of reals. The answer is 0.
+#[no_mangle]
+pub extern "C" fn yoksimert_recorder_fresh_real(recorder: &mut FlatDescription) -> u32
+    ensures { λ n. ⌜ _≡_ {A = FlatAdded} (record { number = n; next = now (recorder .exit) }) (record { number = 0; next = encoded freshReal }) ⌝ }
+{
+    let s = record_fresh_real(*recorder);
     *recorder = s.next;
     s.number
 }

@@ -139,6 +139,17 @@ pub fn calls() -> Vec<Call> {
                 ("Rattle.yoksimert.specs.Recorder", "flatFresh"),
             ],
         },
+        Call {
+            name: "yoksimert_recorder_fresh_real",
+            callee: "record_fresh_real",
+            parameters: Vec::new(),
+            stores: Stores::Whole,
+            ensures: "_≡_ {A = FlatAdded} r (record { number = 0; next = encoded freshReal })".to_string(),
+            cites: vec![
+                ("Rattle.fst.specs.Record", "freshReal"),
+                ("Rattle.yoksimert.specs.Flat", "encoded"),
+            ],
+        },
         adds("yoksimert_recorder_add_change", "record_change", value, "text"),
         adds("yoksimert_recorder_add_real", "record_real", bits, "real"),
     ]

@@ -165,6 +165,8 @@ unsafe extern "C" {
 
     fn yoksimert_recorder_fresh(recorder: *mut FlatDescription, width: u32) -> u32;
 
+    fn yoksimert_recorder_fresh_real(recorder: *mut FlatDescription) -> u32;
+
     fn yoksimert_recorder_add_change(
         recorder: *mut FlatDescription,
         bytes: *mut u8,
@@ -364,6 +366,13 @@ pub fn add_real(
 pub fn recorder_fresh(recorder: &mut FlatDescription, width: u32) -> u32 {
     // SAFETY: one description, lent to this call alone.
     unsafe { yoksimert_recorder_fresh(recorder, width) }
+}
+
+/// Fresh of reals, of a recorder that is lent, whatever it was; the answer is 0.
+#[inline]
+pub fn recorder_fresh_real(recorder: &mut FlatDescription) -> u32 {
+    // SAFETY: one description, lent to this call alone.
+    unsafe { yoksimert_recorder_fresh_real(recorder) }
 }
 
 /// Add a change to a recorder that is lent: a string; the answer is the number. Refused: 2, 3, 4, 5, 6, 7.

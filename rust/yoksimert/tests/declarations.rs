@@ -215,7 +215,7 @@ fn of_header() -> Items {
 #[test]
 fn the_three_texts_agree() {
     let rattle = of_rattle();
-    assert_eq!(rattle.len(), 10 + 16, "{rattle:#?}");
+    assert_eq!(rattle.len(), 10 + 17, "{rattle:#?}");
     assert_eq!(of_rust(), rattle);
     assert_eq!(of_header(), rattle);
 }

@@ -109,6 +109,9 @@ fn a_lent_recorder_is_changed_in_place() {
             assert_eq!(raw::recorder_fresh(&mut recorder, width), 0);
             assert_eq!(recorder, raw::fresh(width).description);
         }
+        let mut recorder = flat;
+        assert_eq!(raw::recorder_fresh_real(&mut recorder), 0);
+        assert_eq!(recorder, raw::fresh_real());
     });
     let (mut by_value, mut lent) = (raw::fresh(2).description, raw::fresh(2).description);
     let (mut bytes, mut indices) = ([0; 6], [0; 3]);
