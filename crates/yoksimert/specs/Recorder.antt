@@ -5,7 +5,7 @@ use mathlib.Core.Path.{_≡_}
 use mathlib.Core.List.{List, [], _∷_}
 use Rattle.value.specs.Slice.{part}
 use Rattle.fst.specs.declared.Description.{Description}
-use Rattle.fst.specs.Refusal.{Reply, refused, given, Outcome}
+use Rattle.fst.specs.Refusal.{Reply, refused, given, Outcome, outcome}
 use Rattle.fst.specs.Record.{Lent, usedSize, fresh}
 use Rattle.runs.specs.Runs.{Call, Fed, isZero}
 use Rattle.yoksimert.specs.declared.FlatDescription.{FlatDescription}
@@ -24,10 +24,13 @@ addedTo f r =
       next = record { kind = f .kind; width = f .width; set = r .set; count = r .count };
     }
 
--- the recorder that Fresh makes of one: after a refusal that one
+abbrev pub numbersOf : Reply Description → Reply FlatDescription
+numbersOf (refused n) = refused n
+numbersOf (given d) = given (encoded d)
+
+-- the recorder that Fresh makes of one
 abbrev pub madeOver : FlatDescription → Reply Description → Outcome FlatDescription
-madeOver f (refused n) = record { refused = n; left = f }
-madeOver f (given d) = record { refused = 0; left = encoded d }
+madeOver f r = outcome f (numbersOf r)
 
 abbrev pub flatFresh : FlatDescription → ℕ → Outcome FlatDescription
 flatFresh f w = madeOver f (fresh w)
