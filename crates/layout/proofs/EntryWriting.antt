@@ -1,7 +1,7 @@
 -- The two ways to store an entry and to compare one: what each asks, and that it is the whole entry.
 -- Assumes nothing.
 use mathlib.Core.Path.{_≡_, refl, sym, ap, ap₂, _∙_}
-use mathlib.Core.Bool.{Bool, true, false, _&&_}
+use mathlib.Core.Bool.{Bool, true, false, cond, _&&_}
 use mathlib.Core.List.{List, [], _∷_, _++_}
 use Prim.Native.Nat.{ℕ, suc, _+_, _-_, _*_, _≤_}
 use native.Mathlib.Nat.{mul-le-mul-left, add-zero}
@@ -12,13 +12,14 @@ use borrow.Author.Tests.{eq-eqb, ne-eqb}
 use Rattle.value.specs.declared.States.{States}
 use Rattle.value.specs.Slice.{part, overlay, same}
 use Rattle.value.specs.Level.{foldAll, codesOf, markOf, lenOf}
+use Rattle.value.proofs.Tests.{by-eq}
 use Rattle.value.proofs.Levels.{bits-up}
-use Rattle.value.proofs.Slices.{part-length, part-add, part-nil, overlay-one, overlay-overlay}
+use Rattle.value.proofs.Slices.{part-length, part-add, part-nil, overlay-nil, overlay-overlay}
 use Rattle.wavemem.specs.Packed.{packedFrom, Packable}
 use Rattle.wavemem.proofs.Packing.{length-codes}
 use Rattle.wavemem.proofs.Compare.{same-append, part-more}
 use Rattle.layout.specs.Entry.{entrySize}
-use Rattle.layout.specs.Writable.{Writable, entryFrom}
+use Rattle.layout.specs.Writable.{Writable, markInFront, entryFrom}
 use Rattle.layout.proofs.Sizes.{mark-bits}
 use Rattle.layout.proofs.EntryParts.{len-fits, entry-one, entry-apart}
 
@@ -62,14 +63,13 @@ module _ {M own : States} {v : List ℕ} {room at : ℕ} (ok : Writable M own v 
         let l = length-codes v in
         rw l at (entry-apart M own (codesOf (foldAll v)) z (ok .codes .below) (rw l apart))
 
-    pub apart-stored : (d : List ℕ) (m : ℕ) → m ≡ markOf own * 64 → room ≡ length d
-        → overlay (overlay (set d at m) (at + 1) (replicate z 0)) (at + 1 + z) (packedFrom own 0 v) ≡ overlay d at (entryFrom M own v)
-    apart-stored d m e l =
+    apart-stored : (d : List ℕ) → room ≡ length d
+        → overlay (overlay d at (markOf own * 64 ∷ replicate z 0)) (at + 1 + z) (packedFrom own 0 v) ≡ overlay d at (entryFrom M own v)
+    apart-stored d l =
         let f = ok .fits in
         let q : length {A = ℕ} (replicate z 0) ≡ z = length-replicate z 0 in
-        rw (← overlay-one d at m (omega arith), overlay-overlay d at (m ∷ []) (replicate z 0) (at + 1) refl (omega arith))
-        (overlay-overlay d at (m ∷ replicate z 0) (packedFrom own 0 v) (at + 1 + z) (omega arith) (omega arith)
-        ∙ ap (overlay d at) (rw e (sym apart-entry)))
+        overlay-overlay d at (markOf own * 64 ∷ replicate z 0) (packedFrom own 0 v) (at + 1 + z) (omega arith) (omega arith)
+        ∙ ap (overlay d at) (sym apart-entry)
 
     -- the three comparisons
     apart-same : (bytes : List ℕ) → length bytes ≡ room
@@ -98,3 +98,28 @@ module _ {M own : States} {v : List ℕ} {room at : ℕ} (ok : Writable M own v 
       pub levels-left : getD bytes at 0 ≡ m → same (part (at + 1) z bytes) (replicate z 0) ≡ true
           → same (part (at + 1 + z) (lenOf (length v) own) bytes) (packedFrom own 0 v) ≡ same (part at (entrySize (length v) M) bytes) (entryFrom M own v)
       levels-left h g = sym (apart-same bytes l ∙ rw (eq-eqb (getD bytes at 0) (markOf own * 64) (h ∙ e), g))
+
+  -- what is in front of the levels, and their first byte's mark
+  module _ {len size : ℕ} (l : len ≡ lenOf (length v) own) (s : size ≡ entrySize (length v) M) (m : ℕ) (e : m ≡ markOf own * 64) where
+    pub levels-packable : (n from first : ℕ) → n ≡ room → from ≡ at + (size - len) → first ≡ cond (eqb len size) m 0 → Packable own v n from first
+    levels-packable n from first r f g =
+        by-eq len size
+        (λ q.
+        let z : from ≡ at = omega arith in
+        let o : first ≡ m = g ∙ rw (eq-eqb len size q) in
+        rw (r, z, o) (one-packable m e (sym l ∙ q ∙ s)))
+        (λ q.
+        let o : first ≡ 0 = g ∙ rw (ne-eqb len size q) in
+        rw o (apart-packable (omega (arith, ok .fits, len-le l s))))
+
+    pub entry-stored : (d : List ℕ) (from first : ℕ) → room ≡ length d → from ≡ at + (size - len) → first ≡ cond (eqb len size) m 0
+        → overlay (overlay d at (markInFront len size m)) from (packedFrom own first v) ≡ overlay d at (entryFrom M own v)
+    unfolding markInFront
+    entry-stored d from first r f g =
+        by-eq len size
+        (λ q.
+        let z : from ≡ at = omega arith in
+        rw (g, eq-eqb len size q, z, overlay-nil) (ap (overlay d at) (one-entry m e (sym l ∙ q ∙ s))))
+        (λ q.
+        let z : from ≡ at + 1 + (size - len - 1) = omega (arith, len-le l s) in
+        rw (g, ne-eqb len size q, z, e) (apart-stored (size - len - 1) (apart-by l s q) d r))

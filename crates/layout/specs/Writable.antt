@@ -1,9 +1,11 @@
 -- Inner: what writing an entry and comparing one ask.
 -- Assumes nothing.
-use Prim.Native.Nat.{ℕ, _+_, _≤_}
+use Prim.Native.Nat.{ℕ, _+_, _-_, _≤_}
 use mathlib.Core.Path.{_≡_}
-use mathlib.Core.List.{List}
-use lib.ListN.{length}
+use mathlib.Core.Bool.{cond}
+use mathlib.Core.List.{List, [], _∷_}
+use lib.Dec.{eqb}
+use lib.ListN.{length, replicate}
 use Rattle.value.specs.declared.States.{States}
 use Rattle.value.specs.Digits.{number}
 use Rattle.value.specs.Level.{foldAll, codesOf, markOf}
@@ -26,3 +28,7 @@ entryFrom M own value = entryOf (length value) M own (codesOf (foldAll value))
 pub record Numbered (M own : States) (value : List ℕ) (size n : ℕ) : Type 0 where
   pub sized : size ≡ entrySize (length value) M
   pub is : size ≤ 8 → n ≡ number 256 (entryFrom M own value)
+
+-- the mark's byte and zeros in front of the level bytes, where an entry has more
+unfoldable pub markInFront : ℕ → ℕ → ℕ → List ℕ
+markInFront len size mark = cond (eqb len size) [] (mark ∷ replicate (size - len - 1) 0)

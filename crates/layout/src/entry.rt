@@ -1,12 +1,13 @@
 // One entry: its size, its bytes stored, its bytes compared. After wellen's src/fst.rs.
 ghost use mathlib.Core.Path.{_≡_};
 ghost use mathlib.Core.Bool.{cond};
-ghost use Prim.Native.Nat.{_+_, _*_, _^_, _<_, _≤_};
+ghost use Prim.Native.Nat.{_+_, _-_, _*_, _≤_};
+ghost use lib.Dec.{eqb};
 ghost use lib.ListN.{length, replicate};
 ghost use Rattle.value.specs.Slice.{part, overlay, same};
 ghost use Rattle.value.specs.Level.{markOf, lenOf};
 ghost use Rattle.layout.specs.Entry.{hasMeta, entrySize};
-ghost use Rattle.layout.specs.Writable.{Writable, entryFrom};
+ghost use Rattle.layout.specs.Writable.{Writable, markInFront, entryFrom};
 use value::States;
 
 // The bytes that levels take under a set, and whether a byte of its own holds the mark.
@@ -93,6 +94,25 @@ fn are_zeros(bytes: &[u8], from: usize, count: usize) -> bool
     true
 }
 
+// Stores the mark and zeros in front of `len` level bytes, where the entry has more. Returns the place of the level bytes.
+fn write_mark(out: &mut [u8], at: usize, len: usize, size: usize, meta_data: u8) -> usize
+    requires { ⌜ (len ≤ size) × (at + size ≤ length (now out)) ⌝ }
+    ensures { λ r. ⌜ (r ≡ at + (size - len)) × (now (out .exit) ≡ overlay (now (out .entry)) at (markInFront len size «meta_data»)) ⌝ }
+{
+    if len == size {
+        return at;
+    }
+    out[at] = meta_data;
+    push_zeros(out, at + 1, size - len - 1)
+}
+
+// The mark's byte for the first level byte, where no byte is in front of it.
+fn mark_within(len: usize, size: usize, meta_data: u8) -> u8
+    ensures { λ r. ⌜ r ≡ cond (eqb len size) «meta_data» 0 ⌝ }
+{
+    if len == size { meta_data } else { 0 }
+}
+
 // Stores the entry of a string from a place on. Returns the place behind it.
 pub fn write_entry(
     max_states: States,
@@ -109,13 +129,9 @@ pub fn write_entry(
     let len = layout.len;
     let size = layout.size;
     let meta_data = layout.meta_data;
-    if len == size {
-        wavemem::write_n_state_from_ascii(states, value, out, at, meta_data)
-    } else {
-        out[at] = meta_data;
-        let from = push_zeros(out, at + 1, size - len - 1);
-        wavemem::write_n_state_from_ascii(states, value, out, from, 0)
-    }
+    let from = write_mark(out, at, len, size, meta_data);
+    let first = mark_within(len, size, meta_data);
+    wavemem::write_n_state_from_ascii(states, value, out, from, first)
 }
 
 // Whether the bytes from a place on are the entry of a string.
