@@ -49,14 +49,12 @@ unfolding place
 place-reached s [] h a = absurd (not-suc-le-zero h)
 place-reached s (i ∷ l) h a = rw (le-ltb s i a)
 
--- what the searches find is the place, where the run ends at `last`
-pub place-found : (needle : ℕ) (l : List ℕ) (last : ℕ) {index start : ℕ} {next : NextIndex}
-    → index ≡ greatest needle l → start ≡ placeIn l index → start + runOf index (drop start l) ≡ last + 1 → next ≡ headOf (drop (last + 1) l)
-    → _≡_ {A = DataOffset} (record { start = start; elements = elementsOf (last + 1 - start); «time_match» = eqb index needle; «next_index» = next }) (placeOf needle l)
+-- what the searches find is the place
+pub place-found : (needle : ℕ) (l : List ℕ) {index start n : ℕ} {next : NextIndex}
+    → index ≡ greatest needle l → start ≡ placeIn l index → n ≡ runOf index (drop start l) → next ≡ headOf (drop (start + n) l)
+    → _≡_ {A = DataOffset} (record { start = start; elements = elementsOf n; «time_match» = eqb index needle; «next_index» = next }) (placeOf needle l)
 unfolding placeOf
-place-found needle l last {index} {start} e first end behind =
-    let run : runOf index (drop start l) ≡ last + 1 - start = omega arith in
-    rw (← e, ← first, end, run, ← behind)
+place-found needle l e first run behind = rw (← e, ← first, ← run, ← behind)
 
 -- ---- the answer
 

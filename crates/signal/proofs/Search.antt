@@ -241,6 +241,30 @@ head-none (x ∷ l) (suc k) e = omega (arith, head-none l k e)
 
 -- ---- a run of one index
 
+pub run-ends : (i : ℕ) (l : List ℕ) → headOf l ≡ Absent → runOf i l ≡ 0
+unfolding runOf
+run-ends i [] e = refl
+run-ends i (j ∷ l) e = let z : _≡_ {A = ℕ} 0 1 = cc in absurd (omega arith)
+
+pub run-differs : (i j : ℕ) (l : List ℕ) → headOf l ≡ At j → (j ≡ i → ⊥) → runOf i l ≡ 0
+unfolding runOf
+run-differs i j [] e n = refl
+run-differs i j (x ∷ l) e n = let same : x ≡ j = cc in rw (ne-eqb i x (λ q. n (sym (q ∙ same))))
+
+pub run-goes : (i : ℕ) (l : List ℕ) → headOf l ≡ At i → runOf i l ≡ suc (runOf i (drop 1 l))
+unfolding runOf
+run-goes i [] e = let z : _≡_ {A = ℕ} 0 1 = cc in absurd (omega arith)
+run-goes i (x ∷ l) e = let same : i ≡ x = cc in rw (eq-eqb i x same)
+
+pub run-more : (i start n : ℕ) (l : List ℕ) → runOf i (drop start l) ≡ n + runOf i (drop (start + n) l) → headOf (drop (start + n) l) ≡ At i
+    → runOf i (drop start l) ≡ (n + 1) + runOf i (drop (start + (n + 1)) l)
+run-more i start n l e h =
+    let one : drop 1 (drop (start + n) l) ≡ drop (start + n + 1) l = drop-drop 1 (start + n) l in
+    let more : start + n + 1 ≡ start + (n + 1) = omega arith in
+    let goes : runOf i (drop (start + n) l) ≡ suc (runOf i (drop 1 (drop (start + n) l))) = run-goes i (drop (start + n) l) h in
+    let rest : runOf i (drop 1 (drop (start + n) l)) ≡ runOf i (drop (start + (n + 1)) l) = rw (one, more) in
+    omega arith
+
 pub run-within : (i : ℕ) (l : List ℕ) → runOf i l ≤ length l
 unfolding runOf
 run-within i [] = omega arith
@@ -312,22 +336,3 @@ module _ (l : List ℕ) (f : falls l ≡ false) (i k : ℕ) (h : k < length l) (
         carried = has;
         alone = only;
       }
-
--- the run of the last place not above a needle ends there
-pub run-last : {needle : ℕ} {l : List ℕ} {p : ℕ} → falls l ≡ false → Last needle l p →
-    let i = getD l p 0 in
-    let start = placeIn l i in
-    (start ≤ p) × (start + runOf i (drop start l) ≡ p + 1)
-run-last {needle} {l} {p} f s = ends _ _ (run-is l f (getD l p 0) p (s .within) refl)
-  where
-    ends : (start n : ℕ) → Run l (getD l p 0) start n → (start ≤ p) × (start + n ≡ p + 1)
-    ends start n run = (inside .0, go (le-or-lt (start + n) (p + 1)))
-      where
-        inside : (start ≤ p) × (p < start + n)
-        inside = run .alone p (s .within) refl
-
-        go : (start + n ≤ p + 1) ⊎ (p + 1 < start + n) → start + n ≡ p + 1
-        go (inl h) = omega (arith, inside .1)
-        go (inr h) =
-            let next = run .carried (p + 1) (omega (arith, inside .0)) h in
-            absurd (omega (arith, s .reached, s .above (p + 1) (omega arith) (omega (arith, run .within))))

@@ -1,11 +1,11 @@
 // The entries that hold at a time index.
 ghost use mathlib.Core.Path.{_≡_};
 ghost use mathlib.Core.Bool.{false, cond};
-ghost use Prim.Native.Nat.{_<_};
+ghost use Prim.Native.Nat.{_≤_, _<_};
 ghost use lib.Dec.{leb};
 ghost use lib.ListN.{length, getD, drop};
 ghost use Rattle.value.specs.Level.{placeIn};
-ghost use Rattle.signal.specs.Offset.{falls, headOf, placeOf, lookUp, offsetOf};
+ghost use Rattle.signal.specs.Offset.{falls, runOf, headOf, placeOf, lookUp, offsetOf};
 ghost use Rattle.signal.specs.Search.{Reached, Last};
 use crate::DataOffset;
 use crate::NextIndex;
@@ -77,16 +77,33 @@ fn find_start(indices: &[u32], place: usize) -> usize
     binary_search(indices, index - 1) + 1
 }
 
+// The number of entries from `start` on that carry the index.
+fn run_length(indices: &[u32], start: usize, index: u32) -> usize
+    requires { ⌜ start ≤ length (now indices) ⌝ }
+    ensures { λ r. ⌜ r ≡ runOf index (drop start (now (indices .entry))) ⌝ }
+{
+    let mut elements = 0;
+    loop {
+        let NextIndex::At(next) = get(indices, start + elements) else {
+            break elements;
+        };
+        if next != index {
+            break elements;
+        }
+        elements += 1;
+    }
+}
+
 // The entries that carry the greatest index not above the needle, of which there is one.
 pub fn find_offset_from_time_table_idx(indices: &[u32], needle: u32) -> DataOffset
     requires { ⌜ Reached needle (now indices) ⌝ }
     ensures { λ r. ⌜ r ≡ placeOf needle (now (indices .entry)) ⌝ }
 {
-    let last = binary_search(indices, needle);
-    let index = indices[last];
-    let start = find_start(indices, last);
-    let elements = last + 1 - start;
-    let next_index = get(indices, last + 1);
+    let place = binary_search(indices, needle);
+    let index = indices[place];
+    let start = find_start(indices, place);
+    let elements = run_length(indices, start, index);
+    let next_index = get(indices, start + elements);
     DataOffset {
         start: start,
         elements: (elements % 65536) as u16,

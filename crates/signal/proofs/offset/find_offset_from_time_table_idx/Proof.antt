@@ -1,12 +1,11 @@
 -- `signal::offset::find_offset_from_time_table_idx` meets its contract.
 -- Assumes nothing.
-use mathlib.Core.Path.{_≡_}
-use Prim.Native.Nat.{_+_, _≤_}
+use mathlib.Core.Path.{refl}
+use Prim.Native.Nat.{_≤_}
 use native.Mathlib.Omega.{arith}
 use borrow.Author.Needs.{needs}
-use lib.ListN.{getD, drop}
-use Rattle.signal.specs.Offset.{runOf}
-use Rattle.signal.proofs.Search.{last-greatest, run-last}
+use lib.ListN.{length, getD, drop, length-drop}
+use Rattle.signal.proofs.Search.{place-first, run-within, last-greatest}
 use Rattle.signal.proofs.Offsets.{place-found}
 use Rattle.signal.proofs.offset.find_offset_from_time_table_idx.Statement.{statement}
 use Rattle.signal.proofs.offset.find_offset_from_time_table_idx.Tie as tie
@@ -23,25 +22,26 @@ shared-slice-read-index c = search needs
 find-start-requires : tie.Need-find-start-requires
 find-start-requires c κs = search needs
 
-add-elements : tie.Need-add-elements
-add-elements c = search needs
-
--- the run goes from its start to the place found
-run : (c : tie.After-find-start) →
+-- the run starts in the list
+within : (c : tie.After-find-start) → c .find-start .result ≤ length (c .before .before .before .before .args .indices .now)
+within c =
     let at-search = c .before .before in
     let l = at-search .before .before .args .indices .now in
-    let last = at-search .binary-search .result in
-    let start = c .find-start .result in
-    (start ≤ last) × (start + runOf (getD l last 0) (drop start l) ≡ last + 1)
-run c =
-    let at-search = c .before .before in
-    rw (c .find-start .ensures) (run-last (at-search .before .before .pre .rises) (at-search .binary-search .ensures))
+    let place = at-search .binary-search .result in
+    let inside = at-search .binary-search .ensures .within in
+    omega (arith, c .find-start .ensures, inside, place-first l (getD l place 0) place inside refl .0)
 
-sub-elements : tie.Need-sub-elements
-sub-elements c = omega (arith, run c .0)
+run-length-requires : tie.Need-run-length-requires
+run-length-requires c κs = within c
 
 add-get : tie.Need-add-get
-add-get c = search needs
+add-get c =
+    let at-start = c .before in
+    let at-search = at-start .before .before in
+    let l = at-search .before .before .args .indices .now in
+    let start = at-start .find-start .result in
+    let run = run-within (getD l (at-search .binary-search .result) 0) (drop start l) in
+    omega (arith, c .run-length .ensures, within at-start, run, length-drop start l)
 
 get-requires : tie.Need-get-requires
 get-requires c κs = search needs
@@ -51,16 +51,15 @@ cast-t11 c = search needs
 
 returns : tie.Need-returns
 returns c =
-    let at-start = c .before in
+    let at-start = c .before .before in
     let at-search = at-start .before .before in
     let a = at-search .before .before .args in
     place-found
     (a .needle)
     (a .indices .now)
-    (at-search .binary-search .result)
     (last-greatest (at-search .before .before .pre .rises) (at-search .binary-search .ensures))
     (at-start .find-start .ensures)
-    (run at-start .1)
+    (c .before .run-length .ensures)
     (c .get .ensures)
 
 pub find-offset-from-time-table-idx-spec : {M : Type 1} → statement M
@@ -71,8 +70,7 @@ find-offset-from-time-table-idx-spec =
     mul-index
     shared-slice-read-index
     find-start-requires
-    add-elements
-    sub-elements
+    run-length-requires
     add-get
     get-requires
     cast-t11
