@@ -30,7 +30,7 @@ use Rattle.transform.specs.declared.steps.Position.{Position}
 use Rattle.transform.specs.Piece.{endOf, piecesOf, extractOf, isBadPiece, widthOf as pieceWidth}
 use Rattle.transform.specs.Derive.{inputsOf, inputKept, lentTo, isBadInput, isNoBitVector, isBeyond, isLate, startsLate, entryIsBad, markIsBad, pickedOf, pickIsBad, codeIsBad, largestAmong}
 use Rattle.transform.specs.Tests.{keptAll, Derivable}
-use Rattle.transform.specs.Stepping.{All, Cursor, cursor, cursors, cursorsOf, Reaches, Indexable, shownBytes, setNow, levelsNow, widthNow, largestNow, largestOver, pickedNow, Showing, AllShowing, PieceIn, Under, Stepped}
+use Rattle.transform.specs.Stepping.{All, Cursor, cursor, cursors, cursorsOf, Vectors, Reaches, Indexable, shownBytes, setNow, levelsNow, widthNow, largestNow, largestOver, pickedNow, Showing, AllShowing, PieceIn, Under, Stepped}
 use Rattle.transform.proofs.Pieces.{Sized, Sound, sound, good-piece}
 use Rattle.transform.proofs.InputTests.{any-map, noInput, input-fits, indexed, entries-each, Fit, fit, beyond-told, code-told, pieces-count}
 use Rattle.transform.proofs.Stepping.{count-is, shown-at, cursor-at}
@@ -180,6 +180,13 @@ module _ (d : DerivedBitVecSignal) (inputs : Inputs) (bytes indices : List ℕ) 
       all-both (λ i. (isBadInput bytes indices i ≡ false) × (isNoBitVector (f i) ≡ false)) (λ i. (startsLate (f i) ≡ false) × (markIsBad (f i) ≡ false)) (Source bytes indices)
       (λ i x y. record { stands = x .0; vector = x .1; early = y .0; marked = y .1 }) is
       (all-both _ _ _ (λ i x y. (x, y)) is a b) (all-both _ _ _ (λ i x y. (x, y)) is c m)
+
+  pub vectors : Vectors inputs
+  vectors =
+      record {
+        few = few-inputs;
+        vectors = all-of (Source bytes indices) (λ i. hasNoText (i .description .encoding) ≡ false) (λ i s. s .vector) (inputsOf inputs) sources;
+      }
 
   pub indexable : Indexable inputs indices
   indexable =

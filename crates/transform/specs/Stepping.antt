@@ -10,8 +10,9 @@ use Rattle.value.specs.declared.States.{States}
 use Rattle.value.specs.declared.States.the-variants.{Two}
 use Rattle.value.specs.Digits.{Below}
 use Rattle.value.specs.Slice.{part, overlay, same, sum}
-use Rattle.value.specs.Level.{markOf, join}
+use Rattle.value.specs.Level.{markOf, setAt, join}
 use Rattle.layout.specs.Entry.{entrySize, entryOf}
+use Rattle.fst.specs.declared.Encoding.the-variants.{BitVector}
 use Rattle.fst.specs.Change.{repeats}
 use Rattle.fst.specs.Record.{largestIn}
 use Rattle.runs.specs.Runs.{Step, indexOf, entriesOf}
@@ -51,6 +52,33 @@ cursors (i ∷ is) (k ∷ ks) = cursor i k ∷ cursors is ks
 
 abbrev pub cursorsOf : Inputs → Position → List Cursor
 cursorsOf inputs p = cursors (inputsOf inputs) (p .begun)
+
+-- ---- the inputs as numbers
+
+-- input i by two tables, in which eight numbers for one field stand before eight for the next: entries, widths and marks of the largest
+-- sets; byte starts and index starts
+abbrev pub inputIn : List ℕ → List ℕ → ℕ → Input
+inputIn numbers starts i =
+    record {
+      description = record { encoding = BitVector (getD numbers (8 + i) 0) (setAt (getD numbers (16 + i) 0)); count = getD numbers i 0 };
+      «byte_start» = getD starts i 0;
+      «index_start» = getD starts (8 + i) 0;
+    }
+
+abbrev pub inputsIn : ℕ → List ℕ → List ℕ → Inputs
+inputsIn count numbers starts = record { count = count; slots = map (inputIn numbers starts) (0 ∷ 1 ∷ 2 ∷ 3 ∷ 4 ∷ 5 ∷ 6 ∷ 7 ∷ []) }
+
+pub record Tabled (numbers starts : List ℕ) : Type 0 where
+  pub numbered : length numbers ≡ 24
+  pub started : length starts ≡ 16
+
+pub record TableOf (inputs : Inputs) (numbers starts : List ℕ) : Type 0 where
+  pub long : Tabled numbers starts
+  pub same : inputsOf (inputsIn (inputs .count) numbers starts) ≡ inputsOf inputs
+
+pub record Vectors (inputs : Inputs) : Type 0 where
+  pub few : inputs .count ≤ 8
+  pub vectors : All (λ i. hasNoText (i .description .encoding) ≡ false) (inputsOf inputs)
 
 -- ---- by the indices
 

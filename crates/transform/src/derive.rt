@@ -8,18 +8,19 @@ ghost use Rattle.value.specs.Slice.{part, overlay, same};
 ghost use Rattle.layout.specs.Entry.{entrySize};
 ghost use Rattle.fst.specs.Change.{repeats};
 ghost use Rattle.fst.specs.Refusal.{madeOf};
-ghost use Rattle.fst.specs.Record.{largestIn};
 ghost use Rattle.transform.specs.Piece.{piecesOf};
 ghost use Rattle.transform.specs.Derive.{inputsOf, derivedList, Derived, derive};
 ghost use Rattle.transform.specs.Tests.{keptAll, Derivable};
 ghost use Rattle.transform.specs.Room.{Few, totalOver, roomFor};
-ghost use Rattle.transform.specs.Stepping.{All, Takeable, Taken, repeatsLast, Appendable, Appended, Walkable, Roomy, Stored, largestOver};
+ghost use Rattle.transform.specs.Stepping.{All, Tabled, inputsIn, Takeable, Taken, repeatsLast, Appendable, Appended, Walkable, Roomy, Stored, largestOver};
 use crate::DerivedBitVecSignal;
 use crate::Inputs;
 use crate::steps::Position;
 use crate::steps::advance;
+use crate::steps::largest_in;
 use crate::steps::next_index;
 use crate::steps::step_states;
+use crate::steps::table_of;
 use crate::steps::write_step;
 use crate::tests::first_refusal;
 use fst::Description;
@@ -91,7 +92,9 @@ fn store_at(out: &mut [u8], at: usize, entry: &[u8])
 fn take_step(
     width: u32,
     pieces: &[u64],
-    inputs: Inputs,
+    count: u32,
+    numbers: &[u32],
+    starts: &[usize],
     bytes: &[u8],
     indices: &[u32],
     position: Position,
@@ -100,15 +103,17 @@ fn take_step(
     text: &mut [u8],
     entry: &mut [u8],
 ) -> Position
-    requires { ⌜ Takeable inputs (now bytes) (now indices) position (now pieces) «max_states» width index × (width ≤ length (now text)) × (length (now entry) ≡ entrySize width «max_states») ⌝ }
-    ensures { λ r. ⌜ Taken inputs (now (bytes .entry)) (now (indices .entry)) position (now (pieces .entry)) «max_states» width index r (now (entry .exit)) ⌝ }
+    requires { ⌜ Tabled (now numbers) (now starts) × Takeable (inputsIn count (now numbers) (now starts)) (now bytes) (now indices) position (now pieces) «max_states» width index × (width ≤ length (now text)) × (length (now entry) ≡ entrySize width «max_states») ⌝ }
+    ensures { λ r. ⌜ Taken (inputsIn count (now (numbers .entry)) (now (starts .entry))) (now (bytes .entry)) (now (indices .entry)) position (now (pieces .entry)) «max_states» width index r (now (entry .exit)) ⌝ }
 {
-    let next = advance(inputs, indices, position, index);
-    let states = step_states(inputs, bytes, next);
+    let next = advance(count, numbers, starts, indices, position, index);
+    let states = step_states(count, numbers, starts, bytes, next);
     write_step(
         width,
         pieces,
-        inputs,
+        count,
+        numbers,
+        starts,
         bytes,
         next,
         max_states,
@@ -181,9 +186,12 @@ fn count_steps(
 {
     let bits = derivation.bits;
     let pieces = &bits[0..derivation.piece_count as usize];
+    let table = table_of(inputs);
+    let numbers = table.numbers;
+    let starts = table.starts;
     let mut text = [0u8; 4096];
     let mut position = Position { begun: [0; 8] };
-    let mut next = next_index(inputs, indices, position);
+    let mut next = next_index(inputs.count, &numbers[..], &starts[..], indices, position);
     let mut count: u32 = 0;
     loop {
         let NextIndex::At(index) = next else {
@@ -192,7 +200,9 @@ fn count_steps(
         position = take_step(
             derivation.width,
             pieces,
-            inputs,
+            inputs.count,
+            &numbers[..],
+            &starts[..],
             bytes,
             indices,
             position,
@@ -203,7 +213,7 @@ fn count_steps(
         );
         count = kept_with(count, last, entry);
         store_at(last, 0, entry);
-        next = next_index(inputs, indices, position);
+        next = next_index(inputs.count, &numbers[..], &starts[..], indices, position);
     }
 }
 
@@ -223,9 +233,12 @@ fn write_steps(
 {
     let bits = derivation.bits;
     let pieces = &bits[0..derivation.piece_count as usize];
+    let table = table_of(inputs);
+    let numbers = table.numbers;
+    let starts = table.starts;
     let mut text = [0u8; 4096];
     let mut position = Position { begun: [0; 8] };
-    let mut next = next_index(inputs, indices, position);
+    let mut next = next_index(inputs.count, &numbers[..], &starts[..], indices, position);
     let mut count: u32 = 0;
     loop {
         let NextIndex::At(index) = next else {
@@ -234,7 +247,9 @@ fn write_steps(
         position = take_step(
             derivation.width,
             pieces,
-            inputs,
+            inputs.count,
+            &numbers[..],
+            &starts[..],
             bytes,
             indices,
             position,
@@ -244,21 +259,7 @@ fn write_steps(
             entry,
         );
         count = append_step(count, entry, index, out_bytes, out_indices);
-        next = next_index(inputs, indices, position);
-    }
-}
-
-// The set of an encoding that is the largest in its record.
-fn largest_in(encoding: Encoding) -> States
-    ensures { λ r. ⌜ r ≡ largestIn encoding ⌝ }
-{
-    match encoding {
-        Encoding::Event => States::Two,
-        Encoding::Real => States::Two,
-        Encoding::BitVector {
-            width: _,
-            max_states,
-        } => max_states,
+        next = next_index(inputs.count, &numbers[..], &starts[..], indices, position);
     }
 }
 

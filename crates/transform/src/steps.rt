@@ -1,22 +1,24 @@
 // Stepping over the inputs of a derivation, apart from what a step yields.
 ghost use mathlib.Core.Path.{_≡_};
 ghost use mathlib.Core.List.{map};
-ghost use Prim.Native.Nat.{_+_, _≤_};
+ghost use Prim.Native.Nat.{_+_, _≤_, _<_};
 ghost use lib.ListN.{length};
 ghost use Rattle.value.specs.Slice.{part, overlay};
-ghost use Rattle.value.specs.Level.{markOf, textOf};
+ghost use Rattle.value.specs.Level.{markOf, setAt, textOf};
 ghost use Rattle.layout.specs.Entry.{entrySize, entryOf};
+ghost use Rattle.fst.specs.Record.{largestIn};
 ghost use Rattle.signal.specs.Decode.{levelPart};
 ghost use Rattle.signal.specs.Parts.{codesAt, Levels};
 ghost use Rattle.signal.specs.Read.{widthOf};
 ghost use Rattle.transform.specs.Derive.{pickedOf};
 ghost use Rattle.transform.specs.Piece.{extractOf};
 ghost use Rattle.transform.specs.Steps.{smaller};
-ghost use Rattle.transform.specs.Stepping.{Reaches, Indexable, cursor, cursorsOf, nextIn, soonest, begunAt, advanced};
+ghost use Rattle.transform.specs.Stepping.{Vectors, Tabled, TableOf, inputIn, inputsIn, Reaches, Indexable, cursor, cursorsOf, nextIn, soonest, begunAt, advanced};
 ghost use Rattle.transform.specs.Stepping.{shownBytes, setNow, levelsNow, largestNow, pickedNow, Showing, AllShowing, Picks, Pickable, Stepped};
 use crate::Extract;
 use crate::Input;
 use crate::Inputs;
+use fst::Description;
 use fst::Encoding;
 use layout::entry::write_entry;
 use signal::NextIndex;
@@ -31,6 +33,92 @@ use value::num_to_bit_char;
 // How many entries of each input have begun. An input shows the last of these, and the next one is the entry of that number.
 pub struct Position {
     pub begun: [u32; 8],
+}
+
+// The inputs as numbers, eight for one field before eight for the next: how many entries, the width and the mark of the largest set of
+// each; the byte start and the index start of each. They are lent where a copy of all inputs would cost more than a step.
+pub struct Table {
+    pub numbers: [u32; 24],
+    pub starts: [usize; 16],
+}
+
+// The set of an encoding that is the largest in its record.
+pub fn largest_in(encoding: Encoding) -> States
+    ensures { λ r. ⌜ r ≡ largestIn encoding ⌝ }
+{
+    match encoding {
+        Encoding::Event => States::Two,
+        Encoding::Real => States::Two,
+        Encoding::BitVector {
+            width: _,
+            max_states,
+        } => max_states,
+    }
+}
+
+// How many levels an entry has.
+fn width_of(encoding: Encoding) -> u32
+    ensures { λ r. ⌜ r ≡ widthOf encoding ⌝ }
+{
+    match encoding {
+        Encoding::Event => 0,
+        Encoding::Real => 0,
+        Encoding::BitVector {
+            width,
+            max_states: _,
+        } => width,
+    }
+}
+
+// The table of inputs that are bit vectors.
+pub fn table_of(inputs: Inputs) -> Table
+    requires { ⌜ Vectors inputs ⌝ }
+    ensures { λ r. ⌜ TableOf inputs (r .numbers) (r .starts) ⌝ }
+{
+    let mut numbers = [0; 24];
+    let mut starts = [0; 16];
+    let mut i = 0;
+    while i < inputs.count as usize {
+        let input = inputs.slots[i];
+        let description = input.description;
+        let encoding = description.encoding;
+        numbers[i] = description.count;
+        numbers[8 + i] = width_of(encoding);
+        numbers[16 + i] = largest_in(encoding).mark() as u32;
+        starts[i] = input.byte_start;
+        starts[8 + i] = input.index_start;
+        i += 1;
+    }
+    Table { numbers, starts }
+}
+
+// The set of a mark in a table.
+fn states_at(mark: u32) -> States
+    ensures { λ r. ⌜ r ≡ setAt mark ⌝ }
+{
+    match mark {
+        0 => States::Two,
+        1 => States::Four,
+        _ => States::Nine,
+    }
+}
+
+// An input of a table.
+fn input_at(numbers: &[u32], starts: &[usize], i: usize) -> Input
+    requires { ⌜ (i < 8) × Tabled (now numbers) (now starts) ⌝ }
+    ensures { λ r. ⌜ r ≡ inputIn (now (numbers .entry)) (now (starts .entry)) i ⌝ }
+{
+    let width = numbers[8 + i];
+    let max_states = states_at(numbers[16 + i]);
+    let description = Description {
+        encoding: Encoding::BitVector { width, max_states },
+        count: numbers[i],
+    };
+    Input {
+        description,
+        byte_start: starts[i],
+        index_start: starts[8 + i],
+    }
 }
 
 fn smaller(a: NextIndex, b: NextIndex) -> NextIndex
@@ -58,15 +146,21 @@ fn next_of(input: Input, indices: &[u32], begun: u32) -> NextIndex
 }
 
 // The smallest index among the inputs' next entries.
-pub fn next_index(inputs: Inputs, indices: &[u32], position: Position) -> NextIndex
-    requires { ⌜ Indexable inputs (now indices) ⌝ }
-    ensures { λ r. ⌜ r ≡ soonest (now (indices .entry)) (cursorsOf inputs position) ⌝ }
+pub fn next_index(
+    count: u32,
+    numbers: &[u32],
+    starts: &[usize],
+    indices: &[u32],
+    position: Position,
+) -> NextIndex
+    requires { ⌜ Tabled (now numbers) (now starts) × Indexable (inputsIn count (now numbers) (now starts)) (now indices) ⌝ }
+    ensures { λ r. ⌜ r ≡ soonest (now (indices .entry)) (cursorsOf (inputsIn count (now (numbers .entry)) (now (starts .entry))) position) ⌝ }
 {
     let mut next = NextIndex::Absent;
-    let mut i = inputs.count as usize;
+    let mut i = count as usize;
     while 0 < i {
         i -= 1;
-        let input = inputs.slots[i];
+        let input = input_at(numbers, starts, i);
         next = smaller(next_of(input, indices, position.begun[i]), next);
     }
     next
@@ -84,15 +178,22 @@ fn begun_at(input: Input, indices: &[u32], begun: u32, index: u32) -> u32
 }
 
 // Every input whose next entry carries the index moves on by one.
-pub fn advance(inputs: Inputs, indices: &[u32], position: Position, index: u32) -> Position
-    requires { ⌜ Indexable inputs (now indices) ⌝ }
-    ensures { λ r. ⌜ (cursorsOf inputs r ≡ map (advanced (now (indices .entry)) index) (cursorsOf inputs position)) × (length (r .begun) ≡ 8) ⌝ }
+pub fn advance(
+    count: u32,
+    numbers: &[u32],
+    starts: &[usize],
+    indices: &[u32],
+    position: Position,
+    index: u32,
+) -> Position
+    requires { ⌜ Tabled (now numbers) (now starts) × Indexable (inputsIn count (now numbers) (now starts)) (now indices) ⌝ }
+    ensures { λ r. ⌜ (cursorsOf (inputsIn count (now (numbers .entry)) (now (starts .entry))) r ≡ map (advanced (now (indices .entry)) index) (cursorsOf (inputsIn count (now (numbers .entry)) (now (starts .entry))) position)) × (length (r .begun) ≡ 8) ⌝ }
 {
     let mut begun = position.begun;
-    let mut i = inputs.count as usize;
+    let mut i = count as usize;
     while 0 < i {
         i -= 1;
-        let input = inputs.slots[i];
+        let input = input_at(numbers, starts, i);
         begun[i] = begun_at(input, indices, begun[i], index);
     }
     Position { begun }
@@ -130,30 +231,22 @@ fn shown_levels<'a>(input: Input, bytes: &'a [u8], begun: u32) -> &'a [u8]
     level_part(width, states_of(mark_in(max_states, entry)), entry)
 }
 
-// How many levels an entry has.
-fn width_of(encoding: Encoding) -> u32
-    ensures { λ r. ⌜ r ≡ widthOf encoding ⌝ }
-{
-    match encoding {
-        Encoding::Event => 0,
-        Encoding::Real => 0,
-        Encoding::BitVector {
-            width,
-            max_states: _,
-        } => width,
-    }
-}
-
 // The largest of the sets that the inputs show.
-pub fn step_states(inputs: Inputs, bytes: &[u8], position: Position) -> States
-    requires { ⌜ AllShowing inputs (now bytes) position ⌝ }
-    ensures { λ r. ⌜ r ≡ largestNow (now (bytes .entry)) (cursorsOf inputs position) ⌝ }
+pub fn step_states(
+    count: u32,
+    numbers: &[u32],
+    starts: &[usize],
+    bytes: &[u8],
+    position: Position,
+) -> States
+    requires { ⌜ Tabled (now numbers) (now starts) × AllShowing (inputsIn count (now numbers) (now starts)) (now bytes) position ⌝ }
+    ensures { λ r. ⌜ r ≡ largestNow (now (bytes .entry)) (cursorsOf (inputsIn count (now (numbers .entry)) (now (starts .entry))) position) ⌝ }
 {
     let mut states = States::Two;
-    let mut i = inputs.count as usize;
+    let mut i = count as usize;
     while 0 < i {
         i -= 1;
-        let input = inputs.slots[i];
+        let input = input_at(numbers, starts, i);
         states = States::join(shown_states(input, bytes, position.begun[i]), states);
     }
     states
@@ -215,16 +308,24 @@ fn write_piece(extract: Extract, input: Input, bytes: &[u8], begun: u32, text: &
 }
 
 // Stores the characters of all pieces.
-fn write_pieces(pieces: &[u64], inputs: Inputs, bytes: &[u8], position: Position, text: &mut [u8])
-    requires { ⌜ Pickable inputs (now bytes) position (now pieces) (length (now text)) ⌝ }
-    ensures { λ _. ⌜ now (text .exit) ≡ overlay (now (text .entry)) 0 (textOf (pickedNow (now (bytes .entry)) (cursorsOf inputs position) (map extractOf (now (pieces .entry))))) ⌝ }
+fn write_pieces(
+    pieces: &[u64],
+    count: u32,
+    numbers: &[u32],
+    starts: &[usize],
+    bytes: &[u8],
+    position: Position,
+    text: &mut [u8],
+)
+    requires { ⌜ Tabled (now numbers) (now starts) × Pickable (inputsIn count (now numbers) (now starts)) (now bytes) position (now pieces) (length (now text)) ⌝ }
+    ensures { λ _. ⌜ now (text .exit) ≡ overlay (now (text .entry)) 0 (textOf (pickedNow (now (bytes .entry)) (cursorsOf (inputsIn count (now (numbers .entry)) (now (starts .entry))) position) (map extractOf (now (pieces .entry))))) ⌝ }
 {
     let mut at = 0;
     let mut i = 0;
     while i < pieces.len() {
         let extract = Extract::from_u64(pieces[i]);
         let signal = extract.signal as usize;
-        let input = inputs.slots[signal];
+        let input = input_at(numbers, starts, signal);
         write_piece(extract, input, bytes, position.begun[signal], text, at);
         at += extract.width as usize;
         i += 1;
@@ -235,7 +336,9 @@ fn write_pieces(pieces: &[u64], inputs: Inputs, bytes: &[u8], position: Position
 pub fn write_step(
     width: u32,
     pieces: &[u64],
-    inputs: Inputs,
+    count: u32,
+    numbers: &[u32],
+    starts: &[usize],
     bytes: &[u8],
     position: Position,
     max_states: States,
@@ -243,9 +346,9 @@ pub fn write_step(
     text: &mut [u8],
     out: &mut [u8],
 )
-    requires { ⌜ Stepped inputs (now bytes) position (now pieces) states width × (markOf states ≤ markOf «max_states») × (width ≤ length (now text)) × (length (now out) ≡ entrySize width «max_states») ⌝ }
-    ensures { λ _. ⌜ now (out .exit) ≡ entryOf width «max_states» states (pickedNow (now (bytes .entry)) (cursorsOf inputs position) (map extractOf (now (pieces .entry)))) ⌝ }
+    requires { ⌜ Tabled (now numbers) (now starts) × Stepped (inputsIn count (now numbers) (now starts)) (now bytes) position (now pieces) states width × (markOf states ≤ markOf «max_states») × (width ≤ length (now text)) × (length (now out) ≡ entrySize width «max_states») ⌝ }
+    ensures { λ _. ⌜ now (out .exit) ≡ entryOf width «max_states» states (pickedNow (now (bytes .entry)) (cursorsOf (inputsIn count (now (numbers .entry)) (now (starts .entry))) position) (map extractOf (now (pieces .entry)))) ⌝ }
 {
-    write_pieces(pieces, inputs, bytes, position, text);
+    write_pieces(pieces, count, numbers, starts, bytes, position, text);
     write_entry(max_states, states, &text[..width as usize], out, 0);
 }

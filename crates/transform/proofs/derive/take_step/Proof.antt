@@ -7,7 +7,8 @@ use denote.Ref.{now}
 use Rattle.value.specs.declared.States.{States}
 use Rattle.value.specs.Level.{markOf}
 use Rattle.layout.specs.Entry.{entryOf}
-use Rattle.transform.specs.Stepping.{cursorsOf, largestNow, pickedNow, Stepped}
+use Rattle.transform.specs.declared.Inputs.{Inputs}
+use Rattle.transform.specs.Stepping.{inputsIn, cursorsOf, largestNow, pickedNow, Stepped}
 use Rattle.transform.specs.Piece.{extractOf}
 use borrow.Author.Needs.{needs}
 use Rattle.transform.proofs.derive.take_step.Statement.{statement}
@@ -16,24 +17,27 @@ use Rattle.transform.proofs.derive.take_step.Tie as tie
 -- what the inputs show once they have moved
 module _ (a : tie.After-advance) where
   abbrev start : tie.Start
-  start = a .before .before .before .before .before .before
+  start = a .before .before .before .before .before .before .before .before
 
-  known : Stepped (start .args .inputs) (now (start .args .bytes)) (a .advance .result) (now (start .args .pieces)) (largestNow (now (start .args .bytes)) (cursorsOf (start .args .inputs) (a .advance .result))) (start .args .width)
-      × (markOf (largestNow (now (start .args .bytes)) (cursorsOf (start .args .inputs) (a .advance .result))) ≤ markOf (start .args .max-states))
-  known = start .pre .0 .steps (a .advance .result) (a .advance .ensures .1) (a .advance .ensures .0)
+  abbrev its : Inputs
+  its = inputsIn (start .args .count) (now (start .args .numbers)) (now (start .args .starts))
+
+  known : Stepped its (now (start .args .bytes)) (a .advance .result) (now (start .args .pieces)) (largestNow (now (start .args .bytes)) (cursorsOf its (a .advance .result))) (start .args .width)
+      × (markOf (largestNow (now (start .args .bytes)) (cursorsOf its (a .advance .result))) ≤ markOf (start .args .max-states))
+  known = start .pre .1 .steps (a .advance .result) (a .advance .ensures .1) (a .advance .ensures .0)
 
 advance-requires : tie.Need-advance-requires
-advance-requires c κs = search needs
+advance-requires c κs = let s = c .before .before .before .before .before .before .before in (s .pre .0, s .pre .1 .indexed)
 
 step-states-requires : tie.Need-step-states-requires
-step-states-requires c κs = known c .0 .shown
+step-states-requires c κs = (start c .pre .0, known c .0 .shown)
 
 write-step-requires : tie.Need-write-step-requires
 write-step-requires c κs =
     let t = c .before .before in
     let a = t .before in
     let e = t .step-states .ensures in
-    (rw e (known a .0), rw e (known a .1), start a .pre .1, start a .pre .2)
+    (start a .pre .0, rw e (known a .0), rw e (known a .1), start a .pre .2, start a .pre .3)
 
 same-length : tie.Need-same-length
 same-length c = search needs
@@ -46,7 +50,7 @@ returns c =
     let w = c .before .before .before .before in
     let t = w .before .before .before in
     let a = t .before in
-    record { places = a .advance .ensures .1; on = a .advance .ensures .0; stored = w .write-step .ensures ∙ ap (λ (S : States). entryOf (start a .args .width) (start a .args .max-states) S (pickedNow (now (start a .args .bytes)) (cursorsOf (start a .args .inputs) (a .advance .result)) (map extractOf (now (start a .args .pieces))))) (t .step-states .ensures) }
+    record { places = a .advance .ensures .1; on = a .advance .ensures .0; stored = w .write-step .ensures ∙ ap (λ (S : States). entryOf (start a .args .width) (start a .args .max-states) S (pickedNow (now (start a .args .bytes)) (cursorsOf (its a) (a .advance .result)) (map extractOf (now (start a .args .pieces))))) (t .step-states .ensures) }
 
 pub take-step-spec : {M : Type 1} → statement M
 take-step-spec =

@@ -1,74 +1,92 @@
 -- `transform::steps::advance` meets its contract: the inputs passed have moved, and the others not yet.
 -- Assumes nothing.
-use mathlib.Core.Path.{_≡_, sym, ap, _∙_}
+use mathlib.Core.Path.{_≡_, refl, ap, _∙_}
 use Prim.Native.Nat.{ℕ, suc, _-_, _≤_, _<_}
 use native.Mathlib.Omega.{arith}
 use borrow.Author.Needs.{needs}
 use denote.Ref.{now}
-use Rattle.transform.specs.Stepping.{Reaches}
-use Rattle.transform.proofs.InputTests.{slotted}
+use lib.ListN.{getD}
+use Rattle.transform.specs.declared.Input.{Input}
+use Rattle.transform.specs.declared.Inputs.{Inputs}
+use Rattle.transform.specs.Stepping.{inputsIn, cursor, nextIn, begunAt, Reaches}
+use Rattle.transform.proofs.InputTests.{noInput}
 use Rattle.transform.proofs.Stepping.{begun-sized, input-at, Moved, moved-none, moved-more}
+use Rattle.transform.proofs.SteppingTable.{slot-is}
 use Rattle.transform.proofs.steps.advance.Statement.{statement}
 use Rattle.transform.proofs.steps.advance.Tie as tie
 
 abbrev Inv-loop : tie.InvT-loop
-Inv-loop indices index inputs begun₀ i₀ begun i = (i ≤ inputs .count) × Moved inputs indices index begun₀ begun i
+Inv-loop count numbers starts indices index begun₀ i₀ begun i = (i ≤ count) × Moved (inputsIn count numbers starts) indices index begun₀ begun i
 
 abbrev μ-loop : tie.MeasureT-loop
-μ-loop indices index inputs begun₀ i₀ begun i = i
+μ-loop count numbers starts indices index begun₀ i₀ begun i = i
 
-cast-i : tie.Need-cast-i Inv-loop μ-loop
-cast-i c = search needs
+-- the input at hand
+module _ (a : tie.After-input-at Inv-loop μ-loop) where
+  abbrev turn : tie.At-loop Inv-loop μ-loop
+  turn = a .before .before
+
+  abbrev start : tie.Start Inv-loop μ-loop
+  start = turn .before .before .before .before .before
+
+  abbrev its : Inputs
+  its = inputsIn (start .args .count) (now (start .args .numbers)) (now (start .args .starts))
+
+  low : turn .loop .i - 1 < start .args .count
+  low = omega (arith, a .before .loop-test .taken, turn .loop .inv .0)
+
+  in-eight : turn .loop .i - 1 < 8
+  in-eight = omega (arith, low, start .pre .1 .few)
+
+  told : a .input-at .result ≡ getD (its .slots) (turn .loop .i - 1) noInput
+  told = a .input-at .ensures ∙ slot-is (start .args .count) (now (start .args .numbers)) (now (start .args .starts)) (turn .loop .i - 1) in-eight
 
 loop-holds : tie.Need-loop-holds Inv-loop μ-loop
 loop-holds c =
-    let s = c .before .before in
-    (omega arith, moved-none (s .args .t1) (s .pre .few) (slotted (s .args .t1) _ (s .good .0)) (now (s .args .indices)) (s .args .index) (s .args .position .begun) (begun-sized (s .args .position) _ (s .good .1 .1 .0)))
+    let s = c .before .before .before .before in
+    (omega arith, moved-none (inputsIn (s .args .count) (now (s .args .numbers)) (now (s .args .starts))) (s .pre .1 .few) refl (now (s .args .indices)) (s .args .index) (s .args .position .begun) (begun-sized (s .args .position) _ (s .good .1 .1 .1 .1 .0)))
 
 sub-i : tie.Need-sub-i Inv-loop μ-loop
 sub-i c = omega arith
 
-mul-input : tie.Need-mul-input Inv-loop μ-loop
-mul-input c = omega arith
-
-element-copy-out-input : tie.Need-element-copy-out-input Inv-loop μ-loop
-element-copy-out-input c = omega arith
+input-at-requires : tie.Need-input-at-requires Inv-loop μ-loop
+input-at-requires c κs = let s = c .before .before .before .before .before .before in (omega (arith, s .pre .1 .few), s .pre .0)
 
 mul-begun-at : tie.Need-mul-begun-at Inv-loop μ-loop
-mul-begun-at c = omega arith
+mul-begun-at c = omega (arith, in-eight c)
 
 array-read-begun-at : tie.Need-array-read-begun-at Inv-loop μ-loop
-array-read-begun-at c = omega arith
+array-read-begun-at c = in-eight c
 
 begun-at-requires : tie.Need-begun-at-requires Inv-loop μ-loop
 begun-at-requires c κs =
-    let l = c .before .before in
-    let s = l .before .before .before in
-    input-at (s .args .t1) (s .pre .few) (slotted (s .args .t1) _ (s .good .0)) (l .loop .i - 1) (omega arith) (Reaches (now (s .args .indices))) (s .pre .reach)
+    let s = start c in
+    rw (told c) (input-at (its c) (s .pre .1 .few) refl (turn c .loop .i - 1) (low c) (Reaches (now (s .args .indices))) (s .pre .1 .reach))
 
 mul-begun : tie.Need-mul-begun Inv-loop μ-loop
-mul-begun c = omega arith
+mul-begun c = omega (arith, in-eight (c .before))
 
 array-write-begun : tie.Need-array-write-begun Inv-loop μ-loop
-array-write-begun c = omega arith
+array-write-begun c = in-eight (c .before)
 
 loop-less : tie.Need-loop-less Inv-loop μ-loop
 loop-less c = omega arith
 
 loop-again : tie.Need-loop-again Inv-loop μ-loop
 loop-again c =
-    let l = c .before .before .before in
-    let s = l .before .before .before in (
+    let a = c .before in
+    let l = turn a in
+    let s = start a in
+    let k = getD (l .loop .begun) (l .loop .i - 1) 0 in (
       omega arith,
-      moved-more (s .args .t1) (s .pre .few) (slotted (s .args .t1) _ (s .good .0)) (now (s .args .indices)) (s .args .index)
-          (s .args .position .begun) (begun-sized (s .args .position) _ (s .good .1 .1 .0)) (l .loop .begun) (l .loop .i - 1) (l .loop .i) (omega arith) (omega arith)
-          (l .loop .inv .1) _ (c .begun-at .ensures),
+      moved-more (its a) (s .pre .1 .few) refl (now (s .args .indices)) (s .args .index)
+          (s .args .position .begun) (begun-sized (s .args .position) _ (s .good .1 .1 .1 .1 .0)) (l .loop .begun) (l .loop .i - 1) (l .loop .i) (low a) (omega arith)
+          (l .loop .inv .1) _ (c .begun-at .ensures ∙ ap (λ (x : Input). begunAt (s .args .index) k (nextIn (now (s .args .indices)) (cursor x k))) (told a)),
     )
 
 returns : tie.Need-returns Inv-loop μ-loop
 returns c =
     let l = c .before in
-    let s = l .before .before .before in
     let z : l .loop .i ≡ 0 = omega arith in
     ((rw z at (l .loop .inv .1)) .after, l .loop .inv .1 .places)
 
@@ -78,11 +96,9 @@ advance-spec =
     (tie.spec
     Inv-loop
     μ-loop
-    cast-i
     loop-holds
     sub-i
-    mul-input
-    element-copy-out-input
+    input-at-requires
     mul-begun-at
     array-read-begun-at
     begun-at-requires

@@ -1,50 +1,65 @@
 -- `transform::steps::next_index` meets its contract: what is held is the smallest index of the inputs passed.
 -- Assumes nothing.
-use mathlib.Core.Path.{_≡_, sym, ap, _∙_}
+use mathlib.Core.Path.{_≡_, refl, ap, _∙_}
 use Prim.Native.Nat.{ℕ, suc, _-_, _≤_, _<_}
 use native.Mathlib.Omega.{arith}
 use borrow.Author.Needs.{needs}
 use denote.Ref.{now}
-use Rattle.transform.specs.Stepping.{Reaches, soonest}
-use Rattle.transform.proofs.InputTests.{slotted}
+use lib.ListN.{getD}
+use Rattle.transform.specs.declared.Input.{Input}
+use Rattle.transform.specs.declared.Inputs.{Inputs}
+use Rattle.transform.specs.Stepping.{inputsIn, cursor, nextIn, Reaches, soonest}
+use Rattle.transform.proofs.InputTests.{noInput}
 use Rattle.transform.proofs.Stepping.{begun-sized, from, soonest-none, input-at, soonest-more}
+use Rattle.transform.proofs.SteppingTable.{slot-is}
 use Rattle.transform.proofs.steps.next_index.Statement.{statement}
 use Rattle.transform.proofs.steps.next_index.Tie as tie
 
 abbrev Inv-loop : tie.InvT-loop
-Inv-loop indices inputs position next₀ i₀ next i = (i ≤ inputs .count) × (next ≡ soonest indices (from inputs i (position .begun)))
+Inv-loop count numbers starts indices position next₀ i₀ next i = (i ≤ count) × (next ≡ soonest indices (from (inputsIn count numbers starts) i (position .begun)))
 
 abbrev μ-loop : tie.MeasureT-loop
-μ-loop indices inputs position next₀ i₀ next i = i
+μ-loop count numbers starts indices position next₀ i₀ next i = i
 
-cast-i : tie.Need-cast-i Inv-loop μ-loop
-cast-i c = search needs
+-- the input at hand
+module _ (a : tie.After-input-at Inv-loop μ-loop) where
+  abbrev turn : tie.At-loop Inv-loop μ-loop
+  turn = a .before .before
+
+  abbrev start : tie.Start Inv-loop μ-loop
+  start = turn .before .before .before .before
+
+  abbrev its : Inputs
+  its = inputsIn (start .args .count) (now (start .args .numbers)) (now (start .args .starts))
+
+  low : turn .loop .i - 1 < start .args .count
+  low = omega (arith, a .before .loop-test .taken, turn .loop .inv .0)
+
+  told : a .input-at .result ≡ getD (its .slots) (turn .loop .i - 1) noInput
+  told = a .input-at .ensures ∙ slot-is (start .args .count) (now (start .args .numbers)) (now (start .args .starts)) (turn .loop .i - 1) (omega (arith, low, start .pre .1 .few))
 
 loop-holds : tie.Need-loop-holds Inv-loop μ-loop
 loop-holds c =
-    let s = c .before in
-    (omega arith, soonest-none (s .args .t1) (s .pre .few) (slotted (s .args .t1) _ (s .good .0)) (now (s .args .indices)) (s .args .t3 .begun))
+    let s = c .before .before .before in
+    (omega arith, soonest-none (inputsIn (s .args .count) (now (s .args .numbers)) (now (s .args .starts))) (s .pre .1 .few) refl (now (s .args .indices)) (s .args .t5 .begun))
 
 sub-i : tie.Need-sub-i Inv-loop μ-loop
 sub-i c = omega arith
 
-mul-input : tie.Need-mul-input Inv-loop μ-loop
-mul-input c = omega arith
-
-element-copy-out-input : tie.Need-element-copy-out-input Inv-loop μ-loop
-element-copy-out-input c = omega arith
+input-at-requires : tie.Need-input-at-requires Inv-loop μ-loop
+input-at-requires c κs = let s = c .before .before .before .before .before in (omega (arith, s .pre .1 .few), s .pre .0)
 
 mul-next-of : tie.Need-mul-next-of Inv-loop μ-loop
-mul-next-of c = omega arith
+mul-next-of c = omega (arith, low c, start c .pre .1 .few)
 
 element-copy-out-next-of : tie.Need-element-copy-out-next-of Inv-loop μ-loop
-element-copy-out-next-of c = omega arith
+element-copy-out-next-of c = omega (arith, low c, start c .pre .1 .few)
 
 next-of-requires : tie.Need-next-of-requires Inv-loop μ-loop
 next-of-requires c κs =
-    let l = c .before .before .before in
-    let s = l .before .before in
-    input-at (s .args .t1) (s .pre .few) (slotted (s .args .t1) _ (s .good .0)) (l .loop .i - 1) (omega arith) (Reaches (now (s .args .indices))) (s .pre .reach)
+    let a = c .before in
+    let s = start a in
+    rw (told a) (input-at (its a) (s .pre .1 .few) refl (turn a .loop .i - 1) (low a) (Reaches (now (s .args .indices))) (s .pre .1 .reach))
 
 smaller-requires : tie.Need-smaller-requires Inv-loop μ-loop
 smaller-requires c κs = search needs
@@ -55,20 +70,21 @@ loop-less c = omega arith
 loop-again : tie.Need-loop-again Inv-loop μ-loop
 loop-again c =
     let n = c .before in
-    let l = n .before .before .before .before in
-    let s = l .before .before in (
+    let a = n .before .before in
+    let l = turn a in
+    let s = start a in (
       omega arith,
       c .smaller .ensures
-          ∙ soonest-more (s .args .t1) (s .pre .few) (slotted (s .args .t1) _ (s .good .0)) (l .loop .i - 1) (omega arith)
-          (now (s .args .indices)) (s .args .t3 .begun) (begun-sized (s .args .t3) _ (s .good .1 .1 .0)) _ _ (n .next-of .ensures) (l .loop .i) (omega arith) (l .loop .inv .1),
+          ∙ soonest-more (its a) (s .pre .1 .few) refl (l .loop .i - 1) (low a) (now (s .args .indices)) (s .args .t5 .begun) (begun-sized (s .args .t5) _ (s .good .1 .1 .1 .1 .0))
+          _ _ (n .next-of .ensures ∙ ap (λ (x : Input). nextIn (now (s .args .indices)) (cursor x (getD (s .args .t5 .begun) (l .loop .i - 1) 0))) (told a)) (l .loop .i) (omega arith) (l .loop .inv .1),
     )
 
 returns : tie.Need-returns Inv-loop μ-loop
 returns c =
     let l = c .before in
-    let s = l .before .before in
+    let s = l .before .before .before .before in
     let z : l .loop .i ≡ 0 = omega arith in
-    l .loop .inv .1 ∙ ap (λ (i : ℕ). soonest (now (s .args .indices)) (from (s .args .t1) i (s .args .t3 .begun))) z
+    l .loop .inv .1 ∙ ap (λ (i : ℕ). soonest (now (s .args .indices)) (from (inputsIn (s .args .count) (now (s .args .numbers)) (now (s .args .starts))) i (s .args .t5 .begun))) z
 
 pub next-index-spec : {M : Type 1} → statement M
 next-index-spec =
@@ -76,11 +92,9 @@ next-index-spec =
     (tie.spec
     Inv-loop
     μ-loop
-    cast-i
     loop-holds
     sub-i
-    mul-input
-    element-copy-out-input
+    input-at-requires
     mul-next-of
     element-copy-out-next-of
     next-of-requires

@@ -6,6 +6,8 @@ use native.Mathlib.Omega.{arith}
 use denote.Ref.{now}
 use lib.ListN.{length}
 use lib.Seq.{length-take-le}
+use Rattle.transform.specs.declared.Inputs.{Inputs}
+use Rattle.transform.specs.Stepping.{inputsIn}
 use Rattle.transform.proofs.SteppingEntry.{pickable, writable, step-stored}
 use borrow.Author.Needs.{needs}
 use Rattle.transform.proofs.steps.write_step.Statement.{statement}
@@ -14,15 +16,20 @@ use Rattle.transform.proofs.steps.write_step.Tie as tie
 -- what is known once the characters are gathered
 module _ (w : tie.After-write-pieces) where
   abbrev start : tie.Start
-  start = w .before .before .before .before .before .before
+  start = w .before .before .before .before .before .before .before .before
 
-  gathered : start .args .width ≤ length (w .write-pieces .last .1 .1 .1 .1 .0)
-  gathered = rw (w .write-pieces .kept .1 .1 .1 .1 .0) (start .pre .2)
+  abbrev its : Inputs
+  its = inputsIn (start .args .count) (now (start .args .numbers)) (now (start .args .starts))
+
+  gathered : start .args .width ≤ length (w .write-pieces .last .1 .1 .1 .1 .1 .1 .0)
+  gathered = rw (w .write-pieces .kept .1 .1 .1 .1 .1 .1 .0) (start .pre .3)
 
 write-pieces-requires : tie.Need-write-pieces-requires
 write-pieces-requires c κs =
-    let s = c .before .before .before .before .before in
-    pickable (s .args .inputs) (now (s .args .bytes)) (s .args .position) (now (s .args .pieces)) (s .args .states) (s .args .width) (s .pre .0) _ (s .pre .2)
+    let s = c .before .before .before .before .before .before .before in (
+      s .pre .0,
+      pickable (inputsIn (s .args .count) (now (s .args .numbers)) (now (s .args .starts))) (now (s .args .bytes)) (s .args .position) (now (s .args .pieces)) (s .args .states) (s .args .width) (s .pre .1) _ (s .pre .3),
+    )
 
 slice-reshare-prefix-write-entry : tie.Need-slice-reshare-prefix-write-entry
 slice-reshare-prefix-write-entry c = gathered (c .before .before)
@@ -34,8 +41,8 @@ write-entry-requires : tie.Need-write-entry-requires
 write-entry-requires c κs =
     let w = c .before .before .before .before in
     let s = start w in
-    writable (s .args .inputs) (now (s .args .bytes)) (s .args .position) (now (s .args .pieces)) (s .args .states) (s .args .width) (s .pre .0) (s .args .max-states) (s .pre .1)
-    (now (s .args .text)) _ (w .write-pieces .ensures) _ (s .pre .3)
+    writable (its w) (now (s .args .bytes)) (s .args .position) (now (s .args .pieces)) (s .args .states) (s .args .width) (s .pre .1) (s .args .max-states) (s .pre .2)
+    (now (s .args .text)) _ (w .write-pieces .ensures) _ (s .pre .4)
 
 same-length : tie.Need-same-length
 same-length c = search needs
@@ -49,8 +56,8 @@ returns c =
     let w = e .before .before .before .before .before in
     let s = start w in
     e .write-entry .ensures .1
-    ∙ step-stored (s .args .inputs) (now (s .args .bytes)) (s .args .position) (now (s .args .pieces)) (s .args .states) (s .args .width) (s .pre .0) (s .args .max-states) (s .pre .1)
-    (now (s .args .text)) _ (w .write-pieces .ensures) (now (s .args .out)) (s .pre .3)
+    ∙ step-stored (its w) (now (s .args .bytes)) (s .args .position) (now (s .args .pieces)) (s .args .states) (s .args .width) (s .pre .1) (s .args .max-states) (s .pre .2)
+    (now (s .args .text)) _ (w .write-pieces .ensures) (now (s .args .out)) (s .pre .4)
 
 pub write-step-spec : {M : Type 1} → statement M
 write-step-spec =

@@ -1,0 +1,158 @@
+-- The inputs as numbers: what is stored of each, and what is read of each.
+-- Assumes nothing.
+use mathlib.Core.Path.{_≡_, refl, sym, ap, _∙_}
+use mathlib.Core.Bool.{Bool, true, false}
+use mathlib.Core.List.{List, [], _∷_, map}
+use Prim.Native.Nat.{ℕ, zero, suc, _+_, _≤_, _<_}
+use native.Mathlib.Omega.{arith}
+use lib.ListN.{length, take, getD, set, length-set}
+use lib.Seq.{getD-set-same, getD-set-other, getD-take, ext-getD, length-take-le}
+use Rattle.value.specs.declared.States.{States}
+use Rattle.value.specs.Slice.{any}
+use Rattle.value.specs.Level.{markOf, setAt}
+use Rattle.value.proofs.Levels.{set-mark}
+use Rattle.value.proofs.Tests.{by-eq}
+use Rattle.fst.specs.declared.Encoding.{Encoding}
+use Rattle.fst.specs.declared.Encoding.the-variants.{Event, Real, BitVector}
+use Rattle.fst.specs.Record.{Kept, largestIn}
+use Rattle.signal.specs.Read.{widthOf, hasNoText}
+use Rattle.transform.specs.declared.Input.{Input}
+use Rattle.transform.specs.declared.Inputs.{Inputs}
+use Rattle.transform.specs.declared.DerivedBitVecSignal.{DerivedBitVecSignal}
+use Rattle.transform.specs.Piece.{piecesOf}
+use Rattle.transform.specs.Derive.{inputsOf, inputKept, isBadInput, isUnfit, startsLate, indicesFall, markIsBad, codeIsBad, largestAmong}
+use Rattle.transform.specs.Tests.{keptAll, Derivable}
+use Rattle.transform.specs.Stepping.{inputIn, inputsIn, Tabled, TableOf, Walkable}
+use Rattle.transform.proofs.InputTests.{noInput}
+
+-- ---- what is read
+
+pub input-told : (numbers starts : List ℕ) (i : ℕ) (M : States) → M ≡ setAt (getD numbers (16 + i) 0)
+    → _≡_ {A = Input}
+    (record {
+      description = record { encoding = BitVector (getD numbers (8 + i) 0) M; count = getD numbers i 0 };
+      «byte_start» = getD starts i 0;
+      «index_start» = getD starts (8 + i) 0;
+    })
+    (inputIn numbers starts i)
+input-told numbers starts i M e = rw e
+
+pub slot-is : (count : ℕ) (numbers starts : List ℕ) (i : ℕ) → i < 8 → inputIn numbers starts i ≡ getD ((inputsIn count numbers starts) .slots) i noInput
+slot-is count numbers starts zero h = refl
+slot-is count numbers starts (suc zero) h = refl
+slot-is count numbers starts (suc (suc zero)) h = refl
+slot-is count numbers starts (suc (suc (suc zero))) h = refl
+slot-is count numbers starts (suc (suc (suc (suc zero)))) h = refl
+slot-is count numbers starts (suc (suc (suc (suc (suc zero))))) h = refl
+slot-is count numbers starts (suc (suc (suc (suc (suc (suc zero)))))) h = refl
+slot-is count numbers starts (suc (suc (suc (suc (suc (suc (suc zero))))))) h = refl
+slot-is count numbers starts (suc (suc (suc (suc (suc (suc (suc (suc i)))))))) h = absurd (omega arith)
+
+-- ---- what is stored
+
+vector-is : (e : Encoding) → hasNoText e ≡ false → BitVector (widthOf e) (largestIn e) ≡ e
+unfolding hasNoText
+vector-is Event t = let z : _≡_ {A = ℕ} 0 1 = cc in absurd (omega arith)
+vector-is Real t = let z : _≡_ {A = ℕ} 0 1 = cc in absurd (omega arith)
+vector-is (BitVector w M) t = refl
+
+row-is : (x : Input) (c w m b s : ℕ) → c ≡ x .description .count → BitVector w (setAt m) ≡ x .description .encoding → b ≡ x .«byte_start» → s ≡ x .«index_start»
+    → _≡_ {A = Input} (record { description = record { encoding = BitVector w (setAt m); count = c }; «byte_start» = b; «index_start» = s }) x
+row-is x c w m b s e f g h = rw (e, f, g, h)
+
+twice : (l : List ℕ) (i j v w k : ℕ) → (k ≡ i → ⊥) → (k ≡ j → ⊥) → getD (set (set l i v) j w) k 0 ≡ getD l k 0
+twice l i j v w k a b = getD-set-other (set l i v) j k w 0 b ∙ getD-set-other l i k v 0 a
+
+thrice : (l : List ℕ) (i j m v w x k : ℕ) → (k ≡ i → ⊥) → (k ≡ j → ⊥) → (k ≡ m → ⊥) → getD (set (set (set l i v) j w) m x) k 0 ≡ getD l k 0
+thrice l i j m v w x k a b c = getD-set-other (set (set l i v) j w) m k x 0 c ∙ twice l i j v w k a b
+
+-- the inputs before number i are stored
+pub record Rows (inputs : Inputs) (numbers starts : List ℕ) (i : ℕ) : Type 0 where
+  pub long : Tabled numbers starts
+  pub rows : (k : ℕ) → k < i → inputIn numbers starts k ≡ getD (inputs .slots) k noInput
+
+module _ (inputs : Inputs) (numbers starts : List ℕ) (i : ℕ) (few : i < 8) (was : Rows inputs numbers starts i) where
+  abbrev x : Input
+  x = getD (inputs .slots) i noInput
+
+  module _ (w m : ℕ) (text : hasNoText (x .description .encoding) ≡ false) (e : w ≡ widthOf (x .description .encoding)) (f : m ≡ markOf (largestIn (x .description .encoding))) where
+    abbrev numbers′ : List ℕ
+    numbers′ = set (set (set numbers i (x .description .count)) (8 + i) w) (16 + i) m
+
+    abbrev starts′ : List ℕ
+    starts′ = set (set starts i (x .«byte_start»)) (8 + i) (x .«index_start»)
+
+    stays : (k : ℕ) → k < i → inputIn numbers′ starts′ k ≡ inputIn numbers starts k
+    stays k h =
+        let a = thrice numbers i (8 + i) (16 + i) (x .description .count) w m k (λ z. omega arith) (λ z. omega arith) (λ z. omega arith) in
+        let b = thrice numbers i (8 + i) (16 + i) (x .description .count) w m (8 + k) (λ z. omega arith) (λ z. omega arith) (λ z. omega arith) in
+        let c = thrice numbers i (8 + i) (16 + i) (x .description .count) w m (16 + k) (λ z. omega arith) (λ z. omega arith) (λ z. omega arith) in
+        let d = twice starts i (8 + i) (x .«byte_start») (x .«index_start») k (λ z. omega arith) (λ z. omega arith) in
+        let g = twice starts i (8 + i) (x .«byte_start») (x .«index_start») (8 + k) (λ z. omega arith) (λ z. omega arith) in
+        rw (a, b, c, d, g)
+
+    new : inputIn numbers′ starts′ i ≡ x
+    new =
+        let n = was .long .numbered in
+        let s = was .long .started in
+        let one = set numbers i (x .description .count) in
+        let two = set one (8 + i) w in
+        let byte = set starts i (x .«byte_start») in
+        let a : getD numbers′ i 0 ≡ x .description .count =
+        getD-set-other two (16 + i) i m 0 (λ z. omega arith) ∙ getD-set-other one (8 + i) i w 0 (λ z. omega arith) ∙ getD-set-same numbers i (x .description .count) 0 (omega arith) in
+        let b : getD numbers′ (8 + i) 0 ≡ w = getD-set-other two (16 + i) (8 + i) m 0 (λ z. omega arith) ∙ getD-set-same one (8 + i) w 0 (rw length-set (omega arith)) in
+        let c : getD numbers′ (16 + i) 0 ≡ m = getD-set-same two (16 + i) m 0 (rw (length-set, length-set) (omega arith)) in
+        let d : getD starts′ i 0 ≡ x .«byte_start» = getD-set-other byte (8 + i) i (x .«index_start») 0 (λ z. omega arith) ∙ getD-set-same starts i (x .«byte_start») 0 (omega arith) in
+        let g : getD starts′ (8 + i) 0 ≡ x .«index_start» = getD-set-same byte (8 + i) (x .«index_start») 0 (rw length-set (omega arith)) in
+        let v : BitVector (getD numbers′ (8 + i) 0) (setAt (getD numbers′ (16 + i) 0)) ≡ x .description .encoding =
+        rw (b, c, e, f, set-mark) (vector-is (x .description .encoding) text) in
+        row-is x (getD numbers′ i 0) (getD numbers′ (8 + i) 0) (getD numbers′ (16 + i) 0) (getD starts′ i 0) (getD starts′ (8 + i) 0) a v d g
+
+    pub rows-more : Rows inputs numbers′ starts′ (i + 1)
+    rows-more =
+        record {
+          long = record { numbered = rw (length-set, length-set, length-set) (was .long .numbered); started = rw (length-set, length-set) (was .long .started) };
+          rows =
+              λ k h.
+              by-eq k i
+              (λ z. rw z new)
+              (λ z. stays k (omega arith) ∙ was .rows k (omega arith));
+        }
+
+pub table-done : (inputs : Inputs) → inputs .count ≤ 8 → length (inputs .slots) ≡ 8 → (numbers starts : List ℕ) → Rows inputs numbers starts (inputs .count) → TableOf inputs numbers starts
+table-done inputs few slots numbers starts r =
+    let n = inputs .count in
+    let its : List Input = (inputsIn n numbers starts) .slots in
+    let a : length (take n its) ≡ n = length-take-le n its few in
+    let b : length (take n (inputs .slots)) ≡ n = length-take-le n (inputs .slots) (rw slots few) in
+    record {
+      long = r .long;
+      same =
+          ext-getD noInput (take n its) (take n (inputs .slots)) (a ∙ sym b)
+          (λ k h.
+          let m : k < n = rw a at h in
+          getD-take n its k noInput m ∙ sym (slot-is n numbers starts k (omega arith)) ∙ r .rows k m ∙ sym (getD-take n (inputs .slots) k noInput m));
+    }
+
+-- ---- a walk over the inputs that a table describes
+
+module _ (d : DerivedBitVecSignal) (inputs : Inputs) (bytes indices numbers starts : List ℕ) (t : TableOf inputs numbers starts) where
+  abbrev its : Inputs
+  its = inputsIn (inputs .count) numbers starts
+
+  pub kept-as : keptAll bytes indices its ≡ keptAll bytes indices inputs
+  kept-as = ap (map (inputKept bytes indices)) (t .same)
+
+  derivable-as : Derivable d inputs bytes indices → Derivable d its bytes indices
+  derivable-as D =
+      record {
+        stand = ap (any (isBadInput bytes indices)) (t .same) ∙ D .stand;
+        fit = ap (isUnfit d (inputs .count)) kept-as ∙ D .fit;
+        begun = ap (any startsLate) kept-as ∙ D .begun;
+        rising = ap (any indicesFall) kept-as ∙ D .rising;
+        marked = ap (any markIsBad) kept-as ∙ D .marked;
+        coded = ap (λ (ks : List Kept). any (codeIsBad ks) (piecesOf d)) kept-as ∙ D .coded;
+      }
+
+  pub walkable-as : (M : States) (entry : List ℕ) → Walkable d inputs bytes indices M entry → Walkable d its bytes indices M entry
+  walkable-as M entry W = record { derivable = derivable-as (W .derivable); largest = W .largest ∙ ap largestAmong (sym kept-as); sized = W .sized }

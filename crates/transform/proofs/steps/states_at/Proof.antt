@@ -1,0 +1,18 @@
+-- `transform::steps::states_at` meets its contract.
+-- Assumes nothing.
+use borrow.Author.Needs.{needs}
+use Rattle.signal.proofs.Decoding.{set-rest}
+use Rattle.transform.proofs.steps.states_at.Statement.{statement}
+use Rattle.transform.proofs.steps.states_at.Tie as tie
+
+returns : tie.Need-returns
+returns c = search needs
+
+returns-2 : tie.Need-returns-2
+returns-2 c = search needs
+
+returns-3 : tie.Need-returns-3
+returns-3 c = set-rest _ (c .match .rest .0 .1) (c .match .rest .1)
+
+pub states-at-spec : {M : Type 1} → statement M
+states-at-spec = tie.close (tie.spec returns returns-2 returns-3)
