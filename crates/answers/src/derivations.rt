@@ -136,7 +136,7 @@ fn derive_from(line: &[u8], from: usize) -> bool
     )
 }
 
-// A line with more inputs than there are slots disagrees.
+// A line with more inputs than there are slots counts as one that came out otherwise.
 pub fn derive(line: &[u8]) -> bool {
     let count = number_32(line, 7);
     if 8 < count {

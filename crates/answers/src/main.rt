@@ -1,12 +1,13 @@
 // Replays the stored answers (README.md beside has their format) on the proved functions. Each operation writes a line: how many
-// of its calls came out as stored, or the number of the first line that did not. No stored call is left out.
+// of its calls came out as stored, or the number of the first line that did not. No stored call is left out. The answers are read from
+// standard input by place, so that has to be a file.
 mod derivations;
 mod fields;
 mod records;
 
 use fields::has_word;
 
-// A longer line disagrees. So no field has more bytes or indices than its buffer.
+// A longer line counts as one that came out otherwise, so that every list fits its buffer.
 const LONGEST: usize = 32768;
 
 // The place of a line's operation among the nine, and 9 for any other.
