@@ -2,7 +2,7 @@
 
 use compare::stored::replay;
 
-const FIRST: &str = include_str!("../../answers/first.txt");
+const FIRST: &str = include_str!("../../../crates/answers/stdin");
 
 #[test]
 fn stored_answers_are_the_oracles() {

@@ -1,4 +1,4 @@
-//! The stored answers, one call a line (answers/README.md has the format).
+//! The stored answers, one call a line (crates/answers/README.md has the format).
 
 #[cfg(wellen)]
 pub mod choose;
