@@ -68,11 +68,16 @@ binary-bit c h k =
     eqb-true (bitAnd c 1) (codeOf (fold c))
     (each-byte (λ (n : ℕ). ltb (codeOf (fold n)) 2) (λ (n : ℕ). eqb (bitAnd n 1) (codeOf (fold n))) tt c h (lt-ltb (codeOf (fold c)) 2 k))
 
--- a number that is 0 exactly for the characters of a set
-pub beside-byte : (when : ℕ → Bool) (f : ℕ → ℕ) (m : ℕ)
-    → T (allBelow (λ (n : ℕ). implies (when n) (both (eqb (f n) 0) (holdsOne m n))) 256)
-    → (c : ℕ) → c < 256 → when c ≡ true → eqb (f c) 0 ≡ holdsOne m c
-beside-byte when f m t c h e = both-same (eqb (f c) 0) (holdsOne m c) (each-byte when (λ (n : ℕ). both (eqb (f n) 0) (holdsOne m n)) t c h e)
+-- two tests of a byte, computed at each
+pub same-tests : (f g : ℕ → Bool) → T (allBelow (λ (n : ℕ). implies true (both (f n) (g n))) 256) → (c : ℕ) → c < 256 → f c ≡ g c
+same-tests f g t c h = both-same (f c) (g c) (each-byte (λ (n : ℕ). true) (λ (n : ℕ). both (f n) (g n)) t c h refl)
+
+-- the smaller of two numbers
+pub smaller-left : (a b : ℕ) → a < b → eqb a 0 ≡ eqb a 0 || eqb b 0
+smaller-left a b h = by-eq a 0 (λ e. rw (eq-eqb a 0 e)) (λ n. rw (ne-eqb a 0 n, ne-eqb b 0 (λ e. omega arith)))
+
+pub smaller-right : (a b : ℕ) → b ≤ a → eqb b 0 ≡ eqb a 0 || eqb b 0
+smaller-right a b h = by-eq a 0 (λ e. let z : b ≡ 0 = omega arith in rw (eq-eqb a 0 e, eq-eqb b 0 z)) (λ n. rw (ne-eqb a 0 n))
 
 known-is : (c : ℕ) → true ≡ holdsOne 9 c → codeOf (fold c) < 9
 unfolding holdsOne

@@ -1,5 +1,6 @@
 // Levels and state sets, after wellen's src/signal/value.rs.
 ghost use mathlib.Core.Path.{_≡_};
+ghost use mathlib.Core.Bool.{_||_};
 ghost use Prim.Native.Nat.{_+_, _-_, _*_, _/_, _%_, _^_, _≤_, _<_};
 ghost use lib.Dec.{eqb};
 ghost use lib.ListN.{length};
@@ -58,7 +59,15 @@ pub fn bit_char_to_num(value: u8) -> CharCode
     }
 }
 
-// 0 for 0 1, and another number for every other byte. These three have no loads, so that a loop over them is compiled to wide instructions.
+// The smaller of two numbers: 0 where one of them is. Compiled to one instruction, also of wide ones.
+fn smaller(a: u8, b: u8) -> u8
+    ensures { λ r. ⌜ eqb r 0 ≡ eqb a 0 || eqb b 0 ⌝ }
+{
+    if a < b { a } else { b }
+}
+
+// 0 for 0 1, and another number for every other byte. These three have no loads and no jumps, so that a loop over them is compiled to
+// wide instructions.
 fn beside_two(value: u8) -> u8
     ensures { λ r. ⌜ eqb r 0 ≡ holdsOne 2 value ⌝ }
 {
@@ -69,11 +78,7 @@ fn beside_two(value: u8) -> u8
 fn beside_four(value: u8) -> u8
     ensures { λ r. ⌜ eqb r 0 ≡ holdsOne 4 value ⌝ }
 {
-    if value & 254 == b'0' {
-        0
-    } else {
-        ((value | 32) & 253) ^ b'x'
-    }
+    smaller(beside_two(value), ((value | 32) & 253) ^ b'x')
 }
 
 // 0 for 0 1 x z h u w l -.
@@ -81,17 +86,8 @@ fn beside_nine(value: u8) -> u8
     ensures { λ r. ⌜ eqb r 0 ≡ holdsOne 9 value ⌝ }
 {
     let small = value | 32;
-    if value & 254 == b'0' {
-        0
-    } else if small & 253 == b'x' {
-        0
-    } else if small & 253 == b'u' {
-        0
-    } else if small & 251 == b'h' {
-        0
-    } else {
-        value ^ b'-'
-    }
+    let letter = smaller((small & 253) ^ b'u', (small & 251) ^ b'h');
+    smaller(beside_four(value), smaller(letter, value ^ b'-'))
 }
 
 // The character of a code, and 0 for a number that is no code.
