@@ -69,8 +69,9 @@ mod soak {
             assert_eq!(raw::recorder_fresh(&mut description, width), 0);
             Self {
                 description,
-                bytes: vec![0; ROOM * (width as usize / 2 + 1)],
-                indices: vec![0; ROOM],
+                // Not zeros, so that the memory is held from the start.
+                bytes: vec![0xa5; ROOM * (width as usize / 2 + 1)],
+                indices: vec![0xa5a5_a5a5; ROOM],
                 index: 0,
                 last: VecDeque::with_capacity(REMEMBERED + 1),
             }
