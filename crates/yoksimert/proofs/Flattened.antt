@@ -106,11 +106,11 @@ module _ (f : FlatDescription) (bytes : List ℕ) (start k : ℕ) where
 
     pub read-known : (a : EntryAnswer) → entryOf a (partOf (readEntry d bytes start k)) ≡ readEntry d bytes start k
         → (K : Kind) (S : States) → a ≡ answer.Entry K S → (m n size : ℕ) → m ≡ kindNumber K → n ≡ markOf S → size ≡ sizeOf (d .encoding)
-        → (p : List ℕ) → p ≡ partOf (readEntry d bytes start k)
-        → _≡_ {A = FlatEntry} (record { number = 0; kind = m; set = n; start = start + (k * size + size) - length p; length = length p }) (flatRead f bytes start k)
+        → (l : ℕ) → l ≡ length (partOf (readEntry d bytes start k))
+        → _≡_ {A = FlatEntry} (record { number = 0; kind = m; set = n; start = start + (k * size + size) - l; length = l }) (flatRead f bytes start k)
     unfolding flatRead
-    read-known a e K S q m n size km sn zs p pe =
+    read-known a e K S q m n size km sn zs l le =
         let z = sizeOf (d .encoding) in
         let r : given (record { kind = K; set = S; part = partOf (readEntry d bytes start k) }) ≡ readEntry d bytes start k =
         ap (λ (b : EntryAnswer). entryOf b (partOf (readEntry d bytes start k))) (sym q) ∙ e in
-        rw (h, km, sn, zs, pe) (ap (flatEntry (start + (k * z + z))) r)
+        rw (h, km, sn, zs, le) (ap (flatEntry (start + (k * z + z))) r)

@@ -5,13 +5,16 @@ use mathlib.Core.Bool.{Bool, true, false, cond}
 use mathlib.Core.List.{List, [], _∷_}
 use Prim.Native.Nat.{ℕ, zero, suc, _+_, _-_, _*_, _≤_, _<_}
 use native.Mathlib.Omega.{arith}
+use borrow.Author.Tests.{ltb-false}
 use lib.ListN.{length, drop, length-drop}
 use Rattle.value.specs.declared.States.{States}
 use Rattle.value.specs.Slice.{part}
-use Rattle.value.specs.Level.{lenOf}
+use Rattle.value.specs.Level.{markOf, setAt, lenOf}
+use Rattle.value.proofs.Levels.{mark-set, mark-small}
 use Rattle.value.proofs.Tests.{by-le}
 use Rattle.value.proofs.Backward.{drop-part}
 use Rattle.layout.specs.Entry.{entrySize}
+use Rattle.layout.proofs.EntryParts.{len-fits}
 use Rattle.fst.specs.declared.Encoding.{Encoding}
 use Rattle.fst.specs.declared.Encoding.the-variants.{Event, Real, BitVector}
 use Rattle.fst.specs.declared.Description.{Description}
@@ -20,11 +23,11 @@ use Rattle.fst.specs.Record.{sizeOf, isBadBytes}
 use Rattle.signal.specs.declared.Kind.{Kind}
 use Rattle.signal.specs.declared.EntryAnswer.{EntryAnswer}
 use Rattle.signal.specs.declared.EntryAnswer.the-variants as answer
-use Rattle.signal.specs.Decode.{entryAt, setIn, levelPart, hasBadMark}
+use Rattle.signal.specs.Decode.{entryAt, markIn, setIn, levelPart, hasBadMark}
 use Rattle.signal.specs.Parts.{Inside, partIn}
 use Rattle.signal.specs.Read.{Entry, entryIn, readEntry, entryOf, partOf}
 use Rattle.signal.proofs.Reading.{read-bad, read-past, readOn, read-on, inside, whole, part-on}
-use Rattle.yoksimert.specs.Flat.{flatEntry}
+use Rattle.yoksimert.specs.Flat.{levelLength, flatEntry}
 
 abbrev part-of : Entry → List ℕ
 part-of e = e .part
@@ -52,6 +55,28 @@ given-part e v r q = go (hasBadMark e v) q
     go true q = let z : _≡_ {A = ℕ} 0 1 = cc in absurd (omega arith)
     go false q = let i : r ≡ entryIn e v = cc in ap part-of i
 
+-- the levels of an entry with a good mark take the bytes that its own set asks
+level-long : (e : Encoding) (v : List ℕ) → length v ≡ sizeOf e → hasBadMark e v ≡ false → levelLength e (setIn e v) ≡ length (levelPart e v)
+unfolding hasBadMark setIn levelPart
+level-long Event v h g = sym h
+level-long Real v h g = sym h
+level-long (BitVector w M) v h g =
+    let m : markIn M v ≤ markOf M = ltb-false _ _ g in
+    let s : markOf (setAt (markIn M v)) ≡ markIn M v = mark-set (markIn M v) (omega (arith, mark-small M)) in
+    let f : lenOf w (setAt (markIn M v)) ≤ entrySize w M = len-fits w (setAt (markIn M v)) M (omega arith) in
+    rw length-drop (omega (arith, h))
+
+-- behind 2 and 8 an accepted Read tells the own set, and how long the part is
+given-long : (e : Encoding) (v : List ℕ) → length v ≡ sizeOf e → (r : Entry) → readOn e v ≡ given r → levelLength e (r .set) ≡ length (r .part)
+unfolding readOn tried
+given-long e v h r q = go (hasBadMark e v) refl q
+  where
+    go : (b : Bool) → hasBadMark e v ≡ b → tried (9 ⇐ b ∷ []) (given (entryIn e v)) ≡ given r → levelLength e (r .set) ≡ length (r .part)
+    go true g q = let z : _≡_ {A = ℕ} 0 1 = cc in absurd (omega arith)
+    go false g q =
+        let i : entryIn e v ≡ r = cc in
+        subst (λ (x : Entry). levelLength e (x .set) ≡ length (x .part)) i (level-long e v h g)
+
 module _ (d : Description) (bytes : List ℕ) (start k : ℕ) where
   -- neither 2 nor 8
   pub record Accepted : Type 0 where
@@ -70,12 +95,13 @@ module _ (d : Description) (bytes : List ℕ) (start k : ℕ) where
           record { sound = h; below = by-le (d .count) k (λ a. absurd (no 8 (read-past d bytes start k h a))) (λ a. a) }
 
   -- the entry lies within the bytes, and the part is no longer than it
-  pub record Placed : Type 0 where
+  pub record Placed (S : States) : Type 0 where
     pub inside : Inside d start bytes k
     pub short : length (partOf (readEntry d bytes start k)) ≤ sizeOf (d .encoding)
+    pub own : levelLength (d .encoding) S ≡ length (partOf (readEntry d bytes start k))
 
   pub placed : (a : EntryAnswer) → entryOf a (partOf (readEntry d bytes start k)) ≡ readEntry d bytes start k
-      → (K : Kind) (S : States) → a ≡ answer.Entry K S → Placed
+      → (K : Kind) (S : States) → a ≡ answer.Entry K S → Placed S
   placed a e K S q =
       let p = partOf (readEntry d bytes start k) in
       let r : given (record { kind = K; set = S; part = p }) ≡ readEntry d bytes start k = ap (λ (b : EntryAnswer). entryOf b p) (sym q) ∙ e in
@@ -86,6 +112,7 @@ module _ (d : Description) (bytes : List ℕ) (start k : ℕ) where
         short =
             rw (read-on d bytes start k (t .sound) (t .below), ← part-on (d .encoding) v, ← whole d bytes start k (t .sound) (t .below) .long)
             (part-short (d .encoding) v);
+        own = given-long (d .encoding) v (whole d bytes start k (t .sound) (t .below) .long) _ (sym (read-on d bytes start k (t .sound) (t .below)) ∙ sym r);
       }
 
 -- the part is the end of its entry

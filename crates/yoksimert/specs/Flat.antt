@@ -5,7 +5,8 @@ use mathlib.Core.Bool.{Bool, true, false, cond, _&&_}
 use mathlib.Core.List.{List}
 use lib.Dec.{eqb, leb}
 use lib.ListN.{length}
-use Rattle.value.specs.Level.{markOf, setAt}
+use Rattle.value.specs.declared.States.{States}
+use Rattle.value.specs.Level.{markOf, setAt, lenOf}
 use Rattle.fst.specs.declared.Encoding.{Encoding}
 use Rattle.fst.specs.declared.Encoding.the-variants.{Event, Real, BitVector}
 use Rattle.fst.specs.declared.Description.{Description}
@@ -64,6 +65,12 @@ kindNumber kind.BitVector = 2
 
 abbrev pub noEntry : ℕ → FlatEntry
 noEntry n = record { number = n; kind = 0; set = 0; start = 0; length = 0 }
+
+-- how many bytes hold the levels of an entry with an own set
+abbrev pub levelLength : Encoding → States → ℕ
+levelLength Event S = 0
+levelLength Real S = 8
+levelLength (BitVector w M) S = lenOf w S
 
 -- the part that holds the levels ends where the entry does
 abbrev pub flatEntry : ℕ → Reply Entry → FlatEntry

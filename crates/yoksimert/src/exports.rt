@@ -22,6 +22,7 @@ use crate::flat::flat_equal;
 use crate::flat::flat_made;
 use crate::flat::flat_offset;
 use crate::flat::kind_number;
+use crate::flat::level_length;
 use crate::flat::no_entry;
 use crate::flat::refusal_number;
 use crate::flat::set_number;
@@ -31,7 +32,6 @@ use fst::record::fresh_real;
 use signal::EntryAnswer;
 use signal::compare::compare_records;
 use signal::offset::get_offset;
-use signal::read::entry_part;
 use signal::read::read_entry;
 use signal::read::read_text;
 use signal::read::size_of;
@@ -109,13 +109,12 @@ pub extern "C" fn yoksimert_read(
     let Decoded::Known(known) = decode(description) else {
         return no_entry(2);
     };
-    let answer = read_entry(known, bytes, byte_start, entry);
-    let length = entry_part(known, bytes, byte_start, entry).len();
-    match answer {
+    match read_entry(known, bytes, byte_start, entry) {
         EntryAnswer::Refused(refusal) => no_entry(refusal_number(refusal)),
         EntryAnswer::Entry { kind, states } => {
             let encoding = known.encoding;
             let size = size_of(encoding);
+            let length = level_length(encoding, states);
             let end = byte_start + (entry as usize * size + size);
             FlatEntry {
                 number: 0,

@@ -4,7 +4,7 @@ ghost use Rattle.value.specs.Level.{markOf, setAt};
 ghost use Rattle.fst.specs.Refusal.{number, numberOf, madeOf};
 ghost use Rattle.signal.specs.Compare.{equalOf};
 ghost use Rattle.signal.specs.Offset.{offsetOf};
-ghost use Rattle.yoksimert.specs.Flat.{decoded, encoded, kindNumber, noEntry, flatMade, flatEqual, nowhere, placed, flatOffset};
+ghost use Rattle.yoksimert.specs.Flat.{decoded, encoded, kindNumber, noEntry, levelLength, flatMade, flatEqual, nowhere, placed, flatOffset};
 use crate::Decoded;
 use crate::FlatAdded;
 use crate::FlatDescription;
@@ -179,6 +179,20 @@ pub fn no_entry(number: u32) -> FlatEntry
         set: 0,
         start: 0,
         length: 0,
+    }
+}
+
+// How many bytes hold the levels of an entry with an own set.
+pub fn level_length(encoding: Encoding, states: States) -> usize
+    ensures { λ r. ⌜ r ≡ levelLength encoding states ⌝ }
+{
+    match encoding {
+        Encoding::Event => 0,
+        Encoding::Real => 8,
+        Encoding::BitVector {
+            width,
+            max_states: _,
+        } => states.bytes_required(width),
     }
 }
 

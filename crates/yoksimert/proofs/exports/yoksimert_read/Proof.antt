@@ -13,16 +13,13 @@ use Rattle.yoksimert.proofs.exports.yoksimert_read.Statement.{statement
 use Rattle.yoksimert.proofs.exports.yoksimert_read.Tie as tie
 
 -- the entry lies within the bytes, and its part is no longer than it
-at : (c : tie.After-size-of) → c .before .before .before .before .before .before .before .before .before .before .before .args .byte-start + (c .before .before .before .before .before .before .before .before .before .before .before .args .entry * c .size-of .result + c .size-of .result) ≤ length (now (c .before .before .before .before .before .before .before .before .before .before .before .args .bytes))
+at : (c : tie.After-level-length) → (let a = c .before .before .before .before .before .before .before .before .before .before .before .args in
+    let z = c .before .size-of .result in
+    (a .byte-start + (a .entry * z + z) ≤ length (now (a .bytes))) × (c .level-length .result ≤ z))
 at c =
     let a = c .before .before .before .before .before .before .before .before .before .before .before .args in
-    rw (c .size-of .ensures) (placed _ (now (a .bytes)) (a .byte-start) (a .entry) _ (c .before .before .before .before .before .read-entry .ensures) _ _ (c .before .before .answer2 .given .1) .inside)
-
-short : (c : tie.After-size-of) → length (now (c .before .before .before .before .entry-part .result)) ≤ c .size-of .result
-short c =
-    let a = c .before .before .before .before .before .before .before .before .before .before .before .args in
-    rw (c .size-of .ensures, c .before .before .before .before .entry-part .ensures)
-    (placed _ (now (a .bytes)) (a .byte-start) (a .entry) _ (c .before .before .before .before .before .read-entry .ensures) _ _ (c .before .before .answer2 .given .1) .short)
+    let p = placed _ (now (a .bytes)) (a .byte-start) (a .entry) _ (c .before .before .before .before .before .read-entry .ensures) _ _ (c .before .before .before .kind .given .1) in
+    rw (c .before .size-of .ensures, c .level-length .ensures, p .own) (p .inside, p .short)
 
 decode-requires : tie.Need-decode-requires
 decode-requires c κs = search needs
@@ -44,11 +41,8 @@ returns c =
 read-entry-requires : tie.Need-read-entry-requires
 read-entry-requires c κs = search needs
 
-entry-part-requires : tie.Need-entry-part-requires
-entry-part-requires c κs = search needs
-
-enum-known-answer : tie.Need-enum-known-answer
-enum-known-answer c = search needs
+enum-known-refusal : tie.Need-enum-known-refusal
+enum-known-refusal c = search needs
 
 refusal-number-requires : tie.Need-refusal-number-requires
 refusal-number-requires c κs = search needs
@@ -56,20 +50,23 @@ refusal-number-requires c κs = search needs
 no-entry-requires-2 : tie.Need-no-entry-requires-2
 no-entry-requires-2 c κs = search needs
 
-enum-known-answer-2 : tie.Need-enum-known-answer-2
-enum-known-answer-2 c = search needs
+enum-known-kind : tie.Need-enum-known-kind
+enum-known-kind c = search needs
 
 size-of-requires : tie.Need-size-of-requires
 size-of-requires c κs = search needs
 
+level-length-requires : tie.Need-level-length-requires
+level-length-requires c κs = search needs
+
 mul-end : tie.Need-mul-end
-mul-end c = omega (arith, at c)
+mul-end c = omega (arith, at c .0)
 
 add-end : tie.Need-add-end
-add-end c = omega (arith, at c)
+add-end c = omega (arith, at c .0)
 
 add-end-2 : tie.Need-add-end-2
-add-end-2 c = omega (arith, at c)
+add-end-2 c = omega (arith, at c .0)
 
 kind-number-requires : tie.Need-kind-number-requires
 kind-number-requires c κs = search needs
@@ -77,19 +74,22 @@ kind-number-requires c κs = search needs
 set-number-requires : tie.Need-set-number-requires
 set-number-requires c κs = search needs
 
-sub-t18 : tie.Need-sub-t18
-sub-t18 c = omega (arith, at (c .before .before), short (c .before .before))
+sub-t17 : tie.Need-sub-t17
+sub-t17 c = omega (arith, at (c .before .before) .0, at (c .before .before) .1)
 
 returns-2 : tie.Need-returns-2
 returns-2 c =
-    let a = c .before .before .before .before .before .before .before .before .before .before .before .before .args in
+    let a = c .before .before .before .before .before .before .before .before .before .before .before .args in
     c .no-entry2 .ensures
-    ∙ read-refused (a .description) (now (a .bytes)) (a .byte-start) (a .entry) _ (sym (c .before .before .before .before .before .before .before .before .before .before .decode .ensures) ∙ c .before .before .before .before .before .before .before .before .known .given .1) _ (c .before .before .before .before .before .before .read-entry .ensures) _ (c .before .before .before .answer .given .1) _ (c .before .refusal-number .ensures)
+    ∙ read-refused (a .description) (now (a .bytes)) (a .byte-start) (a .entry) _ (sym (c .before .before .before .before .before .before .before .before .before .decode .ensures) ∙ c .before .before .before .before .before .before .before .known .given .1) _ (c .before .before .before .before .before .read-entry .ensures) _ (c .before .before .before .refusal .given .1) _ (c .before .refusal-number .ensures)
 
 returns-3 : tie.Need-returns-3
 returns-3 c =
     let a = c .before .before .before .before .before .before .before .before .before .before .before .before .before .args in
-    read-known (a .description) (now (a .bytes)) (a .byte-start) (a .entry) _ (sym (c .before .before .before .before .before .before .before .before .before .before .before .decode .ensures) ∙ c .before .before .before .before .before .before .before .before .before .known .given .1) _ (c .before .before .before .before .before .before .before .read-entry .ensures) _ _ (c .before .before .before .before .answer2 .given .1) _ _ _ (c .before .kind-number .ensures) (c .set-number .ensures) (c .before .before .size-of .ensures) _ (c .before .before .before .before .before .before .entry-part .ensures)
+    let r = c .before .before .before .before .before .before .before .read-entry .ensures in
+    let told = c .before .before .before .before .before .kind .given .1 in
+    read-known (a .description) (now (a .bytes)) (a .byte-start) (a .entry) _ (sym (c .before .before .before .before .before .before .before .before .before .before .before .decode .ensures) ∙ c .before .before .before .before .before .before .before .before .before .known .given .1) _ r _ _ told _ _ _ (c .before .kind-number .ensures) (c .set-number .ensures) (c .before .before .before .size-of .ensures) _
+    (c .before .before .level-length .ensures ∙ placed _ (now (a .bytes)) (a .byte-start) (a .entry) _ r _ _ told .own)
 
 pub yoksimert-read-spec : {M : Type 1} → statement M
 yoksimert-read-spec =
@@ -101,17 +101,17 @@ yoksimert-read-spec =
     no-entry-requires
     returns
     read-entry-requires
-    entry-part-requires
-    enum-known-answer
+    enum-known-refusal
     refusal-number-requires
     no-entry-requires-2
-    enum-known-answer-2
+    enum-known-kind
     size-of-requires
+    level-length-requires
     mul-end
     add-end
     add-end-2
     kind-number-requires
     set-number-requires
-    sub-t18
+    sub-t17
     returns-2
     returns-3)
