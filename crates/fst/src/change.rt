@@ -223,15 +223,8 @@ impl Description {
         }
         self.count += 1;
         let entries = count as usize;
-        store_entry(
-            max_states,
-            states,
-            value,
-            size,
-            number,
-            bytes,
-            byte_start + entries * size,
-        );
+        let at = byte_start + entries * size;
+        store_entry(max_states, states, value, size, number, bytes, at);
         indices[index_start + entries] = index;
         accepted(self)
     }

@@ -121,19 +121,19 @@ cast-entries : tie.Need-cast-entries
 cast-entries c = search needs
 
 -- the new entry's place
-place : (c : tie.After-store-entry-arg) →
-    let x = c .before .before .before .before .before .before .before .before .before .before .before .before .before .before in
-    x .args .byte-start + x .args .self .count * c .before .before .before .before .before .before .before .before .before .before .entry-size .result + c .before .before .before .before .before .before .before .before .before .before .entry-size .result ≤ length (now (x .args .bytes))
+place : (c : tie.After-struct-known) →
+    let x = c .before .before .before .before .before .before .before .before .before .before .before .before .before in
+    x .args .byte-start + x .args .self .count * c .before .before .before .before .before .before .before .before .before .entry-size .result + c .before .before .before .before .before .before .before .before .before .entry-size .result ≤ length (now (x .args .bytes))
 place c =
-    let z = c .before .before .before in
+    let z = c .before .before in
     let a = (start z) .args in
-    subst (λ (k : ℕ). a .byte-start + a .self .count * k + k ≤ length (now (a .bytes))) (sym (sized z)) ((places z (c .before .before .if2 .left)) .0)
+    subst (λ (k : ℕ). a .byte-start + a .self .count * k + k ≤ length (now (a .bytes))) (sym (sized z)) ((places z (c .before .if2 .left)) .0)
 
-mul-store-entry : tie.Need-mul-store-entry
-mul-store-entry c = record { fits = (product _ _ _ _ (place c) (few-bytes (c .before .before .before .before .before .before .before .before .before .before .before .before .before .before))) .0 }
+mul-at : tie.Need-mul-at
+mul-at c = record { fits = (product _ _ _ _ (place c) (few-bytes (c .before .before .before .before .before .before .before .before .before .before .before .before .before))) .0 }
 
-add-store-entry : tie.Need-add-store-entry
-add-store-entry c = record { fits = (product _ _ _ _ (place c) (few-bytes (c .before .before .before .before .before .before .before .before .before .before .before .before .before .before))) .1 }
+add-at : tie.Need-add-at
+add-at c = record { fits = (product _ _ _ _ (place c) (few-bytes (c .before .before .before .before .before .before .before .before .before .before .before .before .before))) .1 }
 
 store-entry-requires : tie.Need-store-entry-requires
 store-entry-requires c κs =
@@ -202,8 +202,8 @@ append-levels-spec =
     returns-2
     add-self
     cast-entries
-    mul-store-entry
-    add-store-entry
+    mul-at
+    add-at
     store-entry-requires
     add-indices
     mul-indices
