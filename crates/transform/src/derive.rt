@@ -104,7 +104,7 @@ fn take_step(
     text: &mut [u8],
     entry: &mut [u8],
 ) -> Position
-    requires { ⌜ Tabled (now numbers) (now starts) × Takeable (inputsIn count (now numbers) (now starts)) (now bytes) (now indices) position (now pieces) «max_states» width index × (width ≤ length (now text)) × (length (now entry) ≡ entrySize width «max_states») ⌝ }
+    requires { ⌜ Tabled count (now numbers) (now starts) × Takeable (inputsIn count (now numbers) (now starts)) (now bytes) (now indices) position (now pieces) «max_states» width index × (width ≤ length (now text)) × (length (now entry) ≡ entrySize width «max_states») ⌝ }
     ensures { λ r. ⌜ Taken (inputsIn count (now (numbers .entry)) (now (starts .entry))) (now (bytes .entry)) (now (indices .entry)) position (now (pieces .entry)) «max_states» width index r (now (entry .exit)) ⌝ }
 {
     let next = advance(count, numbers, starts, indices, position, index);
