@@ -10,10 +10,10 @@ ghost use Rattle.fst.specs.Record.{largestIn};
 ghost use Rattle.signal.specs.Decode.{markIn};
 ghost use Rattle.signal.specs.Parts.{codesAt, Levels};
 ghost use Rattle.signal.specs.Read.{widthOf};
-ghost use Rattle.transform.specs.Derive.{pickedOf};
+ghost use Rattle.transform.specs.Derive.{inputsOf, pickedOf};
 ghost use Rattle.transform.specs.Piece.{extractOf};
 ghost use Rattle.transform.specs.Steps.{smaller};
-ghost use Rattle.transform.specs.Stepping.{Vectors, Tables, Tabled, TableOf, SizedAt, inputIn, inputsIn, entryIn, Reaches, Indexable, cursor, cursorsOf, nextIn, soonest, begunAt, advanced};
+ghost use Rattle.transform.specs.Stepping.{Vectors, Tables, Tabled, TableOf, SizedAt, inputIn, inputsIn, entryIn, Reaches, Indexable, cursor, cursors, cursorsOf, nextIn, soonest, begunAt, advanced};
 ghost use Rattle.transform.specs.Stepping.{levelsNow, largestNow, pickedNow, AllShowing, Picks, Pickable, Stepped};
 use crate::Extract;
 use crate::Input;
@@ -183,20 +183,18 @@ pub fn advance(
     numbers: &[u32],
     starts: &[usize],
     indices: &[u32],
-    position: Position,
+    begun: &mut [u32; 8],
     index: u32,
-) -> Position
-    requires { ⌜ Tabled count (now numbers) (now starts) × Indexable (inputsIn count (now numbers) (now starts)) (now indices) ⌝ }
-    ensures { λ r. ⌜ (cursorsOf (inputsIn count (now (numbers .entry)) (now (starts .entry))) r ≡ map (advanced (now (indices .entry)) index) (cursorsOf (inputsIn count (now (numbers .entry)) (now (starts .entry))) position)) × (length (r .begun) ≡ 8) ⌝ }
+)
+    requires { ⌜ Tabled count (now numbers) (now starts) × Indexable (inputsIn count (now numbers) (now starts)) (now indices) × (length (now begun) ≡ 8) ⌝ }
+    ensures { λ _. ⌜ (cursors (inputsOf (inputsIn count (now (numbers .entry)) (now (starts .entry)))) (now (begun .exit)) ≡ map (advanced (now (indices .entry)) index) (cursors (inputsOf (inputsIn count (now (numbers .entry)) (now (starts .entry)))) (now (begun .entry)))) × (length (now (begun .exit)) ≡ 8) ⌝ }
 {
-    let mut begun = position.begun;
     let mut i = count as usize;
     while 0 < i {
         i -= 1;
         let input = input_at(numbers, starts, i);
         begun[i] = begun_at(input, indices, begun[i], index);
     }
-    Position { begun }
 }
 
 // The entry that an input shows.
