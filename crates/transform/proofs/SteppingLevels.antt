@@ -8,17 +8,12 @@ use native.Mathlib.Omega.{arith}
 use lib.Dec.{ltb}
 use lib.ListN.{length, take, drop, getD, length-map}
 use Rattle.value.specs.declared.States.{States}
-use Rattle.value.specs.declared.States.the-variants.{Two}
 use Rattle.value.specs.Level.{markOf, bitsOf, lenOf, setAt, join}
 use Rattle.value.specs.Digits.{Below}
 use Rattle.value.proofs.Digits.{digits-length}
 use Rattle.signal.proofs.Decoding.{codes-below}
 use Rattle.fst.specs.declared.Encoding.{Encoding}
 use Rattle.fst.specs.declared.Encoding.the-variants.{Event, Real, BitVector}
-use Rattle.fst.proofs.Encoding.{the-type}
-use denote.Enum.Declared.{tagOf}
-use types.Run.{OneOf}
-use mathlib.Core.Logic.{⊎-elim}
 use Rattle.signal.specs.declared.OwnStates.the-variants as own
 use Rattle.signal.specs.Decode.{markIn, setIn, levelPart, levelsIn, hasBadMark}
 use Rattle.signal.specs.Read.{widthOf, hasNoText}
@@ -30,19 +25,6 @@ module _ (w : ℕ) (M : States) (v : List ℕ) where
   pub owned-good : Whole (BitVector w M) v → hasBadMark (BitVector w M) v ≡ false → Owned w M v (setAt (markIn M v))
   unfolding ownStates hasBadMark
   owned-good h g = owned w M v h (setAt (markIn M v)) (rw g)
-
--- neither an event nor a real has a mark
-pub set-none : (e : Encoding) (v : List ℕ) → OneOf (0 ∷ 1 ∷ []) (tagOf the-type e) → Two ≡ setIn e v
-unfolding setIn
-set-none Event v o = refl
-set-none Real v o = refl
-set-none (BitVector w M) v o = absurd (⊎-elim (λ z. omega arith) (λ z. omega arith) o)
-
-pub part-none : (e : Encoding) (v : List ℕ) → OneOf (0 ∷ 1 ∷ []) (tagOf the-type e) → v ≡ levelPart e v
-unfolding levelPart
-part-none Event v o = refl
-part-none Real v o = refl
-part-none (BitVector w M) v o = absurd (⊎-elim (λ z. omega arith) (λ z. omega arith) o)
 
 -- an entry u of a bit vector, and what the code finds in it
 module _ (e : Encoding) (v : List ℕ) (h : Whole e v) (w : ℕ) (M : States) (q : e ≡ BitVector w M) (u : List ℕ) (r : u ≡ v) where

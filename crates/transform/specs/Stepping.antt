@@ -14,7 +14,7 @@ use Rattle.value.specs.Level.{markOf, setAt, join}
 use Rattle.layout.specs.Entry.{entrySize, entryOf}
 use Rattle.fst.specs.declared.Encoding.the-variants.{BitVector}
 use Rattle.fst.specs.Change.{repeats}
-use Rattle.fst.specs.Record.{largestIn}
+use Rattle.fst.specs.Record.{largestIn, sizeOf}
 use Rattle.runs.specs.Runs.{Step, indexOf, entriesOf}
 use Rattle.signal.specs.declared.NextIndex.{NextIndex}
 use Rattle.signal.specs.declared.NextIndex.the-variants.{Absent, At}
@@ -56,7 +56,7 @@ cursorsOf inputs p = cursors (inputsOf inputs) (p .begun)
 -- ---- the inputs as numbers
 
 -- input i by two tables, in which eight numbers for one field stand before eight for the next: entries, widths and marks of the largest
--- sets; byte starts and index starts
+-- sets; byte starts, index starts and sizes of an entry
 abbrev pub inputIn : List ℕ → List ℕ → ℕ → Input
 inputIn numbers starts i =
     record {
@@ -68,12 +68,23 @@ inputIn numbers starts i =
 abbrev pub inputsIn : ℕ → List ℕ → List ℕ → Inputs
 inputsIn count numbers starts = record { count = count; slots = map (inputIn numbers starts) (0 ∷ 1 ∷ 2 ∷ 3 ∷ 4 ∷ 5 ∷ 6 ∷ 7 ∷ []) }
 
-pub record Tabled (numbers starts : List ℕ) : Type 0 where
+-- the entry that an input shows of which so many have begun, by the size of its entries
+abbrev pub entryIn : List ℕ → ℕ → List ℕ → ℕ → List ℕ
+entryIn starts i bytes begun = part (getD starts i 0 + (begun - 1) * getD starts (16 + i) 0) (getD starts (16 + i) 0) bytes
+
+pub record Tables (numbers starts : List ℕ) : Type 0 where
   pub numbered : length numbers ≡ 24
-  pub started : length starts ≡ 16
+  pub started : length starts ≡ 24
+
+abbrev pub SizedAt : List ℕ → List ℕ → ℕ → Type 0
+SizedAt numbers starts i = getD starts (16 + i) 0 ≡ sizeOf ((inputIn numbers starts i) .description .encoding)
+
+pub record Tabled (count : ℕ) (numbers starts : List ℕ) : Type 0 where
+  pub held : Tables numbers starts
+  pub sized : (i : ℕ) → i < count → SizedAt numbers starts i
 
 pub record TableOf (inputs : Inputs) (numbers starts : List ℕ) : Type 0 where
-  pub long : Tabled numbers starts
+  pub long : Tabled (inputs .count) numbers starts
   pub same : inputsOf (inputsIn (inputs .count) numbers starts) ≡ inputsOf inputs
 
 pub record Vectors (inputs : Inputs) : Type 0 where

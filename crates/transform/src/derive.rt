@@ -97,17 +97,17 @@ fn take_step(
     starts: &[usize],
     bytes: &[u8],
     indices: &[u32],
-    position: Position,
+    mut position: Position,
     max_states: States,
     index: u32,
     text: &mut [u8],
     entry: &mut [u8],
 ) -> Position
-    requires { ⌜ Tabled (now numbers) (now starts) × Takeable (inputsIn count (now numbers) (now starts)) (now bytes) (now indices) position (now pieces) «max_states» width index × (width ≤ length (now text)) × (length (now entry) ≡ entrySize width «max_states») ⌝ }
+    requires { ⌜ Tabled count (now numbers) (now starts) × Takeable (inputsIn count (now numbers) (now starts)) (now bytes) (now indices) position (now pieces) «max_states» width index × (width ≤ length (now text)) × (length (now entry) ≡ entrySize width «max_states») ⌝ }
     ensures { λ r. ⌜ Taken (inputsIn count (now (numbers .entry)) (now (starts .entry))) (now (bytes .entry)) (now (indices .entry)) position (now (pieces .entry)) «max_states» width index r (now (entry .exit)) ⌝ }
 {
-    let next = advance(count, numbers, starts, indices, position, index);
-    let states = step_states(count, numbers, starts, bytes, next);
+    advance(count, numbers, starts, indices, &mut position.begun, index);
+    let states = step_states(count, numbers, starts, bytes, position);
     write_step(
         width,
         pieces,
@@ -115,13 +115,13 @@ fn take_step(
         numbers,
         starts,
         bytes,
-        next,
+        position,
         max_states,
         states,
         text,
         entry,
     );
-    next
+    position
 }
 
 // How many steps are kept with one more, which is dropped where its entry repeats the last.

@@ -1,20 +1,20 @@
 // Stepping over the inputs of a derivation, apart from what a step yields.
 ghost use mathlib.Core.Path.{_≡_};
 ghost use mathlib.Core.List.{map};
-ghost use Prim.Native.Nat.{_+_, _≤_, _<_};
-ghost use lib.ListN.{length};
+ghost use Prim.Native.Nat.{_+_, _-_, _*_, _≤_, _<_};
+ghost use lib.ListN.{length, getD};
 ghost use Rattle.value.specs.Slice.{part, overlay};
 ghost use Rattle.value.specs.Level.{markOf, setAt, textOf};
 ghost use Rattle.layout.specs.Entry.{entrySize, entryOf};
 ghost use Rattle.fst.specs.Record.{largestIn};
-ghost use Rattle.signal.specs.Decode.{levelPart};
+ghost use Rattle.signal.specs.Decode.{markIn};
 ghost use Rattle.signal.specs.Parts.{codesAt, Levels};
 ghost use Rattle.signal.specs.Read.{widthOf};
-ghost use Rattle.transform.specs.Derive.{pickedOf};
+ghost use Rattle.transform.specs.Derive.{inputsOf, pickedOf};
 ghost use Rattle.transform.specs.Piece.{extractOf};
 ghost use Rattle.transform.specs.Steps.{smaller};
-ghost use Rattle.transform.specs.Stepping.{Vectors, Tabled, TableOf, inputIn, inputsIn, Reaches, Indexable, cursor, cursorsOf, nextIn, soonest, begunAt, advanced};
-ghost use Rattle.transform.specs.Stepping.{shownBytes, setNow, levelsNow, largestNow, pickedNow, Showing, AllShowing, Picks, Pickable, Stepped};
+ghost use Rattle.transform.specs.Stepping.{Vectors, Tables, Tabled, TableOf, SizedAt, inputIn, inputsIn, entryIn, Reaches, Indexable, cursor, cursors, cursorsOf, nextIn, soonest, begunAt, advanced};
+ghost use Rattle.transform.specs.Stepping.{levelsNow, largestNow, pickedNow, AllShowing, Picks, Pickable, Stepped};
 use crate::Extract;
 use crate::Input;
 use crate::Inputs;
@@ -24,9 +24,8 @@ use layout::entry::write_entry;
 use signal::NextIndex;
 use signal::decode::code_at;
 use signal::decode::level_part;
-use signal::decode::mark_in;
 use signal::decode::states_of;
-use signal::read::entry_at;
+use signal::read::size_of;
 use value::States;
 use value::num_to_bit_char;
 
@@ -36,10 +35,10 @@ pub struct Position {
 }
 
 // The inputs as numbers, eight for one field before eight for the next: how many entries, the width and the mark of the largest set of
-// each; the byte start and the index start of each. They are lent where a copy of all inputs would cost more than a step.
+// each; the byte start, the index start and the size of an entry of each. They are lent where a copy of all inputs would cost more than a step.
 pub struct Table {
     pub numbers: [u32; 24],
-    pub starts: [usize; 16],
+    pub starts: [usize; 24],
 }
 
 // The set of an encoding that is the largest in its record.
@@ -76,7 +75,7 @@ pub fn table_of(inputs: Inputs) -> Table
     ensures { λ r. ⌜ TableOf inputs (r .numbers) (r .starts) ⌝ }
 {
     let mut numbers = [0; 24];
-    let mut starts = [0; 16];
+    let mut starts = [0; 24];
     let mut i = 0;
     while i < inputs.count as usize {
         let input = inputs.slots[i];
@@ -87,6 +86,7 @@ pub fn table_of(inputs: Inputs) -> Table
         numbers[16 + i] = largest_in(encoding).mark() as u32;
         starts[i] = input.byte_start;
         starts[8 + i] = input.index_start;
+        starts[16 + i] = size_of(encoding);
         i += 1;
     }
     Table { numbers, starts }
@@ -105,7 +105,7 @@ fn states_at(mark: u32) -> States
 
 // An input of a table.
 fn input_at(numbers: &[u32], starts: &[usize], i: usize) -> Input
-    requires { ⌜ (i < 8) × Tabled (now numbers) (now starts) ⌝ }
+    requires { ⌜ (i < 8) × Tables (now numbers) (now starts) ⌝ }
     ensures { λ r. ⌜ r ≡ inputIn (now (numbers .entry)) (now (starts .entry)) i ⌝ }
 {
     let width = numbers[8 + i];
@@ -153,7 +153,7 @@ pub fn next_index(
     indices: &[u32],
     position: Position,
 ) -> NextIndex
-    requires { ⌜ Tabled (now numbers) (now starts) × Indexable (inputsIn count (now numbers) (now starts)) (now indices) ⌝ }
+    requires { ⌜ Tabled count (now numbers) (now starts) × Indexable (inputsIn count (now numbers) (now starts)) (now indices) ⌝ }
     ensures { λ r. ⌜ r ≡ soonest (now (indices .entry)) (cursorsOf (inputsIn count (now (numbers .entry)) (now (starts .entry))) position) ⌝ }
 {
     let mut next = NextIndex::Absent;
@@ -183,52 +183,39 @@ pub fn advance(
     numbers: &[u32],
     starts: &[usize],
     indices: &[u32],
-    position: Position,
+    begun: &mut [u32; 8],
     index: u32,
-) -> Position
-    requires { ⌜ Tabled (now numbers) (now starts) × Indexable (inputsIn count (now numbers) (now starts)) (now indices) ⌝ }
-    ensures { λ r. ⌜ (cursorsOf (inputsIn count (now (numbers .entry)) (now (starts .entry))) r ≡ map (advanced (now (indices .entry)) index) (cursorsOf (inputsIn count (now (numbers .entry)) (now (starts .entry))) position)) × (length (r .begun) ≡ 8) ⌝ }
+)
+    requires { ⌜ Tabled count (now numbers) (now starts) × Indexable (inputsIn count (now numbers) (now starts)) (now indices) × (length (now begun) ≡ 8) ⌝ }
+    ensures { λ _. ⌜ (cursors (inputsOf (inputsIn count (now (numbers .entry)) (now (starts .entry)))) (now (begun .exit)) ≡ map (advanced (now (indices .entry)) index) (cursors (inputsOf (inputsIn count (now (numbers .entry)) (now (starts .entry)))) (now (begun .entry)))) × (length (now (begun .exit)) ≡ 8) ⌝ }
 {
-    let mut begun = position.begun;
     let mut i = count as usize;
     while 0 < i {
         i -= 1;
         let input = input_at(numbers, starts, i);
         begun[i] = begun_at(input, indices, begun[i], index);
     }
-    Position { begun }
 }
 
-// The own set of the entry that an input shows.
-fn shown_states(input: Input, bytes: &[u8], begun: u32) -> States
-    requires { ⌜ Showing (now bytes) (cursor input begun) ⌝ }
-    ensures { λ r. ⌜ r ≡ setNow (now (bytes .entry)) (cursor input begun) ⌝ }
+// The entry that an input shows.
+fn shown_entry<'a>(starts: &[usize], i: usize, bytes: &'a [u8], begun: u32) -> &'a [u8]
+    requires { ⌜ (16 + i < length (now starts)) × (1 ≤ begun) × (getD (now starts) i 0 + ((begun - 1) * getD (now starts) (16 + i) 0 + getD (now starts) (16 + i) 0) ≤ length (now bytes)) ⌝ }
+    ensures { λ r. ⌜ now r ≡ entryIn (now (starts .entry)) i (now (bytes .entry)) begun ⌝ }
 {
-    let description = input.description;
-    let entry = entry_at(description, bytes, input.byte_start, begun - 1);
-    let encoding = description.encoding;
-    let Encoding::BitVector {
-        width: _,
-        max_states,
-    } = encoding
-    else {
+    let size = starts[16 + i];
+    let at = starts[i] + (begun - 1) as usize * size;
+    &bytes[at..at + size]
+}
+
+// The own set of an entry, by the mark of its record's largest set.
+fn states_in(mark: u32, entry: &[u8]) -> States
+    requires { ⌜ 0 < length (now entry) ⌝ }
+    ensures { λ r. ⌜ r ≡ setAt (markIn (setAt mark) (now (entry .entry))) ⌝ }
+{
+    if mark == 0 {
         return States::Two;
-    };
-    states_of(mark_in(max_states, entry))
-}
-
-// The bytes that hold its levels.
-fn shown_levels<'a>(input: Input, bytes: &'a [u8], begun: u32) -> &'a [u8]
-    requires { ⌜ Showing (now bytes) (cursor input begun) ⌝ }
-    ensures { λ r. ⌜ now r ≡ levelPart (input .description .encoding) (shownBytes (now (bytes .entry)) (cursor input begun)) ⌝ }
-{
-    let description = input.description;
-    let entry = entry_at(description, bytes, input.byte_start, begun - 1);
-    let encoding = description.encoding;
-    let Encoding::BitVector { width, max_states } = encoding else {
-        return entry;
-    };
-    level_part(width, states_of(mark_in(max_states, entry)), entry)
+    }
+    states_of(entry[0] >> 6)
 }
 
 // The largest of the sets that the inputs show.
@@ -239,15 +226,15 @@ pub fn step_states(
     bytes: &[u8],
     position: Position,
 ) -> States
-    requires { ⌜ Tabled (now numbers) (now starts) × AllShowing (inputsIn count (now numbers) (now starts)) (now bytes) position ⌝ }
+    requires { ⌜ Tabled count (now numbers) (now starts) × AllShowing (inputsIn count (now numbers) (now starts)) (now bytes) position ⌝ }
     ensures { λ r. ⌜ r ≡ largestNow (now (bytes .entry)) (cursorsOf (inputsIn count (now (numbers .entry)) (now (starts .entry))) position) ⌝ }
 {
     let mut states = States::Two;
     let mut i = count as usize;
     while 0 < i {
         i -= 1;
-        let input = input_at(numbers, starts, i);
-        states = States::join(shown_states(input, bytes, position.begun[i]), states);
+        let entry = shown_entry(starts, i, bytes, position.begun[i]);
+        states = States::join(states_in(numbers[16 + i], entry), states);
     }
     states
 }
@@ -293,15 +280,23 @@ fn write_levels_of(
 }
 
 // Stores the characters of one piece from a place on.
-fn write_piece(extract: Extract, input: Input, bytes: &[u8], begun: u32, text: &mut [u8], at: usize)
-    requires { ⌜ Picks (now bytes) (cursor input begun) extract (length (now text)) at ⌝ }
-    ensures { λ _. ⌜ now (text .exit) ≡ overlay (now (text .entry)) at (textOf (pickedOf extract (levelsNow (now (bytes .entry)) (cursor input begun)))) ⌝ }
+fn write_piece(
+    extract: Extract,
+    numbers: &[u32],
+    starts: &[usize],
+    bytes: &[u8],
+    begun: u32,
+    text: &mut [u8],
+    at: usize,
+)
+    requires { ⌜ (extract .signal < 8) × Tables (now numbers) (now starts) × SizedAt (now numbers) (now starts) (extract .signal) × Picks (now bytes) (cursor (inputIn (now numbers) (now starts) (extract .signal)) begun) extract (length (now text)) at ⌝ }
+    ensures { λ _. ⌜ now (text .exit) ≡ overlay (now (text .entry)) at (textOf (pickedOf extract (levelsNow (now (bytes .entry)) (cursor (inputIn (now (numbers .entry)) (now (starts .entry)) (extract .signal)) begun)))) ⌝ }
 {
-    let description = input.description;
-    let encoding = description.encoding;
-    let width = width_of(encoding);
-    let own = shown_states(input, bytes, begun);
-    let levels = shown_levels(input, bytes, begun);
+    let i = extract.signal as usize;
+    let width = numbers[8 + i];
+    let entry = shown_entry(starts, i, bytes, begun);
+    let own = states_in(numbers[16 + i], entry);
+    let levels = level_part(width, own, entry);
     let count = extract.width as u32;
     let first = width - (extract.lsb + count);
     write_levels_of(width, own, levels, first, count, text, at);
@@ -317,7 +312,7 @@ fn write_pieces(
     position: Position,
     text: &mut [u8],
 )
-    requires { ⌜ Tabled (now numbers) (now starts) × Pickable (inputsIn count (now numbers) (now starts)) (now bytes) position (now pieces) (length (now text)) ⌝ }
+    requires { ⌜ Tabled count (now numbers) (now starts) × Pickable (inputsIn count (now numbers) (now starts)) (now bytes) position (now pieces) (length (now text)) ⌝ }
     ensures { λ _. ⌜ now (text .exit) ≡ overlay (now (text .entry)) 0 (textOf (pickedNow (now (bytes .entry)) (cursorsOf (inputsIn count (now (numbers .entry)) (now (starts .entry))) position) (map extractOf (now (pieces .entry))))) ⌝ }
 {
     let mut at = 0;
@@ -325,8 +320,15 @@ fn write_pieces(
     while i < pieces.len() {
         let extract = Extract::from_u64(pieces[i]);
         let signal = extract.signal as usize;
-        let input = input_at(numbers, starts, signal);
-        write_piece(extract, input, bytes, position.begun[signal], text, at);
+        write_piece(
+            extract,
+            numbers,
+            starts,
+            bytes,
+            position.begun[signal],
+            text,
+            at,
+        );
         at += extract.width as usize;
         i += 1;
     }
@@ -346,7 +348,7 @@ pub fn write_step(
     text: &mut [u8],
     out: &mut [u8],
 )
-    requires { ⌜ Tabled (now numbers) (now starts) × Stepped (inputsIn count (now numbers) (now starts)) (now bytes) position (now pieces) states width × (markOf states ≤ markOf «max_states») × (width ≤ length (now text)) × (length (now out) ≡ entrySize width «max_states») ⌝ }
+    requires { ⌜ Tabled count (now numbers) (now starts) × Stepped (inputsIn count (now numbers) (now starts)) (now bytes) position (now pieces) states width × (markOf states ≤ markOf «max_states») × (width ≤ length (now text)) × (length (now out) ≡ entrySize width «max_states») ⌝ }
     ensures { λ _. ⌜ now (out .exit) ≡ entryOf width «max_states» states (pickedNow (now (bytes .entry)) (cursorsOf (inputsIn count (now (numbers .entry)) (now (starts .entry))) position) (map extractOf (now (pieces .entry)))) ⌝ }
 {
     write_pieces(pieces, count, numbers, starts, bytes, position, text);

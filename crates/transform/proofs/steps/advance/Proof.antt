@@ -10,16 +10,16 @@ use Rattle.transform.specs.declared.Input.{Input}
 use Rattle.transform.specs.declared.Inputs.{Inputs}
 use Rattle.transform.specs.Stepping.{inputsIn, cursor, nextIn, begunAt, Reaches}
 use Rattle.transform.proofs.InputTests.{noInput}
-use Rattle.transform.proofs.Stepping.{begun-sized, input-at, Moved, moved-none, moved-more}
+use Rattle.transform.proofs.Stepping.{input-at, Moved, moved-none, moved-more}
 use Rattle.transform.proofs.SteppingTable.{slot-is}
 use Rattle.transform.proofs.steps.advance.Statement.{statement}
 use Rattle.transform.proofs.steps.advance.Tie as tie
 
 abbrev Inv-loop : tie.InvT-loop
-Inv-loop count numbers starts indices index begun₀ i₀ begun i = (i ≤ count) × Moved (inputsIn count numbers starts) indices index begun₀ begun i
+Inv-loop count numbers starts indices begun₀ index i₀ begun i = (i ≤ count) × Moved (inputsIn count numbers starts) indices index begun₀ begun i
 
 abbrev μ-loop : tie.MeasureT-loop
-μ-loop count numbers starts indices index begun₀ i₀ begun i = i
+μ-loop count numbers starts indices begun₀ index i₀ begun i = i
 
 -- the input at hand
 module _ (a : tie.After-input-at Inv-loop μ-loop) where
@@ -27,7 +27,7 @@ module _ (a : tie.After-input-at Inv-loop μ-loop) where
   turn = a .before .before
 
   abbrev start : tie.Start Inv-loop μ-loop
-  start = turn .before .before .before .before .before
+  start = turn .before .before .before .before
 
   abbrev its : Inputs
   its = inputsIn (start .args .count) (now (start .args .numbers)) (now (start .args .starts))
@@ -43,44 +43,45 @@ module _ (a : tie.After-input-at Inv-loop μ-loop) where
 
 loop-holds : tie.Need-loop-holds Inv-loop μ-loop
 loop-holds c =
-    let s = c .before .before .before .before in
-    (omega arith, moved-none (inputsIn (s .args .count) (now (s .args .numbers)) (now (s .args .starts))) (s .pre .1 .few) refl (now (s .args .indices)) (s .args .index) (s .args .position .begun) (begun-sized (s .args .position) _ (s .good .1 .1 .1 .1 .0)))
+    let s = c .before .before .before in
+    (omega arith, moved-none (inputsIn (s .args .count) (now (s .args .numbers)) (now (s .args .starts))) (s .pre .1 .few) refl (now (s .args .indices)) (s .args .index) (now (s .args .begun)) (s .pre .2))
 
 sub-i : tie.Need-sub-i Inv-loop μ-loop
 sub-i c = omega arith
 
 input-at-requires : tie.Need-input-at-requires Inv-loop μ-loop
-input-at-requires c κs = let s = c .before .before .before .before .before .before in (omega (arith, s .pre .1 .few), s .pre .0)
+input-at-requires c κs = let s = c .before .before .before .before .before in (omega (arith, s .pre .1 .few), s .pre .0 .held)
 
 mul-begun-at : tie.Need-mul-begun-at Inv-loop μ-loop
 mul-begun-at c = omega (arith, in-eight c)
 
-array-read-begun-at : tie.Need-array-read-begun-at Inv-loop μ-loop
-array-read-begun-at c = in-eight c
+element-copy-out-begun-at : tie.Need-element-copy-out-begun-at Inv-loop μ-loop
+element-copy-out-begun-at c = in-eight c
 
 begun-at-requires : tie.Need-begun-at-requires Inv-loop μ-loop
 begun-at-requires c κs =
-    let s = start c in
-    rw (told c) (input-at (its c) (s .pre .1 .few) refl (turn c .loop .i - 1) (low c) (Reaches (now (s .args .indices))) (s .pre .1 .reach))
+    let a = c .before in
+    let s = start a in
+    rw (told a) (input-at (its a) (s .pre .1 .few) refl (turn a .loop .i - 1) (low a) (Reaches (now (s .args .indices))) (s .pre .1 .reach))
 
 mul-begun : tie.Need-mul-begun Inv-loop μ-loop
-mul-begun c = omega (arith, in-eight (c .before))
+mul-begun c = omega (arith, in-eight (c .before .before))
 
-array-write-begun : tie.Need-array-write-begun Inv-loop μ-loop
-array-write-begun c = in-eight (c .before)
+element-write-begun : tie.Need-element-write-begun Inv-loop μ-loop
+element-write-begun c = in-eight (c .before .before)
 
 loop-less : tie.Need-loop-less Inv-loop μ-loop
 loop-less c = omega arith
 
 loop-again : tie.Need-loop-again Inv-loop μ-loop
 loop-again c =
-    let a = c .before in
+    let a = c .before .before in
     let l = turn a in
     let s = start a in
     let k = getD (l .loop .begun) (l .loop .i - 1) 0 in (
       omega arith,
       moved-more (its a) (s .pre .1 .few) refl (now (s .args .indices)) (s .args .index)
-          (s .args .position .begun) (begun-sized (s .args .position) _ (s .good .1 .1 .1 .1 .0)) (l .loop .begun) (l .loop .i - 1) (l .loop .i) (low a) (omega arith)
+          (now (s .args .begun)) (s .pre .2) (l .loop .begun) (l .loop .i - 1) (l .loop .i) (low a) (omega arith)
           (l .loop .inv .1) _ (c .begun-at .ensures ∙ ap (λ (x : Input). begunAt (s .args .index) k (nextIn (now (s .args .indices)) (cursor x k))) (told a)),
     )
 
@@ -100,10 +101,10 @@ advance-spec =
     sub-i
     input-at-requires
     mul-begun-at
-    array-read-begun-at
+    element-copy-out-begun-at
     begun-at-requires
     mul-begun
-    array-write-begun
+    element-write-begun
     loop-less
     loop-again
     returns)

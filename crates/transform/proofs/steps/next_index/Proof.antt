@@ -47,7 +47,7 @@ sub-i : tie.Need-sub-i Inv-loop μ-loop
 sub-i c = omega arith
 
 input-at-requires : tie.Need-input-at-requires Inv-loop μ-loop
-input-at-requires c κs = let s = c .before .before .before .before .before in (omega (arith, s .pre .1 .few), s .pre .0)
+input-at-requires c κs = let s = c .before .before .before .before .before in (omega (arith, s .pre .1 .few), s .pre .0 .held)
 
 mul-next-of : tie.Need-mul-next-of Inv-loop μ-loop
 mul-next-of c = omega (arith, low c, start c .pre .1 .few)

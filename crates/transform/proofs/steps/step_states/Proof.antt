@@ -1,17 +1,17 @@
 -- `transform::steps::step_states` meets its contract: what is held is the largest set of the inputs passed.
 -- Assumes nothing.
 use mathlib.Core.Path.{_≡_, refl, ap, _∙_}
-use Prim.Native.Nat.{ℕ, suc, _-_, _≤_, _<_}
+use Prim.Native.Nat.{ℕ, suc, _+_, _-_, _≤_, _<_}
 use native.Mathlib.Omega.{arith}
 use borrow.Author.Needs.{needs}
 use denote.Ref.{now}
 use lib.ListN.{getD}
 use Rattle.transform.specs.declared.Input.{Input}
 use Rattle.transform.specs.declared.Inputs.{Inputs}
-use Rattle.transform.specs.Stepping.{inputsIn, cursor, setNow, Showing, largestNow}
+use Rattle.transform.specs.Stepping.{inputIn, inputsIn, SizedAt, cursor, setNow, Showing, largestNow}
 use Rattle.transform.proofs.InputTests.{noInput}
 use Rattle.transform.proofs.Stepping.{begun-sized, from, largest-none, cursor-at, largest-more}
-use Rattle.transform.proofs.SteppingTable.{slot-is}
+use Rattle.transform.proofs.SteppingTable.{slot-is, found-fits, found-some, found-set}
 use Rattle.transform.proofs.steps.step_states.Statement.{statement}
 use Rattle.transform.proofs.steps.step_states.Tie as tie
 
@@ -22,21 +22,38 @@ abbrev μ-loop : tie.MeasureT-loop
 μ-loop count numbers starts bytes position states₀ i₀ states i = i
 
 -- the input at hand
-module _ (a : tie.After-input-at Inv-loop μ-loop) where
+module _ (b : tie.In-loop Inv-loop μ-loop) where
   abbrev turn : tie.At-loop Inv-loop μ-loop
-  turn = a .before .before
+  turn = b .before
 
   abbrev start : tie.Start Inv-loop μ-loop
   start = turn .before .before .before .before
 
+  abbrev i : ℕ
+  i = turn .loop .i - 1
+
   abbrev its : Inputs
   its = inputsIn (start .args .count) (now (start .args .numbers)) (now (start .args .starts))
 
-  low : turn .loop .i - 1 < start .args .count
-  low = omega (arith, a .before .loop-test .taken, turn .loop .inv .0)
+  abbrev begun : ℕ
+  begun = getD (start .args .t5 .begun) i 0
 
-  told : a .input-at .result ≡ getD (its .slots) (turn .loop .i - 1) noInput
-  told = a .input-at .ensures ∙ slot-is (start .args .count) (now (start .args .numbers)) (now (start .args .starts)) (turn .loop .i - 1) (omega (arith, low, start .pre .1 .few))
+  low : i < start .args .count
+  low = omega (arith, b .loop-test .taken, turn .loop .inv .0)
+
+  in-eight : i < 8
+  in-eight = omega (arith, low, start .pre .1 .few)
+
+  told : inputIn (now (start .args .numbers)) (now (start .args .starts)) i ≡ getD (its .slots) i noInput
+  told = slot-is (start .args .count) (now (start .args .numbers)) (now (start .args .starts)) i in-eight
+
+  sized : SizedAt (now (start .args .numbers)) (now (start .args .starts)) i
+  sized = start .pre .0 .sized i low
+
+  shows : Showing (now (start .args .bytes)) (cursor (inputIn (now (start .args .numbers)) (now (start .args .starts)) i) begun)
+  shows =
+      rw told
+      (cursor-at its (start .pre .1 .few) refl i low (Showing (now (start .args .bytes))) (start .args .t5 .begun) (begun-sized (start .args .t5) _ (start .good .1 .1 .1 .1 .0)) (start .pre .1 .shown))
 
 loop-holds : tie.Need-loop-holds Inv-loop μ-loop
 loop-holds c =
@@ -46,20 +63,36 @@ loop-holds c =
 sub-i : tie.Need-sub-i Inv-loop μ-loop
 sub-i c = omega arith
 
-input-at-requires : tie.Need-input-at-requires Inv-loop μ-loop
-input-at-requires c κs = let s = c .before .before .before .before .before in (omega (arith, s .pre .1 .few), s .pre .0)
+mul-shown-entry : tie.Need-mul-shown-entry Inv-loop μ-loop
+mul-shown-entry c = omega (arith, in-eight c)
 
-mul-shown-states : tie.Need-mul-shown-states Inv-loop μ-loop
-mul-shown-states c = omega (arith, low c, start c .pre .1 .few)
+element-copy-out-shown-entry : tie.Need-element-copy-out-shown-entry Inv-loop μ-loop
+element-copy-out-shown-entry c = in-eight c
 
-element-copy-out-shown-states : tie.Need-element-copy-out-shown-states Inv-loop μ-loop
-element-copy-out-shown-states c = omega (arith, low c, start c .pre .1 .few)
+shown-entry-requires : tie.Need-shown-entry-requires Inv-loop μ-loop
+shown-entry-requires c κs =
+    let b = c .before in
+    let s = start b in (
+      omega (arith, in-eight b, s .pre .0 .held .started),
+      shows b .begun,
+      found-fits (now (s .args .numbers)) (now (s .args .starts)) (now (s .args .bytes)) (i b) (sized b) (begun b) (shows b),
+    )
 
-shown-states-requires : tie.Need-shown-states-requires Inv-loop μ-loop
-shown-states-requires c κs =
+add-states-in : tie.Need-add-states-in Inv-loop μ-loop
+add-states-in c = omega (arith, in-eight (c .before .before))
+
+mul-states-in : tie.Need-mul-states-in Inv-loop μ-loop
+mul-states-in c = omega (arith, in-eight (c .before .before))
+
+shared-slice-read-states-in : tie.Need-shared-slice-read-states-in Inv-loop μ-loop
+shared-slice-read-states-in c = let b = c .before .before .before in omega (arith, in-eight b, start b .pre .0 .held .numbered)
+
+states-in-requires : tie.Need-states-in-requires Inv-loop μ-loop
+states-in-requires c κs =
     let a = c .before in
-    let s = start a in
-    rw (told a) (cursor-at (its a) (s .pre .1 .few) refl (turn a .loop .i - 1) (low a) (Showing (now (s .args .bytes))) (s .args .t5 .begun) (begun-sized (s .args .t5) _ (s .good .1 .1 .1 .1 .0)) (s .pre .1 .shown))
+    let b = a .before .before in
+    let s = start b in
+    found-some (now (s .args .numbers)) (now (s .args .starts)) (now (s .args .bytes)) (i b) (sized b) (begun b) (shows b) _ (a .shown-entry .ensures)
 
 join-requires : tie.Need-join-requires Inv-loop μ-loop
 join-requires c κs = search needs
@@ -71,12 +104,15 @@ loop-again : tie.Need-loop-again Inv-loop μ-loop
 loop-again c =
     let n = c .before in
     let a = n .before .before in
-    let l = turn a in
-    let s = start a in (
+    let b = a .before .before in
+    let l = turn b in
+    let s = start b in (
       omega arith,
       c .join .ensures
-          ∙ largest-more (its a) (s .pre .1 .few) refl (l .loop .i - 1) (low a) (now (s .args .bytes)) (s .args .t5 .begun) (begun-sized (s .args .t5) _ (s .good .1 .1 .1 .1 .0))
-          _ _ (n .shown-states .ensures ∙ ap (λ (x : Input). setNow (now (s .args .bytes)) (cursor x (getD (s .args .t5 .begun) (l .loop .i - 1) 0))) (told a)) (l .loop .i) (omega arith) (l .loop .inv .1),
+          ∙ largest-more (its b) (s .pre .1 .few) refl (i b) (low b) (now (s .args .bytes)) (s .args .t5 .begun) (begun-sized (s .args .t5) _ (s .good .1 .1 .1 .1 .0)) _ _
+          (found-set (now (s .args .numbers)) (now (s .args .starts)) (now (s .args .bytes)) (i b) (sized b) (begun b) (shows b) _ (a .shown-entry .ensures) _ (n .states-in .ensures)
+          ∙ ap (λ (x : Input). setNow (now (s .args .bytes)) (cursor x (begun b))) (told b))
+          (l .loop .i) (omega arith) (l .loop .inv .1),
     )
 
 returns : tie.Need-returns Inv-loop μ-loop
@@ -94,10 +130,13 @@ step-states-spec =
     μ-loop
     loop-holds
     sub-i
-    input-at-requires
-    mul-shown-states
-    element-copy-out-shown-states
-    shown-states-requires
+    mul-shown-entry
+    element-copy-out-shown-entry
+    shown-entry-requires
+    add-states-in
+    mul-states-in
+    shared-slice-read-states-in
+    states-in-requires
     join-requires
     loop-less
     loop-again

@@ -23,7 +23,7 @@ abbrev μ-loop : tie.MeasureT-loop
 
 loop-holds : tie.Need-loop-holds Inv-loop μ-loop
 loop-holds c =
-    (omega arith, record { long = record { numbered = length-replicate {A = ℕ} 24 0; started = length-replicate {A = ℕ} 16 0 }; rows = λ k h. absurd (omega arith) })
+    (omega arith, record { held = record { numbered = length-replicate {A = ℕ} 24 0; started = length-replicate {A = ℕ} 24 0 }; rows = λ k h. absurd (omega arith); sizes = λ k h. absurd (omega arith) })
 
 cast-loop : tie.Need-cast-loop Inv-loop μ-loop
 cast-loop c = search needs
@@ -85,6 +85,18 @@ mul-starts-2 c = omega arith
 array-write-starts-2 : tie.Need-array-write-starts-2 Inv-loop μ-loop
 array-write-starts-2 c = omega arith
 
+size-of-requires : tie.Need-size-of-requires Inv-loop μ-loop
+size-of-requires c κs = search needs
+
+add-starts-2 : tie.Need-add-starts-2 Inv-loop μ-loop
+add-starts-2 c = omega arith
+
+mul-starts-3 : tie.Need-mul-starts-3 Inv-loop μ-loop
+mul-starts-3 c = omega arith
+
+array-write-starts-3 : tie.Need-array-write-starts-3 Inv-loop μ-loop
+array-write-starts-3 c = omega arith
+
 add-i : tie.Need-add-i Inv-loop μ-loop
 add-i c = omega arith
 
@@ -93,16 +105,17 @@ loop-less c = omega arith
 
 loop-again : tie.Need-loop-again Inv-loop μ-loop
 loop-again c =
-    let g = c .before in
+    let k = c .before in
+    let g = k .before in
     let w = g .before in
     let l = w .before .before .before .before in
     let s = l .before in
     let slots = slotted (s .args .t1) _ (s .good .0) in
     let h = w .before .before .before .loop-test .taken in (
       omega arith,
-      rows-more (s .args .t1) (l .loop .numbers) (l .loop .starts) (l .loop .i) (omega (arith, s .pre .few)) (l .loop .inv .1) _ _
+      rows-more (s .args .t1) (l .loop .numbers) (l .loop .starts) (l .loop .i) (omega (arith, s .pre .few)) (l .loop .inv .1) _ _ _
           (input-at (s .args .t1) (s .pre .few) slots (l .loop .i) h (λ i. hasNoText (i .description .encoding) ≡ false) (s .pre .vectors))
-          (w .width-of .ensures) (c .mark .ensures ∙ ap markOf (g .largest-in .ensures)),
+          (w .width-of .ensures) (k .mark .ensures ∙ ap markOf (g .largest-in .ensures)) (c .size-of .ensures),
     )
 
 returns : tie.Need-returns Inv-loop μ-loop
@@ -139,6 +152,10 @@ table-of-spec =
     add-starts
     mul-starts-2
     array-write-starts-2
+    size-of-requires
+    add-starts-2
+    mul-starts-3
+    array-write-starts-3
     add-i
     loop-less
     loop-again

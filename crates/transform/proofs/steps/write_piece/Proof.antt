@@ -6,64 +6,95 @@ use Prim.Native.Nat.{ℕ, _+_, _-_, _≤_}
 use native.Mathlib.Omega.{arith}
 use borrow.Author.Needs.{needs}
 use denote.Ref.{now}
+use lib.ListN.{getD}
 use Rattle.value.specs.declared.States.{States}
 use Rattle.value.specs.Level.{textOf}
 use Rattle.value.specs.Slice.{overlay}
 use Rattle.signal.specs.Parts.{codesAt, Levels}
-use Rattle.transform.specs.Stepping.{cursor, levelsNow}
-use Rattle.transform.proofs.SteppingLevels.{levels-of}
+use Rattle.transform.specs.Stepping.{inputIn, cursor, levelsNow}
 use Rattle.transform.proofs.SteppingEntry.{picked-is}
+use Rattle.transform.proofs.SteppingTable.{found-fits, found-some, found-room, found-levels}
 use Rattle.transform.proofs.steps.write_piece.Statement.{statement}
 use Rattle.transform.proofs.steps.write_piece.Tie as tie
 
 -- what is known of the piece
-module _ (e : tie.After-struct-known2) where
+module _ (e : tie.After-struct-known3) where
   abbrev start : tie.Start
-  start = e .before .before .before .before .before .before .before .before
+  start = e .before .before .before .before .before .before .before .before .before .before .before .before
 
   abbrev wide : ℕ
-  wide = e .before .before .before .before .width-of .result
+  wide = getD (now (start .args .numbers)) (8 + start .args .extract .signal) 0
 
   abbrev own : States
-  own = e .before .before .before .shown-states .result
+  own = e .before .before .before .states-in .result
 
   abbrev held : List ℕ
-  held = now (e .before .before .shown-levels .result)
+  held = now (e .before .before .level-part .result)
 
-  found : Levels wide own held × (codesAt wide own held ≡ levelsNow (now (start .args .bytes)) (cursor (start .args .input) (start .args .begun)))
+  found : Levels wide own held
+      × (codesAt wide own held ≡ levelsNow (now (start .args .bytes)) (cursor (inputIn (now (start .args .numbers)) (now (start .args .starts)) (start .args .extract .signal)) (start .args .begun)))
   found =
-      let p = start .pre .shows in
-      levels-of _ _ (p .vector) (p .whole) (p .marked) wide own held (e .before .before .before .before .width-of .ensures) (e .before .before .before .shown-states .ensures) (e .before .before .shown-levels .ensures)
+      found-levels (now (start .args .numbers)) (now (start .args .starts)) (now (start .args .bytes)) (start .args .extract .signal) (start .pre .2) (start .args .begun) (start .pre .3 .shows)
+      _ (e .before .before .before .before .before .shown-entry .ensures) own (e .before .before .before .states-in .ensures) held (e .before .before .level-part .ensures)
 
   within : start .args .extract .lsb + start .args .extract .width ≤ wide
-  within = omega (arith, e .before .before .before .before .width-of .ensures, start .pre .within)
+  within = start .pre .3 .within
 
-  abbrev first : ℕ
-  first = wide - (start .args .extract .lsb + start .args .extract .width)
-
-  fits : first + start .args .extract .width ≤ wide
+  fits : wide - (start .args .extract .lsb + start .args .extract .width) + start .args .extract .width ≤ wide
   fits = omega (arith, within)
 
-width-of-requires : tie.Need-width-of-requires
-width-of-requires c κs = search needs
+cast-i : tie.Need-cast-i
+cast-i c = search needs
 
-shown-states-requires : tie.Need-shown-states-requires
-shown-states-requires c κs = c .before .before .before .before .pre .shows
+add-width : tie.Need-add-width
+add-width c = search needs
 
-shown-levels-requires : tie.Need-shown-levels-requires
-shown-levels-requires c κs = c .before .before .before .before .before .pre .shows
+mul-width : tie.Need-mul-width
+mul-width c = search needs
+
+shared-slice-read-width : tie.Need-shared-slice-read-width
+shared-slice-read-width c = search needs
+
+shown-entry-requires : tie.Need-shown-entry-requires
+shown-entry-requires c κs =
+    let s = c .before .before .before .before .before .before in (
+      omega (arith, s .pre .0, s .pre .1 .started),
+      s .pre .3 .shows .begun,
+      found-fits (now (s .args .numbers)) (now (s .args .starts)) (now (s .args .bytes)) (s .args .extract .signal) (s .pre .2) (s .args .begun) (s .pre .3 .shows),
+    )
+
+add-states-in : tie.Need-add-states-in
+add-states-in c = search needs
+
+mul-states-in : tie.Need-mul-states-in
+mul-states-in c = search needs
+
+shared-slice-read-states-in : tie.Need-shared-slice-read-states-in
+shared-slice-read-states-in c = search needs
+
+states-in-requires : tie.Need-states-in-requires
+states-in-requires c κs =
+    let a = c .before in
+    let s = a .before .before .before .before .before .before .before in
+    found-some (now (s .args .numbers)) (now (s .args .starts)) (now (s .args .bytes)) (s .args .extract .signal) (s .pre .2) (s .args .begun) (s .pre .3 .shows) _ (a .shown-entry .ensures)
+
+level-part-requires : tie.Need-level-part-requires
+level-part-requires c κs =
+    let a = c .before .before in
+    let s = a .before .before .before .before .before .before .before in
+    found-room (now (s .args .numbers)) (now (s .args .starts)) (now (s .args .bytes)) (s .args .extract .signal) (s .pre .2) (s .args .begun) (s .pre .3 .shows) _ (a .shown-entry .ensures) _ (c .states-in .ensures)
 
 cast-count : tie.Need-cast-count
 cast-count c = search needs
 
 add-first : tie.Need-add-first
-add-first c = omega (arith, within c)
+add-first c = omega (arith, within c, found c .0 .short)
 
 sub-first : tie.Need-sub-first
 sub-first c = within c
 
 write-levels-of-requires : tie.Need-write-levels-of-requires
-write-levels-of-requires c κs = let e = c .before in (found e .0, fits e, start e .pre .fits)
+write-levels-of-requires c κs = let e = c .before in (found e .0, fits e, start e .pre .3 .fits)
 
 same-length : tie.Need-same-length
 same-length c = search needs
@@ -80,9 +111,16 @@ pub write-piece-spec : {M : Type 1} → statement M
 write-piece-spec =
     tie.close
     (tie.spec
-    width-of-requires
-    shown-states-requires
-    shown-levels-requires
+    cast-i
+    add-width
+    mul-width
+    shared-slice-read-width
+    shown-entry-requires
+    add-states-in
+    mul-states-in
+    shared-slice-read-states-in
+    states-in-requires
+    level-part-requires
     cast-count
     add-first
     sub-first

@@ -13,7 +13,7 @@ use Rattle.transform.specs.declared.Input.{Input}
 use Rattle.transform.specs.declared.Inputs.{Inputs}
 use Rattle.transform.specs.Derive.{pickedOf}
 use Rattle.transform.specs.Piece.{extractOf}
-use Rattle.transform.specs.Stepping.{inputsIn, cursor, cursorsOf, levelsNow, pickedNow, Picks}
+use Rattle.transform.specs.Stepping.{inputIn, inputsIn, cursor, cursorsOf, levelsNow, pickedNow, Picks}
 use Rattle.transform.proofs.InputTests.{noInput}
 use Rattle.transform.proofs.Stepping.{begun-sized}
 use Rattle.transform.proofs.SteppingTable.{slot-is}
@@ -58,11 +58,8 @@ module _ (k : tie.After-from-u64 Inv-loop μ-loop) where
       piece-picks its (now (start .args .bytes)) (start .args .t6) (now (start .args .pieces)) _ (start .pre .1)
       refl places (turn .loop .i) (k .before .before .loop-test .taken) (k .from-u64 .result) (k .from-u64 .ensures) (turn .loop .at) (turn .loop .inv .2)
 
--- the piece's input
-told : (a : tie.After-input-at Inv-loop μ-loop) → a .input-at .result ≡ getD (its (a .before .before) .slots) (a .before .before .from-u64 .result .signal) noInput
-told a =
-    let k = a .before .before in
-    a .input-at .ensures ∙ slot-is (start k .args .count) (now (start k .args .numbers)) (now (start k .args .starts)) (k .from-u64 .result .signal) (in-eight k)
+  told : inputIn (now (start .args .numbers)) (now (start .args .starts)) (k .from-u64 .result .signal) ≡ getD (its .slots) (k .from-u64 .result .signal) noInput
+  told = slot-is (start .args .count) (now (start .args .numbers)) (now (start .args .starts)) (k .from-u64 .result .signal) in-eight
 
 loop-holds : tie.Need-loop-holds Inv-loop μ-loop
 loop-holds c = (omega arith, refl, omega (arith, c .before .before .before .before .before .pre .1 .fits), refl)
@@ -79,26 +76,23 @@ from-u64-requires c κs = search needs
 cast-signal : tie.Need-cast-signal Inv-loop μ-loop
 cast-signal c = omega (arith, in-eight (c .before))
 
-input-at-requires : tie.Need-input-at-requires Inv-loop μ-loop
-input-at-requires c κs = let k = c .before in (in-eight k, start k .pre .0)
-
 mul-write-piece : tie.Need-mul-write-piece Inv-loop μ-loop
-mul-write-piece c = omega (arith, in-eight (c .before .before))
+mul-write-piece c = omega (arith, in-eight (c .before))
 
 element-copy-out-write-piece : tie.Need-element-copy-out-write-piece Inv-loop μ-loop
-element-copy-out-write-piece c = in-eight (c .before .before)
+element-copy-out-write-piece c = in-eight (c .before)
 
 write-piece-requires : tie.Need-write-piece-requires Inv-loop μ-loop
 write-piece-requires c κs =
-    let k = c .before .before .before .before in
-    rw (turn k .loop .inv .1, told (c .before .before)) (picks k)
+    let k = c .before .before .before in
+    (in-eight k, start k .pre .0 .held, start k .pre .0 .sized (k .from-u64 .result .signal) (among k), rw (turn k .loop .inv .1, told k) (picks k))
 
 cast-at : tie.Need-cast-at Inv-loop μ-loop
 cast-at c = search needs
 
 add-at : tie.Need-add-at Inv-loop μ-loop
 add-at c =
-    let k = c .before .before .before .before .before .before .before .before in
+    let k = c .before .before .before .before .before .before .before in
     let g = start k .good .1 .1 .1 .1 .1 .1 in
     omega (arith, picks k .fits)
 
@@ -111,9 +105,9 @@ loop-less c = omega arith
 loop-again : tie.Need-loop-again Inv-loop μ-loop
 loop-again c =
     let w = c .before .before .before in
-    let k = w .before .before .before .before .before in (
+    let k = w .before .before .before .before in (
       omega arith,
-      w .write-piece .kept .1 .1 .1 .1 .0 ∙ turn k .loop .inv .1,
+      w .write-piece .kept .1 .1 .1 .1 .1 .0 ∙ turn k .loop .inv .1,
       room-more (its k) (now (start k .args .bytes)) (start k .args .t6) (now (start k .args .pieces)) _ (start k .pre .1)
           refl (places k) (turn k .loop .i) (k .before .before .loop-test .taken) (k .from-u64 .result) (k .from-u64 .ensures) (turn k .loop .at) (turn k .loop .inv .2),
       pieces-more (its k) (now (start k .args .bytes)) (start k .args .t6) (now (start k .args .pieces)) _ (start k .pre .1)
@@ -121,7 +115,7 @@ loop-again c =
           (turn k .loop .text) _ (turn k .loop .inv .1)
           (w .write-piece .ensures
           ∙ ap (λ (x : Input). overlay (turn k .loop .text) (turn k .loop .at) (textOf (pickedOf (k .from-u64 .result) (levelsNow (now (start k .args .bytes)) (cursor x (getD (start k .args .t6 .begun) (k .from-u64 .result .signal) 0))))))
-          (told (w .before .before .before)))
+          (told k))
           ∙ turn k .loop .inv .3,
     )
 
@@ -146,7 +140,6 @@ write-pieces-spec =
     shared-slice-read-from-u64
     from-u64-requires
     cast-signal
-    input-at-requires
     mul-write-piece
     element-copy-out-write-piece
     write-piece-requires
