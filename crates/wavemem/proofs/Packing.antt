@@ -16,9 +16,12 @@ use lib.Arith.{digits-mod}
 use borrow.Author.Tests.{lt-leb}
 use Rattle.value.specs.declared.States.{States}
 use Rattle.value.specs.declared.States.the-variants.{Two, Four, Nine}
+use Rattle.value.specs.declared.CharCode.{CharCode}
+use Rattle.value.specs.declared.CharCode.the-variants as code
 use Rattle.value.specs.Digits.{number, digits, Below}
 use Rattle.value.specs.Slice.{part, overlay, same}
 use Rattle.value.specs.Level.{fold, foldAll, codeOf, codesOf, bitsOf, lenOf, isNoCode}
+use Rattle.value.specs.Answer.{charCode}
 use Rattle.value.proofs.Tests.{by-le}
 use Rattle.value.proofs.Slices.{part-length, part-at, overlay-nil, overlay-one, overlay-overlay, overlay-store}
 use Rattle.value.proofs.Levels.{len-bits}
