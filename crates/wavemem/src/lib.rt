@@ -29,21 +29,29 @@ fn levels_from_ascii(states: States, value: &[u8]) -> u64
     let mut working: u64 = 0;
     let mut i = 0;
     while i < value.len() {
-        let CharCode::Code(code) = value::bit_char_to_num(value[i]) else {
-            return working;
-        };
+        let code = wide(value::known_code(value[i]));
         i += 1;
-        working = (working << bits) | wide(code);
+        working = (working << bits) | code;
     }
     working
 }
 
-// The byte of so few characters that one byte holds them.
+// The byte of so few characters that one byte holds them, each code taken as it comes.
 fn byte_from_ascii(states: States, value: &[u8]) -> u8
     requires { ⌜ OneByte states (now value) ⌝ }
     ensures { λ r. ⌜ r ≡ number (2 ^ bitsOf states) (codesOf (foldAll (now (value .entry)))) ⌝ }
 {
-    levels_from_ascii(states, value) as u8
+    let bits = states.bits();
+    let mut working: u8 = 0;
+    let mut i = 0;
+    while i < value.len() {
+        let CharCode::Code(code) = value::bit_char_to_num(value[i]) else {
+            return working;
+        };
+        i += 1;
+        working = (working << bits) | code;
+    }
+    working
 }
 
 // The same by a table of codes, which a loop over whole bytes reads faster.

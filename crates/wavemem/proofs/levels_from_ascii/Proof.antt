@@ -11,7 +11,7 @@ use Rattle.value.specs.Digits.{number}
 use Rattle.value.specs.Level.{codeOf, fold, foldAll, codesOf, bitsOf}
 use Rattle.value.proofs.Digits.{below-at}
 use Rattle.value.proofs.Levels.{bits-small}
-use Rattle.wavemem.proofs.Packing.{code-is, code-at, not-foreign, shifted}
+use Rattle.wavemem.proofs.Packing.{code-at, shifted}
 use Rattle.wavemem.proofs.levels_from_ascii.Statement.{statement}
 use Rattle.wavemem.proofs.levels_from_ascii.Tie as tie
 
@@ -28,64 +28,49 @@ loop-holds : tie.Need-loop-holds Inv-loop μ-loop
 unfolding number
 loop-holds c = (zero-le, refl)
 
-shared-slice-read-bit-char-to-num : tie.Need-shared-slice-read-bit-char-to-num Inv-loop μ-loop
-shared-slice-read-bit-char-to-num c = omega arith
+shared-slice-read-known-code : tie.Need-shared-slice-read-known-code Inv-loop μ-loop
+shared-slice-read-known-code c = omega arith
 
-bit-char-to-num-requires : tie.Need-bit-char-to-num-requires Inv-loop μ-loop
-bit-char-to-num-requires c κs = search needs
+known-code-requires : tie.Need-known-code-requires Inv-loop μ-loop
+known-code-requires c κs = search needs
 
-enum-known-code : tie.Need-enum-known-code Inv-loop μ-loop
-enum-known-code c = search needs
-
-enum-told : tie.Need-enum-told Inv-loop μ-loop
-enum-told c = search needs
-
-returns : tie.Need-returns Inv-loop μ-loop
-returns c =
-    let f = c .before .before in
-    let a = f .before .before .before in
-    let s = a .before .before .before in
-    let v = now (s .args .value) in
-    absurd
-    (not-foreign (getD v (a .loop .i) 0)
-    (rw (← code-at v (a .loop .i)) (below-at 9 (codesOf (foldAll v)) (s .pre .codes .known) (a .loop .i) (codeOf (fold 0)) (rw (length-map, length-map) (omega arith))))
-    (sym (f .bit-char-to-num .ensures) ∙ c .enum-told .given .1))
+wide-requires : tie.Need-wide-requires Inv-loop μ-loop
+wide-requires c κs = search needs
 
 add-i : tie.Need-add-i Inv-loop μ-loop
 add-i c = omega arith
 
 cast-working : tie.Need-cast-working Inv-loop μ-loop
 cast-working c =
-    let a = c .before .before .before .before .before .before .before in
-    omega (arith, a .bits .ensures, bits-small (a .before .before .args .states))
+    let a = c .before .before .before .before in
+    omega (arith, a .before .bits .ensures, bits-small (a .before .before .before .args .states))
 
 shl-working : tie.Need-shl-working Inv-loop μ-loop
 shl-working c =
-    let a = c .before .before .before .before .before .before .before in
-    omega (arith, a .bits .ensures, bits-small (a .before .before .args .states))
-
-wide-requires : tie.Need-wide-requires Inv-loop μ-loop
-wide-requires c κs = search needs
+    let a = c .before .before .before .before in
+    omega (arith, a .before .bits .ensures, bits-small (a .before .before .before .args .states))
 
 loop-less : tie.Need-loop-less Inv-loop μ-loop
 loop-less c = omega arith
 
 loop-again : tie.Need-loop-again Inv-loop μ-loop
 loop-again c =
-    let f = c .before .before .before .before in
-    let a = f .before .before .before in
+    let k = c .before in
+    let a = k .before .before .before in
     let s = a .before .before .before in
     let v = now (s .args .value) in
-    let e = a .before .bits .ensures in (
+    let x = getD v (a .loop .i) 0 in
+    let e = a .before .bits .ensures in
+    let m : a .loop .i < length (codesOf (foldAll v)) = rw (length-map, length-map) (omega arith) in
+    let known : codeOf (fold x) < 9 = rw (← code-at v (a .loop .i)) (below-at 9 (codesOf (foldAll v)) (s .pre .codes .known) (a .loop .i) (codeOf (fold 0)) m) in (
       omega arith,
       shifted 64 (a .before .bits .result) (codesOf (foldAll v)) (rw e (s .pre .codes .below)) (rw (length-map, length-map, e) (s .pre .short))
-          (a .loop .i) _ (codeOf (fold 0)) (a .loop .working) (rw (length-map, length-map) (omega arith))
-          (c .wide .ensures ∙ code-is (getD v (a .loop .i) 0) _ (sym (f .bit-char-to-num .ensures) ∙ c .before .before .code .given .1) ∙ sym (code-at v (a .loop .i)))
+          (a .loop .i) _ (codeOf (fold 0)) (a .loop .working) m (c .wide .ensures ∙ k .known-code .ensures known ∙ sym (code-at v (a .loop .i)))
           (a .loop .inv .1),
     )
 
-returns-2 : tie.Need-returns-2 Inv-loop μ-loop
-returns-2 c =
+returns : tie.Need-returns Inv-loop μ-loop
+returns c =
     let a = c .before in
     let v = now (a .before .before .before .args .value) in
     a .loop .inv .1 ∙ rw (a .before .bits .ensures, take-all (a .loop .i) (codesOf (foldAll v)) (rw (length-map, length-map) (c .loop-test .left)))
@@ -98,15 +83,12 @@ levels-from-ascii-spec =
     μ-loop
     bits-requires
     loop-holds
-    shared-slice-read-bit-char-to-num
-    bit-char-to-num-requires
-    enum-known-code
-    enum-told
-    returns
+    shared-slice-read-known-code
+    known-code-requires
+    wide-requires
     add-i
     cast-working
     shl-working
-    wide-requires
     loop-less
     loop-again
-    returns-2)
+    returns)
