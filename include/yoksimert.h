@@ -44,12 +44,6 @@ typedef struct yoksimert_made {
     yoksimert_description description;
 } yoksimert_made;
 
-/* The description for the next call, on a refusal the given one. */
-typedef struct yoksimert_added {
-    uint32_t number;
-    yoksimert_description next;
-} yoksimert_added;
-
 /* An entry's kind and own set, and the place of its levels in the lent bytes, a mark in their first byte included. On a refusal all but
  * the number is 0. */
 typedef struct yoksimert_entry {
@@ -112,31 +106,6 @@ yoksimert_made yoksimert_fresh(uint32_t width);
 /* Fresh: the empty record of reals. */
 yoksimert_description yoksimert_fresh_real(void);
 
-/* Add a change: a string of characters, one for each level. Refused: 2, 3, 4, 5, 6, 7. */
-yoksimert_added yoksimert_add_change(
-    yoksimert_description description,
-    uint8_t *bytes,
-    size_t bytes_len,
-    size_t byte_start,
-    uint32_t *indices,
-    size_t indices_len,
-    size_t index_start,
-    uint32_t index,
-    const uint8_t *value,
-    size_t value_len);
-
-/* Add a change: a real, by the 64 bits of its double. Refused: 2, 3, 6, 7. */
-yoksimert_added yoksimert_add_real(
-    yoksimert_description description,
-    uint8_t *bytes,
-    size_t bytes_len,
-    size_t byte_start,
-    uint32_t *indices,
-    size_t indices_len,
-    size_t index_start,
-    uint32_t index,
-    uint64_t bits);
-
 /* The recorder lent: the calls below alter a description in place, which lies in no slice of the call. The answer is the number. On a
  * refusal the description is as it was. */
 
@@ -146,7 +115,7 @@ uint32_t yoksimert_recorder_fresh(yoksimert_description *recorder, uint32_t widt
 /* Fresh of reals, whatever the description was. The answer is 0. */
 uint32_t yoksimert_recorder_fresh_real(yoksimert_description *recorder);
 
-/* Add a change: a string. Refused: 2, 3, 4, 5, 6, 7. */
+/* Add a change: a string of characters, one for each level. Refused: 2, 3, 4, 5, 6, 7. */
 uint32_t yoksimert_recorder_add_change(
     yoksimert_description *recorder,
     uint8_t *bytes,

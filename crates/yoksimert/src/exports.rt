@@ -4,12 +4,10 @@ ghost use mathlib.Core.List.{List};
 ghost use Prim.Native.Nat.{ℕ};
 ghost use Rattle.fst.specs.Refusal.{Outcome};
 ghost use Rattle.fst.specs.Record.{fresh, freshReal};
-ghost use Rattle.fst.specs.Change.{text, real};
 ghost use Rattle.signal.specs.Offset.{lookUp};
 ghost use Rattle.yoksimert.specs.Flat.{encoded, flatMade, flatOffset};
-ghost use Rattle.yoksimert.specs.Exports.{leftByFlat, flatAdd, flatRead, flatText, flatCompare};
+ghost use Rattle.yoksimert.specs.Exports.{flatRead, flatText, flatCompare};
 use crate::Decoded;
-use crate::FlatAdded;
 use crate::FlatDescription;
 use crate::FlatEntry;
 use crate::FlatEqual;
@@ -17,7 +15,6 @@ use crate::FlatMade;
 use crate::FlatOffset;
 use crate::flat::decode;
 use crate::flat::encode;
-use crate::flat::flat_added;
 use crate::flat::flat_equal;
 use crate::flat::flat_made;
 use crate::flat::flat_offset;
@@ -50,50 +47,6 @@ pub extern "C" fn yoksimert_fresh_real() -> FlatDescription
     ensures { λ r. ⌜ r ≡ encoded freshReal ⌝ }
 {
     encode(fresh_real())
-}
-
-// Add a change, a string's.
-#[no_mangle]
-pub extern "C" fn yoksimert_add_change(
-    description: FlatDescription,
-    bytes: &mut [u8],
-    byte_start: usize,
-    indices: &mut [u32],
-    index_start: usize,
-    index: u32,
-    value: &[u8],
-) -> FlatAdded
-    ensures { λ r. ⌜ leftByFlat r (now (bytes .exit)) (now (indices .exit)) ≡ flatAdd description (record { bytes = now (bytes .entry); byteStart = «byte_start»; indices = now (indices .entry); indexStart = «index_start» }) index (text (now (value .entry))) ⌝ }
-{
-    let Decoded::Known(known) = decode(description) else {
-        return FlatAdded {
-            number: 2,
-            next: description,
-        };
-    };
-    flat_added(known.add_change(bytes, byte_start, indices, index_start, index, value))
-}
-
-// Add a change, a real's, by its 64 bits.
-#[no_mangle]
-pub extern "C" fn yoksimert_add_real(
-    description: FlatDescription,
-    bytes: &mut [u8],
-    byte_start: usize,
-    indices: &mut [u32],
-    index_start: usize,
-    index: u32,
-    bits: u64,
-) -> FlatAdded
-    ensures { λ r. ⌜ leftByFlat r (now (bytes .exit)) (now (indices .exit)) ≡ flatAdd description (record { bytes = now (bytes .entry); byteStart = «byte_start»; indices = now (indices .entry); indexStart = «index_start» }) index (real bits) ⌝ }
-{
-    let Decoded::Known(known) = decode(description) else {
-        return FlatAdded {
-            number: 2,
-            next: description,
-        };
-    };
-    flat_added(known.add_real(bytes, byte_start, indices, index_start, index, bits))
 }
 
 // Read an entry.

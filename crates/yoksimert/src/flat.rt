@@ -6,13 +6,11 @@ ghost use Rattle.signal.specs.Compare.{equalOf};
 ghost use Rattle.signal.specs.Offset.{offsetOf};
 ghost use Rattle.yoksimert.specs.Flat.{decoded, encoded, kindNumber, noEntry, levelLength, flatMade, flatEqual, nowhere, placed, flatOffset};
 use crate::Decoded;
-use crate::FlatAdded;
 use crate::FlatDescription;
 use crate::FlatEntry;
 use crate::FlatEqual;
 use crate::FlatMade;
 use crate::FlatOffset;
-use fst::Added;
 use fst::Description;
 use fst::Encoding;
 use fst::Made;
@@ -156,17 +154,6 @@ pub fn flat_made(made: Made) -> FlatMade
                 count: 0,
             },
         },
-    }
-}
-
-pub fn flat_added(added: Added) -> FlatAdded
-    ensures { λ r. ⌜ r ≡ record { number = numberOf (added .verdict); next = encoded (added .next) } ⌝ }
-{
-    let verdict = added.verdict;
-    let next = added.next;
-    FlatAdded {
-        number: verdict_number(verdict),
-        next: encode(next),
     }
 }
 

@@ -24,15 +24,14 @@ pub enum Decoded {
 
 // In each answer `number` is 0 for an accepted call, and else the number of the refusal.
 
-// The answer of Fresh. On a refusal the description is none: its kind is 3, and it is 0 elsewhere.
+// The answer of Fresh and of Derive. On a refusal the description is none: its kind is 3, and it is 0 elsewhere.
 #[repr(C)]
 pub struct FlatMade {
     pub number: u32,
     pub description: FlatDescription,
 }
 
-// The answer of Add a change. On a refusal the next description is the given one.
-#[repr(C)]
+// What a call leaves of a recorder. On a refusal it is the given one.
 pub struct FlatAdded {
     pub number: u32,
     pub next: FlatDescription,

@@ -2,9 +2,7 @@
 
 use crate::numbers::{accepted, decode, encode, kind, states};
 use oracle::{Change, Derivation, Description, Entry, Input, Offset, Record, Refusal, Side};
-use yoksimert::raw::{
-    self, FlatAdded, FlatDerivation, FlatDescription, FlatInput, FlatInputs, FlatRecord,
-};
+use yoksimert::raw::{self, FlatDerivation, FlatDescription, FlatInput, FlatInputs, FlatRecord};
 
 /// The empty record of a width; width 0 makes an event.
 ///
@@ -41,31 +39,6 @@ pub fn fresh_real() -> Description {
 /// # Errors
 /// 2, 3, 4, 5, 6, 7.
 pub fn add_change(
-    d: Description,
-    bytes: &mut [u8],
-    byte_start: usize,
-    indices: &mut [u32],
-    index_start: usize,
-    index: u32,
-    change: &Change,
-) -> Result<Description, Refusal> {
-    let flat = encode(d);
-    let FlatAdded { number, next } = match change {
-        Change::Text(string) => {
-            raw::add_change(flat, bytes, byte_start, indices, index_start, index, string)
-        }
-        Change::Real(bits) => {
-            raw::add_real(flat, bytes, byte_start, indices, index_start, index, *bits)
-        }
-    };
-    next_of(number, flat, next)
-}
-
-/// The same by the calls that are lent the recorder.
-///
-/// # Errors
-/// 2, 3, 4, 5, 6, 7.
-pub fn recorder_add_change(
     d: Description,
     bytes: &mut [u8],
     byte_start: usize,

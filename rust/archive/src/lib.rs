@@ -9,7 +9,7 @@ mod numbers;
 #[cfg(archive)]
 pub use calls::{
     MAX_INPUTS, add_change, add_piece, compare, derive, fresh, fresh_real, look_up, read,
-    recorder_add_change, recorder_fresh, text,
+    recorder_fresh, text,
 };
 #[cfg(archive)]
 pub use numbers::decode;

@@ -1,7 +1,7 @@
 //! The operations of the archive beside wellen's: changes added, a raise, entries read, records compared, indices looked up.
 
 use crate::inner::{self, Rising};
-use crate::strings::{SETS, string};
+use crate::strings::{SETS, string, strings_apart};
 use crate::timing::{best, per};
 use oracle::{Record, States};
 use std::hint::black_box;
@@ -29,21 +29,6 @@ impl Recorder {
     }
 
     fn add(&mut self, index: u32, value: &[u8]) {
-        let added = raw::add_change(
-            self.description,
-            &mut self.bytes,
-            0,
-            &mut self.indices,
-            0,
-            index,
-            value,
-        );
-        assert_eq!(added.number, 0, "the slices have room");
-        self.description = added.next;
-    }
-
-    /// By the call that is lent the recorder.
-    fn add_lent(&mut self, index: u32, value: &[u8]) {
         let (bytes, indices) = (&mut self.bytes, &mut self.indices);
         let number =
             raw::recorder_add_change(&mut self.description, bytes, 0, indices, 0, index, value);
@@ -61,13 +46,10 @@ impl Recorder {
     }
 }
 
-/// ns a change: strings of one set, none of which repeats the last, into a record that has seen the set; with the description by value,
-/// and with the recorder lent.
+/// ns a change: strings of one set, none of which repeats the last, into a record that has seen the set.
 pub fn add() {
     println!("\nadd a change: ns a change\n");
-    println!(
-        "| set | width | by value | lent | wellen | wellen / by value | wellen / lent |\n|---|---|---|---|---|---|---|"
-    );
+    println!("| set | width | yoksimert | wellen | wellen / yoksimert |\n|---|---|---|---|---|");
     for states in SETS {
         for width in [1usize, 3, 8, 32, 64, 256, 4096] {
             add_at(states, width);
@@ -76,11 +58,10 @@ pub fn add() {
 }
 
 fn add_at(states: States, width: usize) {
-    let strings: Vec<Vec<u8>> = (0..64).map(|seed| string(states, width, seed)).collect();
+    let strings = strings_apart(states, width);
     let turns = (2_000_000 / width).clamp(500, 20_000);
-    let changes = || (0..turns).map(|turn| (turn as u32, &strings[turn % strings.len()]));
-    let by_value = ours(width, turns, changes, Recorder::add);
-    let lent = ours(width, turns, changes, Recorder::add_lent);
+    let changes = || (0..turns as u32).zip(strings.iter().cycle());
+    let ours = ours(width, turns, changes);
     let theirs = best(
         || (),
         || {
@@ -93,9 +74,8 @@ fn add_at(states: States, width: usize) {
     );
     let theirs = per(theirs, turns);
     println!(
-        "| {states:?} | {width} | {by_value:.1} | {lent:.1} | {theirs:.1} | {:.1} | {:.1} |",
-        theirs / by_value,
-        theirs / lent
+        "| {states:?} | {width} | {ours:.1} | {theirs:.1} | {:.1} |",
+        theirs / ours
     );
 }
 
@@ -104,7 +84,6 @@ fn ours<'a, Changes: Iterator<Item = (u32, &'a Vec<u8>)>>(
     width: usize,
     turns: usize,
     changes: impl Fn() -> Changes,
-    add: impl Fn(&mut Recorder, u32, &[u8]),
 ) -> f64 {
     let mut recorder = Recorder::new(width as u32, turns * (width / 2 + 2), turns);
     let start = recorder.description;
@@ -113,7 +92,7 @@ fn ours<'a, Changes: Iterator<Item = (u32, &'a Vec<u8>)>>(
         || {
             recorder.description = start;
             for (index, value) in changes() {
-                add(&mut recorder, index, black_box(value));
+                recorder.add(index, black_box(value));
             }
         },
     );

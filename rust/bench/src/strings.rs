@@ -21,3 +21,13 @@ pub fn string(states: States, width: usize, seed: u64) -> Vec<u8> {
         })
         .collect()
 }
+
+/// Some strings of a set's letters to be put in a circle: none equals the one before it.
+pub fn strings_apart(states: States, width: usize) -> Vec<Vec<u8>> {
+    let mut strings: Vec<Vec<u8>> = (0..64).map(|seed| string(states, width, seed)).collect();
+    strings.dedup();
+    if strings.first() == strings.last() {
+        strings.pop();
+    }
+    strings
+}

@@ -67,24 +67,8 @@ mod present {
             } => {
                 let (byte_start, index_start) = (record.byte_start, record.index_start);
                 let d = record.description;
-                let (lent_bytes, lent_indices) = (&mut bytes.to_vec(), &mut indices.to_vec());
-                let lent = archive::recorder_add_change(
-                    d,
-                    lent_bytes,
-                    byte_start,
-                    lent_indices,
-                    index_start,
-                    *index,
-                    change,
-                );
-                let added =
-                    archive::add_change(d, bytes, byte_start, indices, index_start, *index, change);
-                assert_eq!(
-                    (&lent, &lent_bytes[..], &lent_indices[..]),
-                    (&added, &*bytes, &*indices),
-                    "by the recorder lent"
-                );
-                added.map(Answer::Description)
+                archive::add_change(d, bytes, byte_start, indices, index_start, *index, change)
+                    .map(Answer::Description)
             }
             Call::Read { record, entry } => {
                 archive::read(record.description, &record.bytes, record.byte_start, *entry)

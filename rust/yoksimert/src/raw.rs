@@ -31,16 +31,6 @@ pub struct FlatMade {
     pub description: FlatDescription,
 }
 
-/// The answer of Add a change.
-#[repr(C)]
-#[derive(Clone, Copy, PartialEq, Eq, Debug)]
-pub struct FlatAdded {
-    /// 0, or the refusal
-    pub number: u32,
-    /// The description for the next call; on a refusal the given one
-    pub next: FlatDescription,
-}
-
 /// The answer of Read. On a refusal all but the number is 0.
 #[repr(C)]
 #[derive(Clone, Copy, PartialEq, Eq, Debug)]
@@ -137,31 +127,6 @@ unsafe extern "C" {
     safe fn yoksimert_fresh(width: u32) -> FlatMade;
 
     safe fn yoksimert_fresh_real() -> FlatDescription;
-
-    fn yoksimert_add_change(
-        description: FlatDescription,
-        bytes: *mut u8,
-        bytes_len: usize,
-        byte_start: usize,
-        indices: *mut u32,
-        indices_len: usize,
-        index_start: usize,
-        index: u32,
-        value: *const u8,
-        value_len: usize,
-    ) -> FlatAdded;
-
-    fn yoksimert_add_real(
-        description: FlatDescription,
-        bytes: *mut u8,
-        bytes_len: usize,
-        byte_start: usize,
-        indices: *mut u32,
-        indices_len: usize,
-        index_start: usize,
-        index: u32,
-        bits: u64,
-    ) -> FlatAdded;
 
     fn yoksimert_recorder_fresh(recorder: *mut FlatDescription, width: u32) -> u32;
 
@@ -304,61 +269,6 @@ pub fn fresh(width: u32) -> FlatMade {
 #[inline]
 pub fn fresh_real() -> FlatDescription {
     yoksimert_fresh_real()
-}
-
-/// Add a change: a string, one character for each level. Refused: 2, 3, 4, 5, 6, 7.
-#[inline]
-pub fn add_change(
-    description: FlatDescription,
-    bytes: &mut [u8],
-    byte_start: usize,
-    indices: &mut [u32],
-    index_start: usize,
-    index: u32,
-    value: &[u8],
-) -> FlatAdded {
-    // SAFETY: three slices, each by its own pointer and length; the two that are altered are lent to this call alone.
-    unsafe {
-        yoksimert_add_change(
-            description,
-            bytes.as_mut_ptr(),
-            bytes.len(),
-            byte_start,
-            indices.as_mut_ptr(),
-            indices.len(),
-            index_start,
-            index,
-            value.as_ptr(),
-            value.len(),
-        )
-    }
-}
-
-/// Add a change: a real, by the 64 bits of its double. Refused: 2, 3, 6, 7.
-#[inline]
-pub fn add_real(
-    description: FlatDescription,
-    bytes: &mut [u8],
-    byte_start: usize,
-    indices: &mut [u32],
-    index_start: usize,
-    index: u32,
-    bits: u64,
-) -> FlatAdded {
-    // SAFETY: two slices, each by its own pointer and length, lent to this call alone.
-    unsafe {
-        yoksimert_add_real(
-            description,
-            bytes.as_mut_ptr(),
-            bytes.len(),
-            byte_start,
-            indices.as_mut_ptr(),
-            indices.len(),
-            index_start,
-            index,
-            bits,
-        )
-    }
 }
 
 /// Fresh of a recorder that is lent, whatever it was; the answer is the number. Refused: 1, and the recorder is as it was.

@@ -42,10 +42,6 @@ fn other_numbers_are_refused() {
         }
         refused += 1;
         let (mut bytes, mut indices, mut out) = ([7; 40], [9; 4], [b'q'; 8]);
-        let added = raw::add_change(flat, &mut bytes, 0, &mut indices, 0, 1, b"1");
-        assert_eq!((added.number, added.next), (2, flat));
-        let added = raw::add_real(flat, &mut bytes, 0, &mut indices, 0, 1, 1);
-        assert_eq!((added.number, added.next), (2, flat));
         let mut recorder = flat;
         let number =
             raw::recorder_add_change(&mut recorder, &mut bytes, 0, &mut indices, 0, 1, b"1");
@@ -87,8 +83,10 @@ fn numbers_come_back_from_a_repeat() {
         }
         let (mut bytes, mut indices) = ([0; 8], [0; 2]);
         let string = vec![b'0'; flat.width as usize];
-        let added = raw::add_change(flat, &mut bytes, 0, &mut indices, 0, 5, &string);
-        assert_eq!((added.number, added.next), (0, flat));
+        let mut recorder = flat;
+        let number =
+            raw::recorder_add_change(&mut recorder, &mut bytes, 0, &mut indices, 0, 5, &string);
+        assert_eq!((number, recorder), (0, flat));
     });
 }
 
@@ -98,7 +96,7 @@ fn a_width_too_large_gives_no_description() {
     assert_eq!((made.number, is_description(made.description)), (1, false));
 }
 
-/// The calls with the recorder lent leave what those by value hand back.
+/// Fresh of a recorder that is lent leaves what Fresh by value hands back, and a refused call leaves the recorder as it was.
 #[test]
 fn a_lent_recorder_is_changed_in_place() {
     each(|flat| {
@@ -113,21 +111,24 @@ fn a_lent_recorder_is_changed_in_place() {
         assert_eq!(raw::recorder_fresh_real(&mut recorder), 0);
         assert_eq!(recorder, raw::fresh_real());
     });
-    let (mut by_value, mut lent) = (raw::fresh(2).description, raw::fresh(2).description);
+    let mut recorder = raw::fresh(2).description;
     let (mut bytes, mut indices) = ([0; 6], [0; 3]);
-    let (mut lent_bytes, mut lent_indices) = (bytes, indices);
-    let strings: [&[u8]; 6] = [b"01", b"x1", b"X1", b"q1", b"-", b"u-"];
-    for (index, string) in (3..).zip(strings) {
-        let added = raw::add_change(by_value, &mut bytes, 1, &mut indices, 0, index, string);
-        by_value = added.next;
-        let (out, times) = (&mut lent_bytes, &mut lent_indices);
-        let number = raw::recorder_add_change(&mut lent, out, 1, times, 0, index, string);
-        assert_eq!((number, lent), (added.number, by_value));
-        assert_eq!((lent_bytes, lent_indices), (bytes, indices));
-    }
-    assert_eq!((lent.count, lent.set), (2, 1));
+    let mut add = |string: &[u8], index| {
+        let before = recorder;
+        let number =
+            raw::recorder_add_change(&mut recorder, &mut bytes, 1, &mut indices, 0, index, string);
+        assert!(number == 0 || recorder == before, "{number}");
+        (number, recorder.count, recorder.set)
+    };
+    assert_eq!(add(b"01", 3), (0, 1, 0));
+    assert_eq!(add(b"x1", 4), (0, 2, 1));
+    assert_eq!(add(b"X1", 5), (0, 2, 1));
+    assert_eq!(add(b"q1", 6), (5, 2, 1));
+    assert_eq!(add(b"-", 7), (4, 2, 1));
+    assert_eq!(add(b"u-", 3), (6, 2, 1));
+    assert_eq!(add(b"u-", 8), (7, 2, 1));
     assert_eq!(
-        raw::recorder_add_real(&mut lent, &mut bytes, 1, &mut indices, 0, 9, 0),
+        raw::recorder_add_real(&mut recorder, &mut bytes, 1, &mut indices, 0, 9, 0),
         3
     );
 }

@@ -16,15 +16,14 @@ int main(void) {
     uint8_t bytes[8] = {0};
     uint32_t indices[4] = {0};
 
-    /* Rows 3 and 4, by value. */
-    yoksimert_made made = yoksimert_fresh(3);
-    yoksimert_added added = yoksimert_add_change(made.description, bytes, 8, 0, indices, 4, 0, 0, text("x01"), 3);
+    /* Rows 3 and 4. */
+    yoksimert_description recorder = yoksimert_fresh(3).description;
+    yoksimert_recorder_add_change(&recorder, bytes, 8, 0, indices, 4, 0, 0, text("x01"), 3);
     show("3", bytes, 1);
-    added = yoksimert_add_change(added.next, bytes, 8, 0, indices, 4, 0, 1, text("hz1"), 3);
+    yoksimert_recorder_add_change(&recorder, bytes, 8, 0, indices, 4, 0, 1, text("hz1"), 3);
     show("4", bytes, 4);
 
-    /* Row 8, with the recorder lent. */
-    yoksimert_description recorder = {0};
+    /* Row 8. */
     uint32_t numbers[5];
     numbers[0] = yoksimert_recorder_fresh(&recorder, 1);
     numbers[1] = yoksimert_recorder_add_change(&recorder, bytes, 8, 0, indices, 4, 0, 5, text("0"), 1);
@@ -40,19 +39,19 @@ int main(void) {
     printf("9: start %zu, %u, %s, next %u\n", offset.start, (unsigned)offset.elements, offset.time_match ? "equal" : "unequal", offset.next_index);
 
     /* Row 12: a slice of bit 0. */
-    made = yoksimert_fresh(2);
-    added = yoksimert_add_change(made.description, bytes, 8, 0, indices, 4, 0, 0, text("x1"), 2);
-    added = yoksimert_add_change(added.next, bytes, 8, 0, indices, 4, 0, 4, text("01"), 2);
+    yoksimert_recorder_fresh(&recorder, 2);
+    yoksimert_recorder_add_change(&recorder, bytes, 8, 0, indices, 4, 0, 0, text("x1"), 2);
+    yoksimert_recorder_add_change(&recorder, bytes, 8, 0, indices, 4, 0, 4, text("01"), 2);
     uint32_t names[8] = {0};
     uint64_t pieces[64] = {0};
     yoksimert_joined joined = yoksimert_concat_left((yoksimert_derivation){0}, names, pieces, 3, 0, 0);
     yoksimert_inputs inputs;
     memset(&inputs, 0, sizeof inputs);
     inputs.count = 1;
-    inputs.inputs[0].description = added.next;
+    inputs.inputs[0].description = recorder;
     uint8_t out[2] = {0};
     uint32_t out_indices[2] = {0};
-    made = yoksimert_derive(joined.next, names, pieces, inputs, bytes, 8, indices, 4, out, 2, out_indices, 2);
+    yoksimert_made made = yoksimert_derive(joined.next, names, pieces, inputs, bytes, 8, indices, 4, out, 2, out_indices, 2);
     show("12", out, made.description.count);
 
     /* The text of its first entry, and a comparison with itself. */
