@@ -29,6 +29,11 @@ use Rattle.layout.proofs.Sizes.{size-pos, len-le, mark-bits}
 use Rattle.layout.proofs.EntryLaws as laws
 use Rattle.layout.proofs.Entries.{value-lt, entry-number, sized, bytes}
 
+-- one byte is its number
+pub number-of-one : (l : List ℕ) (at : ℕ) → at < length l → getD l at 0 ≡ number 256 (part at 1 l)
+unfolding number
+number-of-one l at h = sym (ap (number 256) (part-cons l at 0 0 h ∙ ap (λ (r : List ℕ). getD l at 0 ∷ r) (part-nil l (at + 1))) ∙ omega arith)
+
 module _ {M own : States} {v : List ℕ} {room at : ℕ} (ok : Writable M own v room at) (few : entrySize (length v) M ≤ 8) where
   abbrev size : ℕ
   size = entrySize (length v) M

@@ -35,6 +35,9 @@ fn number_at(bytes: &[u8], at: usize, size: usize) -> u64
     requires { ⌜ (size ≤ 8) × (at + size ≤ length (now bytes)) ⌝ }
     ensures { λ r. ⌜ r ≡ number 256 (part at size (now (bytes .entry))) ⌝ }
 {
+    if size == 1 {
+        return bytes[at] as u64;
+    }
     let mut number: u64 = 0;
     let mut j = 0;
     while j < size {

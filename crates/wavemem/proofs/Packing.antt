@@ -61,6 +61,21 @@ module _ (room b : ℕ) (cs : List ℕ) (below : Below (2 ^ b) cs) (short : leng
       let k : c < 2 ^ b = rw is (below-at (2 ^ b) cs below i d more) in
       rw (so-far, shl-exact {a = n} (i * b) b room l f, or-shifted n b c k, number-more (2 ^ b) cs i d more, is)
 
+-- the same with the code of the next character
+module _ {s : States} {v : List ℕ} (ok : OneWord s v) (i : ℕ) (more : i < length v) where
+  more-codes : i < length (codesOf (foldAll v))
+  more-codes = rw (length-map, length-map) more
+
+  pub code-below : (n : ℕ) → Below n (codesOf (foldAll v)) → codeOf (fold (getD v i 0)) < n
+  code-below n below = rw (← code-at v i) (below-at n (codesOf (foldAll v)) below i (codeOf (fold 0)) more-codes)
+
+  pub next-code : (b working c : ℕ) → b ≡ bitsOf s → working ≡ number (2 ^ b) (take i (codesOf (foldAll v))) → c ≡ codeOf (fold (getD v i 0))
+      → bitOr (working * 2 ^ b % 2 ^ 64) c ≡ number (2 ^ b) (take (i + 1) (codesOf (foldAll v)))
+  next-code b working c e so-far is =
+      shifted 64 b (codesOf (foldAll v)) (rw e (ok .codes .below)) (rw (length-map, length-map, e) (ok .short)) i c (codeOf (fold 0)) working more-codes
+      (is ∙ sym (code-at v i))
+      so-far
+
 -- `(working << 8) | x`, x the number of eight digits
 pub eight-more : (cs : List ℕ) → Below 2 cs → length cs ≤ 64 → (from working x : ℕ) → from + 8 ≤ length cs → working ≡ number 2 (take from cs)
     → x ≡ number 2 (take 8 (drop from cs)) → bitOr (working * 2 ^ 8 % 2 ^ 64) x ≡ number 2 (take (from + 8) cs)
@@ -229,6 +244,9 @@ part-codes {s} m f v ok =
       known = rw codes-part (below-take 9 _ (below-drop 9 _ (ok .known) f) m);
       below = rw codes-part (below-take (2 ^ bitsOf s) _ (below-drop (2 ^ bitsOf s) _ (ok .below) f) m);
     }
+
+pub one-word : {s : States} {v : List ℕ} → OneByte s v → OneWord s v
+one-word ok = record { codes = ok .codes; short = omega (arith, ok .short) }
 
 pub byte-small : {s : States} {v : List ℕ} → OneByte s v → number (2 ^ bitsOf s) (codesOf (foldAll v)) < 256
 byte-small {s} {v} ok =

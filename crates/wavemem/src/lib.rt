@@ -20,16 +20,17 @@ fn bits_in_a_byte(states: States) -> usize
     }
 }
 
-// The number of so few characters that 64 bits hold their levels. None is foreign.
-fn levels_from_ascii(states: States, value: &[u8]) -> u64
-    requires { ⌜ OneWord states (now value) ⌝ }
+// The number of so few characters that 64 bits hold their levels, by a table of codes. None is foreign.
+fn levels_from_ascii(states: States, codes: &[u8; 32], value: &[u8]) -> u64
+    requires { ⌜ OneWord states (now value) × ByLowBits (now codes) ⌝ }
     ensures { λ r. ⌜ r ≡ number (2 ^ bitsOf states) (codesOf (foldAll (now (value .entry)))) ⌝ }
 {
     let bits = states.bits();
     let mut working: u64 = 0;
     let mut i = 0;
     while i < value.len() {
-        let code = wide(value::known_code(value[i]));
+        let low = value[i] & 31;
+        let code = wide(codes[low as usize]);
         i += 1;
         working = (working << bits) | code;
     }
@@ -54,20 +55,12 @@ fn byte_from_ascii(states: States, value: &[u8]) -> u8
     working
 }
 
-// The same by a table of codes, which a loop over whole bytes reads faster.
+// The same of a full byte, by the table, which a loop over whole bytes reads faster.
 fn byte_by_low_bits(states: States, codes: &[u8; 32], value: &[u8]) -> u8
     requires { ⌜ OneByte states (now value) × ByLowBits (now codes) ⌝ }
     ensures { λ r. ⌜ r ≡ number (2 ^ bitsOf states) (codesOf (foldAll (now (value .entry)))) ⌝ }
 {
-    let bits = states.bits();
-    let mut working: u8 = 0;
-    let mut i = 0;
-    while i < value.len() {
-        let low = value[i] & 31;
-        i += 1;
-        working = (working << bits) | codes[low as usize];
-    }
-    working
+    levels_from_ascii(states, codes, value) as u8
 }
 
 // Eight bytes as one number, the first one highest. Each has its own shift, so that it is compiled to one load.
@@ -103,19 +96,43 @@ fn byte_of_bits(value: &[u8]) -> u8
     ((z | (z >> 28)) & 255) as u8
 }
 
+// The number of at most 64 characters 0 and 1, by their lowest bits.
+fn few_bits(value: &[u8]) -> u64
+    requires { ⌜ OneWord States.Two (now value) ⌝ }
+    ensures { λ r. ⌜ r ≡ number 2 (codesOf (foldAll (now (value .entry)))) ⌝ }
+{
+    let mut working: u64 = 0;
+    let mut i = 0;
+    while i < value.len() {
+        let bit = wide(value[i] & 1);
+        i += 1;
+        working = (working << 1) | bit;
+    }
+    working
+}
+
 // The number of a string of 0 and 1, eight at a time behind the first.
 fn bits_from_ascii(value: &[u8]) -> u64
     requires { ⌜ OneWord States.Two (now value) ⌝ }
     ensures { λ r. ⌜ r ≡ number 2 (codesOf (foldAll (now (value .entry)))) ⌝ }
 {
     let mut from = value.len() % 8;
-    let mut working = levels_from_ascii(States::Two, &value[..from]);
+    let mut working = few_bits(&value[..from]);
     while from < value.len() {
         let to = from + 8;
         working = (working << 8) | wide(byte_of_bits(&value[from..to]));
         from = to;
     }
     working
+}
+
+// `levels_from_ascii` with the table of the letters.
+fn word_from_ascii(states: States, value: &[u8]) -> u64
+    requires { ⌜ OneWord states (now value) ⌝ }
+    ensures { λ r. ⌜ r ≡ number (2 ^ bitsOf states) (codesOf (foldAll (now (value .entry)))) ⌝ }
+{
+    let codes = value::LOW_BITS;
+    levels_from_ascii(states, &codes, value)
 }
 
 // The number of a string whose levels 64 bits hold.
@@ -125,8 +142,8 @@ pub fn number_from_ascii(states: States, value: &[u8]) -> u64
 {
     match states {
         States::Two => bits_from_ascii(value),
-        States::Four => levels_from_ascii(States::Four, value),
-        States::Nine => levels_from_ascii(States::Nine, value),
+        States::Four => word_from_ascii(States::Four, value),
+        States::Nine => word_from_ascii(States::Nine, value),
     }
 }
 

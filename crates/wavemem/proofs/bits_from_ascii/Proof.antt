@@ -19,13 +19,13 @@ Inv-loop value from₀ working₀ from working = (from ≤ length value) × ((le
 abbrev μ-loop : tie.MeasureT-loop
 μ-loop value from₀ working₀ from working = length value - from
 
-slice-aggregate-levels-from-ascii : tie.Need-slice-aggregate-levels-from-ascii Inv-loop μ-loop
-slice-aggregate-levels-from-ascii c =
+slice-aggregate-few-bits : tie.Need-slice-aggregate-few-bits Inv-loop μ-loop
+slice-aggregate-few-bits c =
     let v = now (c .before .before .args .value) in
     sym (length-take-le (length v % 8) v (omega arith))
 
-levels-from-ascii-requires : tie.Need-levels-from-ascii-requires Inv-loop μ-loop
-levels-from-ascii-requires c κs =
+few-bits-requires : tie.Need-few-bits-requires Inv-loop μ-loop
+few-bits-requires c κs =
     let s = c .before .before in
     let v = now (s .args .value) in
     record {
@@ -36,7 +36,7 @@ levels-from-ascii-requires c κs =
 loop-holds : tie.Need-loop-holds Inv-loop μ-loop
 loop-holds c =
     let v = now (c .before .before .before .args .value) in
-    (omega arith, omega arith, c .levels-from-ascii .ensures ∙ ap (number 2) (codes-part (length v % 8) 0 v))
+    (omega arith, omega arith, c .few-bits .ensures ∙ ap (number 2) (codes-part (length v % 8) 0 v))
 
 -- eight characters are left
 within : (c : tie.In-loop Inv-loop μ-loop) → c .before .loop .from + 8 ≤ length (now (c .before .before .before .before .before .args .value))
@@ -95,8 +95,8 @@ bits-from-ascii-spec =
     (tie.spec
     Inv-loop
     μ-loop
-    slice-aggregate-levels-from-ascii
-    levels-from-ascii-requires
+    slice-aggregate-few-bits
+    few-bits-requires
     loop-holds
     add-to
     sub-byte-of-bits

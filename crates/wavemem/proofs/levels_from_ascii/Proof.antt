@@ -1,25 +1,25 @@
 -- `wavemem::levels_from_ascii` meets its contract: the working number is that of the characters so far.
 -- Assumes nothing.
-use mathlib.Core.Path.{_≡_, refl, sym, ap, _∙_}
-use Prim.Native.Nat.{ℕ, _-_, _*_, _+_, _^_, _<_, _≤_, zero-le}
+use mathlib.Core.Path.{_≡_, refl, _∙_}
+use Prim.Native.Nat.{ℕ, _-_, _+_, _^_, _<_, _≤_, zero-le}
 use native.Mathlib.Omega.{arith}
 use borrow.Author.Needs.{needs}
 use denote.Ref.{now}
+use lib.Bits.{mask-lt}
 use lib.ListN.{length, getD, take, length-map}
 use lib.Seq.{take-all}
 use Rattle.value.specs.Digits.{number}
-use Rattle.value.specs.Level.{codeOf, fold, foldAll, codesOf, bitsOf}
-use Rattle.value.proofs.Digits.{below-at}
+use Rattle.value.specs.Level.{foldAll, codesOf}
 use Rattle.value.proofs.Levels.{bits-small}
-use Rattle.wavemem.proofs.Packing.{code-at, shifted}
+use Rattle.wavemem.proofs.Packing.{code-below, next-code}
 use Rattle.wavemem.proofs.levels_from_ascii.Statement.{statement}
 use Rattle.wavemem.proofs.levels_from_ascii.Tie as tie
 
 abbrev Inv-loop : tie.InvT-loop
-Inv-loop value bits working₀ i₀ working i = (i ≤ length value) × (working ≡ number (2 ^ bits) (take i (codesOf (foldAll value))))
+Inv-loop codes value bits working₀ i₀ working i = (i ≤ length value) × (working ≡ number (2 ^ bits) (take i (codesOf (foldAll value))))
 
 abbrev μ-loop : tie.MeasureT-loop
-μ-loop value bits working₀ i₀ working i = length value - i
+μ-loop codes value bits working₀ i₀ working i = length value - i
 
 bits-requires : tie.Need-bits-requires Inv-loop μ-loop
 bits-requires c κs = search needs
@@ -28,11 +28,14 @@ loop-holds : tie.Need-loop-holds Inv-loop μ-loop
 unfolding number
 loop-holds c = (zero-le, refl)
 
-shared-slice-read-known-code : tie.Need-shared-slice-read-known-code Inv-loop μ-loop
-shared-slice-read-known-code c = omega arith
+shared-slice-read-low : tie.Need-shared-slice-read-low Inv-loop μ-loop
+shared-slice-read-low c = omega arith
 
-known-code-requires : tie.Need-known-code-requires Inv-loop μ-loop
-known-code-requires c κs = search needs
+cast-wide : tie.Need-cast-wide Inv-loop μ-loop
+cast-wide c = omega (arith, mask-lt (getD (now (c .before .before .before .before .before .args .value)) (c .before .before .loop .i) 0) 5)
+
+element-copy-out-wide : tie.Need-element-copy-out-wide Inv-loop μ-loop
+element-copy-out-wide c = mask-lt (getD (now (c .before .before .before .before .before .args .value)) (c .before .before .loop .i) 0) 5
 
 wide-requires : tie.Need-wide-requires Inv-loop μ-loop
 wide-requires c κs = search needs
@@ -42,31 +45,29 @@ add-i c = omega arith
 
 cast-working : tie.Need-cast-working Inv-loop μ-loop
 cast-working c =
-    let a = c .before .before .before .before in
-    omega (arith, a .before .bits .ensures, bits-small (a .before .before .before .args .states))
+    let a = c .before .before .before .before .before in
+    omega (arith, a .bits .ensures, bits-small (a .before .before .args .states))
 
 shl-working : tie.Need-shl-working Inv-loop μ-loop
 shl-working c =
-    let a = c .before .before .before .before in
-    omega (arith, a .before .bits .ensures, bits-small (a .before .before .before .args .states))
+    let a = c .before .before .before .before .before in
+    omega (arith, a .bits .ensures, bits-small (a .before .before .args .states))
 
 loop-less : tie.Need-loop-less Inv-loop μ-loop
 loop-less c = omega arith
 
 loop-again : tie.Need-loop-again Inv-loop μ-loop
 loop-again c =
-    let k = c .before in
-    let a = k .before .before .before in
+    let k = c .before .before in
+    let a = k .before .before in
     let s = a .before .before .before in
-    let v = now (s .args .value) in
-    let x = getD v (a .loop .i) 0 in
-    let e = a .before .bits .ensures in
-    let m : a .loop .i < length (codesOf (foldAll v)) = rw (length-map, length-map) (omega arith) in
-    let known : codeOf (fold x) < 9 = rw (← code-at v (a .loop .i)) (below-at 9 (codesOf (foldAll v)) (s .pre .codes .known) (a .loop .i) (codeOf (fold 0)) m) in (
+    let i = a .loop .i in
+    let more = k .before .loop-test .taken in
+    let ok = s .pre .0 in (
       omega arith,
-      shifted 64 (a .before .bits .result) (codesOf (foldAll v)) (rw e (s .pre .codes .below)) (rw (length-map, length-map, e) (s .pre .short))
-          (a .loop .i) _ (codeOf (fold 0)) (a .loop .working) m (c .wide .ensures ∙ k .known-code .ensures known ∙ sym (code-at v (a .loop .i)))
-          (a .loop .inv .1),
+      next-code ok i more (a .before .bits .result) (a .loop .working) _ (a .before .bits .ensures) (a .loop .inv .1)
+          (c .wide .ensures
+          ∙ s .pre .1 .here (getD (now (s .args .value)) i 0) (omega (arith, k .shared-slice-known2 .given i)) (code-below ok i more 9 (ok .codes .known))),
     )
 
 returns : tie.Need-returns Inv-loop μ-loop
@@ -83,8 +84,9 @@ levels-from-ascii-spec =
     μ-loop
     bits-requires
     loop-holds
-    shared-slice-read-known-code
-    known-code-requires
+    shared-slice-read-low
+    cast-wide
+    element-copy-out-wide
     wide-requires
     add-i
     cast-working

@@ -13,23 +13,23 @@ bits-from-ascii-requires c κs = rw (c .enum-told .given .1) at (c .before .befo
 enum-told-2 : tie.Need-enum-told-2
 enum-told-2 c = search needs
 
-levels-from-ascii-requires : tie.Need-levels-from-ascii-requires
-levels-from-ascii-requires c κs = rw (c .enum-told2 .given .1) at (c .before .before .before .pre)
+word-from-ascii-requires : tie.Need-word-from-ascii-requires
+word-from-ascii-requires c κs = rw (c .enum-told2 .given .1) at (c .before .before .before .pre)
 
 enum-told-3 : tie.Need-enum-told-3
 enum-told-3 c = search needs
 
-levels-from-ascii-requires-2 : tie.Need-levels-from-ascii-requires-2
-levels-from-ascii-requires-2 c κs = rw (c .enum-told3 .given .1) at (c .before .before .before .pre)
+word-from-ascii-requires-2 : tie.Need-word-from-ascii-requires-2
+word-from-ascii-requires-2 c κs = rw (c .enum-told3 .given .1) at (c .before .before .before .pre)
 
 returns : tie.Need-returns
 returns c = rw (c .before .enum-told .given .1) (c .bits-from-ascii .ensures)
 
 returns-2 : tie.Need-returns-2
-returns-2 c = rw (c .before .enum-told2 .given .1) (c .levels-from-ascii .ensures)
+returns-2 c = rw (c .before .enum-told2 .given .1) (c .word-from-ascii .ensures)
 
 returns-3 : tie.Need-returns-3
-returns-3 c = rw (c .before .enum-told3 .given .1) (c .levels-from-ascii2 .ensures)
+returns-3 c = rw (c .before .enum-told3 .given .1) (c .word-from-ascii2 .ensures)
 
 pub number-from-ascii-spec : {M : Type 1} → statement M
 number-from-ascii-spec =
@@ -38,9 +38,9 @@ number-from-ascii-spec =
     enum-told
     bits-from-ascii-requires
     enum-told-2
-    levels-from-ascii-requires
+    word-from-ascii-requires
     enum-told-3
-    levels-from-ascii-requires-2
+    word-from-ascii-requires-2
     returns
     returns-2
     returns-3)

@@ -9,7 +9,7 @@ use Rattle.value.specs.Digits.{number}
 use Rattle.value.specs.Slice.{part}
 use Rattle.value.proofs.Digits.{below-all}
 use Rattle.value.proofs.Slices.{part-nil}
-use Rattle.layout.proofs.Numbers.{number-next}
+use Rattle.layout.proofs.Numbers.{number-of-one, number-next}
 use Rattle.layout.proofs.number.number_at.Statement.{statement}
 use Rattle.layout.proofs.number.number_at.Tie as tie
 
@@ -18,6 +18,18 @@ Inv-loop bytes at size number₀ j₀ n j = (j ≤ size) × (n ≡ number 256 (p
 
 abbrev μ-loop : tie.MeasureT-loop
 μ-loop bytes at size number₀ j₀ n j = size - j
+
+shared-slice-read-result : tie.Need-shared-slice-read-result Inv-loop μ-loop
+shared-slice-read-result c = omega arith
+
+cast-result : tie.Need-cast-result Inv-loop μ-loop
+cast-result c = omega (arith, c .shared-slice-known .given (c .before .before .args .at))
+
+returns : tie.Need-returns Inv-loop μ-loop
+returns c =
+    let x = c .before .before .args in
+    let b = now (x .bytes) in
+    number-of-one b (x .at) (omega arith) ∙ ap (λ (n : ℕ). number 256 (part (x .at) n b)) (sym (c .before .if1 .taken))
 
 loop-holds : tie.Need-loop-holds Inv-loop μ-loop
 unfolding number
@@ -30,7 +42,7 @@ shared-slice-read-number : tie.Need-shared-slice-read-number Inv-loop μ-loop
 shared-slice-read-number c = omega arith
 
 cast-number : tie.Need-cast-number Inv-loop μ-loop
-cast-number c = omega (arith, c .shared-slice-known .given (c .before .before .before .args .at + c .before .before .loop .j))
+cast-number c = omega (arith, c .shared-slice-known2 .given (c .before .before .before .before .args .at + c .before .before .loop .j))
 
 add-j : tie.Need-add-j Inv-loop μ-loop
 add-j c = omega arith
@@ -41,15 +53,15 @@ loop-less c = omega arith
 loop-again : tie.Need-loop-again Inv-loop μ-loop
 loop-again c =
     let a = c .before .before in
-    let x = a .before .args in
+    let x = a .before .before .args in
     let b = now (x .bytes) in (
       omega arith,
-      number-next b (below-all 256 b (λ i. omega (arith, c .shared-slice-known .given i))) (x .at) (a .loop .j) (a .loop .number) (omega arith) (omega arith) (a .loop .inv .1),
+      number-next b (below-all 256 b (λ i. omega (arith, c .shared-slice-known2 .given i))) (x .at) (a .loop .j) (a .loop .number) (omega arith) (omega arith) (a .loop .inv .1),
     )
 
-returns : tie.Need-returns Inv-loop μ-loop
-returns c =
-    let x = c .before .before .args in
+returns-2 : tie.Need-returns-2 Inv-loop μ-loop
+returns-2 c =
+    let x = c .before .before .before .args in
     let e : c .before .loop .j ≡ x .size = omega arith in
     c .before .loop .inv .1 ∙ ap (λ (j : ℕ). number 256 (part (x .at) j (now (x .bytes)))) e
 
@@ -59,6 +71,9 @@ number-at-spec =
     (tie.spec
     Inv-loop
     μ-loop
+    shared-slice-read-result
+    cast-result
+    returns
     loop-holds
     add-number
     shared-slice-read-number
@@ -66,4 +81,4 @@ number-at-spec =
     add-j
     loop-less
     loop-again
-    returns)
+    returns-2)
