@@ -37,9 +37,3 @@ not-bad d l e =
     let a = widthStands (d .encoding) in
     let t : T (a && fits d l) = to-T (a && fits d l) (not-false (a && fits d l) e) in
     (from-T a (and-left a (fits d l) t), from-T (fits d l) (and-right a (fits d l) t))
-
--- the record that stands in a call's slices after it
-abbrev pub leftIn : Lent → Recorder → Kept
-leftIn l r =
-    keptIn (r .description)
-    (record { bytes = r .bytes; byteStart = l .byteStart; indices = r .indices; indexStart = l .indexStart })

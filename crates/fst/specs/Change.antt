@@ -15,7 +15,7 @@ use Rattle.fst.specs.declared.Description.{Description}
 use Rattle.fst.specs.declared.Added.{Added}
 use Rattle.fst.specs.Refusal.{numberOf, Test, _⇐_, given, tried, Outcome, outcome}
 use Rattle.layout.specs.Entry.{entryOf, widenAll}
-use Rattle.fst.specs.Record.{Lent, Kept, sizeOf, keptIn, fits, isBad}
+use Rattle.fst.specs.Record.{Lent, Held, Kept, sizeOf, keptIn, fits, isBad}
 
 -- a change: a string's bytes, or a real's 64 bits
 pub data Change : Type 0 where
@@ -96,10 +96,8 @@ refusals d l i c =
     ∷ []
 
 -- what a call has in hand: the description and the two slices, whole
-pub record Recorder : Type 0 where
-  pub description : Description
-  pub bytes : List ℕ
-  pub indices : List ℕ
+abbrev pub Recorder : Type 0
+Recorder = Held Description
 
 -- a record's used part laid over the slices: "Bytes and indices past the used part never alter"
 unfoldable pub stored : Lent → Kept → Recorder

@@ -28,11 +28,15 @@ pub record Lent : Type 0 where
   pub indices : List ℕ
   pub indexStart : ℕ
 
--- a record by itself: its description and its used part
-pub record Kept : Type 0 where
-  pub description : Description
+-- a description, of one type or another, with bytes and time indices
+pub record Held (D : Type 0) : Type 0 where
+  pub description : D
   pub bytes : List ℕ
   pub indices : List ℕ
+
+-- a record by itself: its description and its used part
+abbrev pub Kept : Type 0
+Kept = Held Description
 
 -- an entry's bytes: "Event: width 0, no bytes"; "Real: 8 bytes"
 abbrev pub sizeOf : Encoding → ℕ

@@ -8,7 +8,7 @@ use mathlib.Core.List.{List}
 use borrow.Author.Tests.{le-ltb}
 use Rattle.fst.specs.Refusal.{given}
 use Rattle.fst.specs.Record.{maxWidth, empty, encodingFor, fresh}
-use Rattle.runs.specs.Runs.{Call, Run, freshKept, after, fed, historyOf, historyLaidOut, Same}
+use Rattle.runs.specs.Runs.{byValue, Call, Run, freshKept, after, fed, historyOf, historyLaidOut, Same}
 use Rattle.fst.proofs.Refusals.{passes}
 use Rattle.layout.proofs.Entries.{laws}
 use Rattle.runs.proofs.Runs as runs
@@ -20,11 +20,11 @@ fresh-gives zero a b = absurd (omega arith)
 fresh-gives (suc w) a b = passes (given (empty (encodingFor (suc w)))) _ (le-ltb maxWidth (suc w) b, tt)
 
 -- "After every run the record is its history laid out"
-pub run-is-laid-out : (w : ℕ) → 1 ≤ w → (calls : List Call) → Run (freshKept w) calls
-    → after (freshKept w) calls ≡ historyLaidOut w (historyOf (fed (freshKept w) calls))
+pub run-is-laid-out : (w : ℕ) → 1 ≤ w → (calls : List Call) → Run byValue (freshKept w) calls
+    → after byValue (freshKept w) calls ≡ historyLaidOut w (historyOf (fed byValue (freshKept w) calls))
 run-is-laid-out w h calls r = runs.layout w (laws w h) calls r
 
 -- two runs of one width leave equal records just where their histories are equal
-pub demand-3 : (w : ℕ) → 1 ≤ w → (xs ys : List Call) → Run (freshKept w) xs → Run (freshKept w) ys
-    → Same (after (freshKept w) xs) (after (freshKept w) ys) ↔ (historyOf (fed (freshKept w) xs) ≡ historyOf (fed (freshKept w) ys))
+pub demand-3 : (w : ℕ) → 1 ≤ w → (xs ys : List Call) → Run byValue (freshKept w) xs → Run byValue (freshKept w) ys
+    → Same byValue (after byValue (freshKept w) xs) (after byValue (freshKept w) ys) ↔ (historyOf (fed byValue (freshKept w) xs) ≡ historyOf (fed byValue (freshKept w) ys))
 demand-3 w h xs ys r q = runs.demand3 w (laws w h) xs ys r q

@@ -10,8 +10,7 @@ use Rattle.value.proofs.Slices.{same-refl}
 use Rattle.fst.specs.declared.Description.{Description}
 use Rattle.fst.specs.Record.{Lent, Kept, keptIn}
 use Rattle.fst.specs.Change.{Change, text, real, withChange, refusals, stored, addChange}
-use Rattle.runs.specs.Runs.{Call, called, leaves, after, Fed, fed, Pair, endsLike, sameString, fedOne, historyOf}
-use Rattle.fst.proofs.Records.{leftIn}
+use Rattle.runs.specs.Runs.{byValue, Call, called, leftIn, leaves, after, Fed, fed, Pair, endsLike, sameString, fedOne, historyOf}
 use Rattle.runs.proofs.Joined.{joined-grows, joined-ends}
 use Rattle.fst.proofs.Refusals.{refused-old}
 
@@ -24,10 +23,10 @@ refused-unchanged d l i c n e =
     (stored l (withChange (keptIn d l) i c)) n e
 
 -- so the record that it found there stays
-pub refused-leaves : (k : Kept) (c : Call) → keptIn (k .description) (c .lent) ≡ k → (n : ℕ) → (called k c) .refused ≡ suc n → leaves k c ≡ k
+pub refused-leaves : (k : Kept) (c : Call) → keptIn (k .description) (c .lent) ≡ k → (n : ℕ) → (called byValue k c) .refused ≡ suc n → leaves byValue k c ≡ k
 unfolding leaves
 refused-leaves k c held n e =
-    ap (leftIn (c .lent)) (refused-unchanged (k .description) (c .lent) (c .index) (c .change) n e) ∙ held
+    ap (leftIn byValue (c .lent)) (refused-unchanged (k .description) (c .lent) (c .index) (c .change) n e) ∙ held
 
 -- ---- a history grows at its end, and nowhere else
 
@@ -44,16 +43,16 @@ all-grow h (f ∷ fs) =
     let rest = all-grow (fedOne h f) fs in
     (one .0 ++ rest .0, rest .1 ∙ ap (λ (g : List Pair). g ++ rest .0) (one .1) ∙ append-assoc h (one .0) (rest .0))
 
-fed-append : (k : Kept) (cs ds : List Call) → fed k (cs ++ ds) ≡ fed k cs ++ fed (after k cs) ds
+fed-append : (k : Kept) (cs ds : List Call) → fed byValue k (cs ++ ds) ≡ fed byValue k cs ++ fed byValue (after byValue k cs) ds
 unfolding fed after
 fed-append k [] ds = refl
-fed-append k (c ∷ cs) ds = rw (fed-append (leaves k c) cs ds)
+fed-append k (c ∷ cs) ds = rw (fed-append (leaves byValue k c) cs ds)
 
 -- no later call, accepted or refused, loses or alters a pair
-pub history-grows : (k : Kept) (cs ds : List Call) → (t : List Pair) × (historyOf (fed k (cs ++ ds)) ≡ historyOf (fed k cs) ++ t)
+pub history-grows : (k : Kept) (cs ds : List Call) → (t : List Pair) × (historyOf (fed byValue k (cs ++ ds)) ≡ historyOf (fed byValue k cs) ++ t)
 history-grows k cs ds =
-    let rest = all-grow (historyOf (fed k cs)) (fed (after k cs) ds) in
-    (rest .0, ap historyOf (fed-append k cs ds) ∙ foldl-append fedOne [] (fed k cs) (fed (after k cs) ds) ∙ rest .1)
+    let rest = all-grow (historyOf (fed byValue k cs)) (fed byValue (after byValue k cs) ds) in
+    (rest .0, ap historyOf (fed-append k cs ds) ∙ foldl-append fedOne [] (fed byValue k cs) (fed byValue (after byValue k cs) ds) ∙ rest .1)
 
 -- ---- and an accepted string is its last
 

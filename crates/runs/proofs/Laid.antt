@@ -18,13 +18,12 @@ use Rattle.fst.specs.declared.Encoding.the-variants.{BitVector}
 use Rattle.layout.specs.Entry.{entrySize, entryOf, widenAll}
 use Rattle.fst.specs.Record.{Lent, Kept, largestIn, keptIn}
 use Rattle.fst.specs.Change.{repeats, appended, stored}
-use Rattle.runs.specs.Runs.{Step, indexOf, entriesOf, laidOut, endsLike, joined, Same}
+use Rattle.runs.specs.Runs.{byValue, leftIn, Step, indexOf, entriesOf, laidOut, endsLike, joined, Same}
 use Rattle.layout.proofs.EntryLaws.{Codes, EntryLaws}
-use Rattle.fst.proofs.Records.{leftIn}
 use Rattle.runs.proofs.Joined.{Every, length-snoc}
 
 -- equal records are equal in the sense of demand 3
-pub equal-same : (k l : Kept) → k ≡ l → Same k l
+pub equal-same : (k l : Kept) → k ≡ l → Same byValue k l
 equal-same k l e =
     record {
       indices = ap (λ (x : Kept). x .indices) e;
@@ -139,7 +138,7 @@ module _ (w : ℕ) (L : EntryLaws w) where
 
   -- two lists laid out are equal records only where they are equal lists under one set
   pub laid-same : (M N : States) (l m : List Step) → Every (Sound w M) l → Every (Sound w N) m
-      → Same (laidOut w M l) (laidOut w N m) → (M ≡ N) × (l ≡ m)
+      → Same byValue (laidOut w M l) (laidOut w N m) → (M ≡ N) × (l ≡ m)
   unfolding laidOut
   laid-same M N l m a b s = (
     s .largest,
@@ -148,7 +147,7 @@ module _ (w : ℕ) (L : EntryLaws w) where
 
   -- a list laid over two slices is found there
   pub laid-found : (M : States) (l : List Step) (lent : Lent) → lent .byteStart ≤ length (lent .bytes) → lent .indexStart ≤ length (lent .indices)
-      → leftIn lent (stored lent (laidOut w M l)) ≡ laidOut w M l
+      → leftIn byValue lent (stored lent (laidOut w M l)) ≡ laidOut w M l
   unfolding keptIn laidOut stored
   laid-found M l lent a b =
       ap₂ (λ (bytes indices : List ℕ). record { description = record { encoding = BitVector w M; count = length l }; bytes = bytes; indices = indices })

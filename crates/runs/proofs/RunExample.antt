@@ -15,7 +15,7 @@ use Rattle.fst.specs.Refusal.{tried}
 use Rattle.layout.specs.Entry.{entrySize, entryOf, markByte, unmarked, levelBytes, widenEntry, widenAll}
 use Rattle.fst.specs.Record.{keptIn, widthStands, fitsBytes, fits, isBad}
 use Rattle.fst.specs.Change.{text, isOtherKind, isOtherLength, isForeign, isBelowLast, repeats, appended, changed, refusals, stored, addChange}
-use Rattle.runs.specs.Runs.{Call, leaves, Run, freshKept, after, Fed, fed, endsLike, joined, historyOf}
+use Rattle.runs.specs.Runs.{byValue, Call, leaves, Run, freshKept, after, Fed, fed, endsLike, joined, historyOf}
 
 abbrev call : List ℕ → ℕ → List ℕ → ℕ → ℕ → String → Call
 call bytes byteStart indices indexStart i s =
@@ -36,13 +36,13 @@ calls′ =
 abbrev accepted : Fed → Bool
 accepted f = f .accepted
 
-pub there : Run (freshKept 1) calls′
+pub there : Run byValue (freshKept 1) calls′
 unfolding Run leaves number digits part overlay same any placeIn codeOf fold setOf leastOf tried entrySize entryOf markByte unmarked levelBytes widenEntry widenAll keptIn widthStands fitsBytes fits isBad isOtherKind isOtherLength isForeign isBelowLast repeats appended changed refusals stored addChange
 there = (refl, (refl, (refl, (refl, tt))))
 
-pub ends : (map accepted (fed (freshKept 1) calls′) ≡ true ∷ false ∷ true ∷ true ∷ [])
-    × (historyOf (fed (freshKept 1) calls′) ≡ record { index = 4; string = chars "x" } ∷ record { index = 9; string = chars "h" } ∷ [])
-    × (after (freshKept 1) calls′
+pub ends : (map accepted (fed byValue (freshKept 1) calls′) ≡ true ∷ false ∷ true ∷ true ∷ [])
+    × (historyOf (fed byValue (freshKept 1) calls′) ≡ record { index = 4; string = chars "x" } ∷ record { index = 9; string = chars "h" } ∷ [])
+    × (after byValue (freshKept 1) calls′
     ≡ record { description = record { encoding = BitVector 1 Nine; count = 2 }; bytes = 0x42 ∷ 0x84 ∷ []; indices = 4 ∷ 9 ∷ [] })
 unfolding after fed endsLike joined leaves number digits part overlay same any placeIn codeOf fold setOf leastOf tried entrySize entryOf markByte unmarked levelBytes widenEntry widenAll keptIn widthStands fitsBytes fits isBad isOtherKind isOtherLength isForeign isBelowLast repeats appended changed refusals stored addChange
 ends = (refl, refl, refl)

@@ -9,7 +9,7 @@ use mathlib.Core.Bool.{Bool, true, false, cond, true≢false}
 use mathlib.Core.List.{List, [], _∷_, _++_, map, foldl, map-append}
 use lib.Dec.{T, eqb}
 use lib.ListN.{length, length-map}
-use borrow.Author.Tests.{not-false, eqb-true}
+use borrow.Author.Tests.{not-false, eqb-true, ne-eqb}
 use Rattle.value.specs.declared.States.{States}
 use Rattle.value.specs.declared.States.the-variants.{Two}
 use Rattle.value.specs.Level.{fold, foldAll, codeOf, codesOf, markOf, join, leastOf}
@@ -22,10 +22,10 @@ use Rattle.fst.specs.Refusal.{Reply, refused, given, Outcome, outcome}
 use Rattle.layout.specs.Entry.{entryOf}
 use Rattle.fst.specs.Record.{Lent, Kept, keptIn}
 use Rattle.fst.specs.Change.{Change, text, real, isOtherKind, isOtherLength, isForeign, changed, withChange, refusals, Recorder, stored, addChange}
-use Rattle.runs.specs.Runs.{Call, called, leaves, Run, freshKept, after, Fed, isZero, fed, Pair, endsLike, joined, sameString, fedOne, historyOf, Step, entriesOf, laidOut, stepOf, largestOf, historyLaidOut, Same}
+use Rattle.runs.specs.Runs.{byValue, Call, called, leftIn, leaves, Run, freshKept, after, Fed, fed, Pair, endsLike, joined, sameString, fedOne, historyOf, Step, entriesOf, laidOut, stepOf, largestOf, historyLaidOut, Same}
 use Rattle.layout.proofs.EntryLaws.{EntryLaws}
 use Rattle.fst.proofs.Refusals.{Passed, Result, through, stopped, result}
-use Rattle.fst.proofs.Records.{Fits, fits-room, not-bad, leftIn}
+use Rattle.fst.proofs.Records.{Fits, fits-room, not-bad}
 use Rattle.runs.proofs.Joined.{Every, every-snoc, every-map, joined-map, joined-by}
 use Rattle.runs.proofs.Laid.{entryFor, sameEntry, Sound, entry-tells, equal-same, laid-same, laid-found, step-appended}
 
@@ -122,7 +122,7 @@ steps-tell (p ∷ h) = ap (λ (l : List Pair). p ∷ l) (steps-tell h)
 
 -- what a call feeds the history
 abbrev pub fedBy : Kept → Call → Fed
-fedBy k c = record { index = c .index; change = c .change; accepted = isZero ((called k c) .refused) }
+fedBy k c = record { index = c .index; change = c .change; accepted = eqb ((called byValue k c) .refused) 0 }
 
 module _ (w : ℕ) (L : EntryLaws w) where
   -- entries repeat just where strings do
@@ -156,13 +156,13 @@ module _ (w : ℕ) (L : EntryLaws w) where
   -- a reply and what the history makes of it agree
   abbrev Agrees : List Pair → Lent → ℕ → Change → Outcome Recorder → Type 0
   Agrees h l i ch o =
-      let f : Fed = record { index = i; change = ch; accepted = isZero (o .refused) } in
-      (leftIn l (o .left) ≡ historyLaidOut w (fedOne h f)) × Every (Spelt w) (fedOne h f)
+      let f : Fed = record { index = i; change = ch; accepted = eqb (o .refused) 0 } in
+      (leftIn byValue l (o .left) ≡ historyLaidOut w (fedOne h f)) × Every (Spelt w) (fedOne h f)
 
   refused-agrees : (h : List Pair) → Every (Spelt w) h → (l : Lent) (i : ℕ) (ch : Change)
       → keptIn ((historyLaidOut w h) .description) l ≡ historyLaidOut w h → (n : ℕ)
       → Agrees h l i ch (record { refused = suc n; left = record { description = (historyLaidOut w h) .description; bytes = l .bytes; indices = l .indices } })
-  refused-agrees h g l i (text s) held n = (held, g)
+  refused-agrees h g l i (text s) held n = rw (ne-eqb (suc n) 0 (λ e. omega (arith, e))) (held, g)
   refused-agrees h g l i (real x) held n = (held, g)
 
   given-agrees : (h : List Pair) → Every (Spelt w) h → (l : Lent) (i : ℕ) (ch : Change)
@@ -180,8 +180,8 @@ module _ (w : ℕ) (L : EntryLaws w) where
         letters = all-below (codesOf (foldAll s)) (ps .1 .1 .1 .0);
       } in
       let h′ = joined sameString h p in (
-        ap (λ (k : Kept). leftIn l (stored l (withChange k i (text s)))) held
-            ∙ ap (λ (k : Kept). leftIn l (stored l k)) (string-joins h g i s sp)
+        ap (λ (k : Kept). leftIn byValue l (stored l (withChange k i (text s)))) held
+            ∙ ap (λ (k : Kept). leftIn byValue l (stored l k)) (string-joins h g i s sp)
             ∙ laid-found w L (largestSet h′) (map stepOf h′) l (omega arith) (omega arith),
         joined-spelt w h p g sp,
       )
@@ -204,31 +204,31 @@ module _ (w : ℕ) (L : EntryLaws w) where
       go (stopped n e) = subst (λ (r : Reply Recorder). Agrees h l i ch (outcome old r)) (sym e) (refused-agrees h g l i ch held n)
 
   -- any calls, from a record that is a history laid out
-  layout-from : (h : List Pair) → Every (Spelt w) h → (k : Kept) → k ≡ historyLaidOut w h → (cs : List Call) → Run k cs
-      → (after k cs ≡ historyLaidOut w (foldl fedOne h (fed k cs))) × Every (Spelt w) (foldl fedOne h (fed k cs))
+  layout-from : (h : List Pair) → Every (Spelt w) h → (k : Kept) → k ≡ historyLaidOut w h → (cs : List Call) → Run byValue k cs
+      → (after byValue k cs ≡ historyLaidOut w (foldl fedOne h (fed byValue k cs))) × Every (Spelt w) (foldl fedOne h (fed byValue k cs))
   unfolding Run after fed leaves
   layout-from h g k e [] r = (e, g)
   layout-from h g k e (c ∷ cs) r =
-      let st = subst (λ (x : Kept). keptIn (x .description) (c .lent) ≡ x → Agrees h (c .lent) (c .index) (c .change) (called x c)) (sym e)
+      let st = subst (λ (x : Kept). keptIn (x .description) (c .lent) ≡ x → Agrees h (c .lent) (c .index) (c .change) (called byValue x c)) (sym e)
       (call-agrees h g (c .lent) (c .index) (c .change)) (r .0) in
-      layout-from (fedOne h (fedBy k c)) (st .1) (leaves k c) (st .0) cs (r .1)
+      layout-from (fedOne h (fedBy k c)) (st .1) (leaves byValue k c) (st .0) cs (r .1)
 
-  from-fresh : (cs : List Call) → Run (freshKept w) cs
-      → let h = historyOf (fed (freshKept w) cs) in
-      (after (freshKept w) cs ≡ historyLaidOut w h) × Every (Spelt w) h
+  from-fresh : (cs : List Call) → Run byValue (freshKept w) cs
+      → let h = historyOf (fed byValue (freshKept w) cs) in
+      (after byValue (freshKept w) cs ≡ historyLaidOut w h) × Every (Spelt w) h
   unfolding historyLaidOut laidOut largestOf entriesOf
   from-fresh cs r = layout-from [] tt (freshKept w) refl cs r
 
   -- after every run the record is its history laid out
-  pub layout : (cs : List Call) → Run (freshKept w) cs → after (freshKept w) cs ≡ historyLaidOut w (historyOf (fed (freshKept w) cs))
+  pub layout : (cs : List Call) → Run byValue (freshKept w) cs → after byValue (freshKept w) cs ≡ historyLaidOut w (historyOf (fed byValue (freshKept w) cs))
   layout cs r = (from-fresh cs r) .0
 
   -- and each string of the history is w levels in small letters
-  pub spelt : (cs : List Call) → Run (freshKept w) cs → Every (Spelt w) (historyOf (fed (freshKept w) cs))
+  pub spelt : (cs : List Call) → Run byValue (freshKept w) cs → Every (Spelt w) (historyOf (fed byValue (freshKept w) cs))
   spelt cs r = (from-fresh cs r) .1
 
   -- two histories laid out are equal records only where they are equal
-  history-same : (h g : List Pair) → Every (Spelt w) h → Every (Spelt w) g → Same (historyLaidOut w h) (historyLaidOut w g) → h ≡ g
+  history-same : (h g : List Pair) → Every (Spelt w) h → Every (Spelt w) g → Same byValue (historyLaidOut w h) (historyLaidOut w g) → h ≡ g
   unfolding historyLaidOut
   history-same h g a b s =
       sym (steps-tell h)
@@ -237,10 +237,10 @@ module _ (w : ℕ) (L : EntryLaws w) where
       (steps-sound w (largestSet h) h a (omega arith)) (steps-sound w (largestSet g) g b (omega arith)) s) .1)
       ∙ steps-tell g
 
-  pub demand3 : (xs ys : List Call) → Run (freshKept w) xs → Run (freshKept w) ys
-      → Same (after (freshKept w) xs) (after (freshKept w) ys) ↔ (historyOf (fed (freshKept w) xs) ≡ historyOf (fed (freshKept w) ys))
+  pub demand3 : (xs ys : List Call) → Run byValue (freshKept w) xs → Run byValue (freshKept w) ys
+      → Same byValue (after byValue (freshKept w) xs) (after byValue (freshKept w) ys) ↔ (historyOf (fed byValue (freshKept w) xs) ≡ historyOf (fed byValue (freshKept w) ys))
   demand3 xs ys r q = (
-    (λ s. history-same (historyOf (fed (freshKept w) xs)) (historyOf (fed (freshKept w) ys)) (spelt xs r) (spelt ys q)
+    (λ s. history-same (historyOf (fed byValue (freshKept w) xs)) (historyOf (fed byValue (freshKept w) ys)) (spelt xs r) (spelt ys q)
         (rw (← layout xs r, ← layout ys q) s)),
-    (λ e. equal-same (after (freshKept w) xs) (after (freshKept w) ys) (layout xs r ∙ ap (historyLaidOut w) e ∙ sym (layout ys q))),
+    (λ e. equal-same (after byValue (freshKept w) xs) (after byValue (freshKept w) ys) (layout xs r ∙ ap (historyLaidOut w) e ∙ sym (layout ys q))),
   )

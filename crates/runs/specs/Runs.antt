@@ -1,21 +1,34 @@
 -- Document 01, "Runs and histories, for demand 3".
 -- Assumes nothing.
-use Prim.Native.Nat.{ℕ, zero, suc}
+use Prim.Native.Nat.{ℕ}
 use mathlib.Core.Path.{_≡_}
 use mathlib.Core.Bool.{Bool, true, false, cond}
 use mathlib.Core.List.{List, [], _∷_, _++_, map, foldl}
+use lib.Dec.{eqb}
 use lib.ListN.{length}
 use Rattle.value.specs.declared.States.{States}
 use Rattle.value.specs.declared.States.the-variants.{Two}
 use Rattle.value.specs.Slice.{same}
 use Rattle.value.specs.Level.{foldAll, codesOf, leastOf, join}
+use Rattle.fst.specs.declared.Description.{Description}
 use Rattle.fst.specs.declared.Encoding.the-variants.{BitVector}
 use Rattle.fst.specs.Refusal.{Outcome}
 use Rattle.layout.specs.Entry.{entryOf}
-use Rattle.fst.specs.Record.{Lent, Kept, largestIn, keptIn, empty}
-use Rattle.fst.specs.Change.{Change, text, real, Recorder, addChange}
+use Rattle.fst.specs.Record.{Lent, Held, Kept, largestIn, keptIn, empty}
+use Rattle.fst.specs.Change.{Change, text, real, addChange}
 
 -- ---- a run
+
+-- what records of one sort of description are: what a description finds in two slices, how a change is added there, and its largest set
+pub record Records (D : Type 0) : Type 1 where
+  pub found : D → Lent → Held D
+  pub added : D → Lent → ℕ → Change → Outcome (Held D)
+  pub Set : Type 0
+  pub largest : D → Set
+
+-- those of Add a change by value
+abbrev pub byValue : Records Description
+byValue = record { found = keptIn; added = addChange; Set = States; largest = λ d. largestIn (d .encoding) }
 
 -- one change of a run, with the slices lent for it
 pub record Call : Type 0 where
@@ -23,29 +36,31 @@ pub record Call : Type 0 where
   pub index : ℕ
   pub change : Change
 
-abbrev pub called : Kept → Call → Outcome Recorder
-called k c = addChange (k .description) (c .lent) (c .index) (c .change)
+abbrev pub called : {D : Type 0} → Records D → Held D → Call → Outcome (Held D)
+called R k c = R .added (k .description) (c .lent) (c .index) (c .change)
+
+-- the record that is found where a call left it, from the same starts on
+abbrev pub leftIn : {D : Type 0} → Records D → Lent → Held D → Held D
+leftIn R l r =
+    R .found (r .description) (record { bytes = r .bytes; byteStart = l .byteStart; indices = r .indices; indexStart = l .indexStart })
 
 -- the record that a call leaves in its slices
-unfoldable pub leaves : Kept → Call → Kept
-leaves k c =
-    let r = (called k c) .left in
-    keptIn (r .description)
-    (record { bytes = r .bytes; byteStart = c .lent .byteStart; indices = r .indices; indexStart = c .lent .indexStart })
+unfoldable pub leaves : {D : Type 0} → Records D → Held D → Call → Held D
+leaves R k c = leftIn R (c .lent) ((called R k c) .left)
 
 -- "Each change gets the description that the one before it handed back, .. and two lent slices that hold the used part as that call left it"
-unfoldable pub Run : Kept → List Call → Type 0
-Run k [] = Unit
-Run k (c ∷ cs) = (keptIn (k .description) (c .lent) ≡ k) × Run (leaves k c) cs
+unfoldable pub Run : {D : Type 0} → Records D → Held D → List Call → Type 0
+Run R k [] = Unit
+Run R k (c ∷ cs) = (R .found (k .description) (c .lent) ≡ k) × Run R (leaves R k c) cs
 
 -- "A run starts with the description that Fresh gives for a width of 1 to 4,096"
 abbrev pub freshKept : ℕ → Kept
 freshKept w = record { description = empty (BitVector w Two); bytes = []; indices = [] }
 
 -- the record after a run
-unfoldable pub after : Kept → List Call → Kept
-after k [] = k
-after k (c ∷ cs) = after (leaves k c) cs
+unfoldable pub after : {D : Type 0} → Records D → Held D → List Call → Held D
+after R k [] = k
+after R k (c ∷ cs) = after R (leaves R k c) cs
 
 -- ---- its history
 
@@ -55,14 +70,10 @@ pub record Fed : Type 0 where
   pub change : Change
   pub accepted : Bool
 
-abbrev pub isZero : ℕ → Bool
-isZero zero = true
-isZero (suc n) = false
-
-unfoldable pub fed : Kept → List Call → List Fed
-fed k [] = []
-fed k (c ∷ cs) =
-    record { index = c .index; change = c .change; accepted = isZero ((called k c) .refused) } ∷ fed (leaves k c) cs
+unfoldable pub fed : {D : Type 0} → Records D → Held D → List Call → List Fed
+fed R k [] = []
+fed R k (c ∷ cs) =
+    record { index = c .index; change = c .change; accepted = eqb ((called R k c) .refused) 0 } ∷ fed R (leaves R k c) cs
 
 -- "the pair of index and string"
 pub record Pair : Type 0 where
@@ -134,7 +145,7 @@ unfoldable pub historyLaidOut : ℕ → List Pair → Kept
 historyLaidOut w h = laidOut w (largestOf (map stepOf h)) (map stepOf h)
 
 -- "Two records are equal in the sense of demand 3 when their time indices, their used bytes and their largest sets are equal"
-pub record Same (k l : Kept) : Type 0 where
+pub record Same {D : Type 0} (R : Records D) (k l : Held D) : Type 0 where
   pub indices : k .indices ≡ l .indices
   pub bytes : k .bytes ≡ l .bytes
-  pub largest : largestIn (k .description .encoding) ≡ largestIn (l .description .encoding)
+  pub largest : R .largest (k .description) ≡ R .largest (l .description)

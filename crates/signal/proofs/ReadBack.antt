@@ -22,7 +22,7 @@ use Rattle.fst.specs.declared.Description.{Description}
 use Rattle.fst.specs.Refusal.{refused, given, _⇐_, tried, Outcome}
 use Rattle.layout.specs.Entry.{entrySize}
 use Rattle.fst.specs.Record.{Lent, Kept, usedSize, keptIn, isBad, isBadBytes}
-use Rattle.runs.specs.Runs.{Pair, Step, indexOf, entriesOf, laidOut, stepOf, largestOf, historyLaidOut, Call, Run, freshKept, after, fed, historyOf}
+use Rattle.runs.specs.Runs.{Pair, Step, indexOf, entriesOf, laidOut, stepOf, largestOf, historyLaidOut, byValue, Call, Run, freshKept, after, fed, historyOf}
 use Rattle.runs.proofs.Joined.{Every, length-snoc}
 use Rattle.runs.proofs.Laid.{entryFor, Sound}
 use Rattle.runs.proofs.Laid as laid
@@ -163,13 +163,13 @@ module _ (w : ℕ) (pos : 1 ≤ w) where
       ∙ rw (t .mark, t .code, le-ltb (length out) w n, t .text)
 
   -- entry k of a run's record tells pair k of its history
-  pub read-back-run : (xs : List Call) → Run (freshKept w) xs → (k : ℕ) (p : Pair)
-      → let r = after (freshKept w) xs in
-      let h = historyOf (fed (freshKept w) xs) in
+  pub read-back-run : (xs : List Call) → Run byValue (freshKept w) xs → (k : ℕ) (p : Pair)
+      → let r = after byValue (freshKept w) xs in
+      let h = historyOf (fed byValue (freshKept w) xs) in
       k < length h → Tells w (largestOf (map stepOf h)) (entryAt (r .description) 0 (r .bytes) k) (stepOf (getD h k p))
   unfolding historyLaidOut
   read-back-run xs r k p n =
-      let h = historyOf (fed (freshKept w) xs) in
+      let h = historyOf (fed byValue (freshKept w) xs) in
       let M = largestOf (map stepOf h) in
       rw (run-is-laid-out w pos xs r, ← List·getD-map stepOf h k p)
       (read-back M (map stepOf h) (steps-sound w M h (runs.spelt w (laws w pos) xs r) (omega arith)) k (stepOf p) (rw length-map n))
@@ -226,13 +226,13 @@ module _ (w : ℕ) (pos : 1 ≤ w) where
       (steps-sound w (largestOf (map stepOf h)) h a (omega arith)) (steps-sound w (largestOf (map stepOf g)) g b (omega arith))
 
   -- of two runs of one width Compare says yes exactly where their histories are equal, and else no
-  pub compare-runs : (xs ys : List Call) → Run (freshKept w) xs → Run (freshKept w) ys → (d e : Description) (l m : Lent) → isBad d l ≡ false → isBad e m ≡ false
-      → keptIn d l ≡ after (freshKept w) xs → keptIn e m ≡ after (freshKept w) ys
-      → (compareRecords d l e m ≡ given true) ↔ (historyOf (fed (freshKept w) xs) ≡ historyOf (fed (freshKept w) ys))
+  pub compare-runs : (xs ys : List Call) → Run byValue (freshKept w) xs → Run byValue (freshKept w) ys → (d e : Description) (l m : Lent) → isBad d l ≡ false → isBad e m ≡ false
+      → keptIn d l ≡ after byValue (freshKept w) xs → keptIn e m ≡ after byValue (freshKept w) ys
+      → (compareRecords d l e m ≡ given true) ↔ (historyOf (fed byValue (freshKept w) xs) ≡ historyOf (fed byValue (freshKept w) ys))
   unfolding compareRecords tried
   compare-runs xs ys r q d e l m a b s t =
-      let h = historyOf (fed (freshKept w) xs) in
-      let g = historyOf (fed (freshKept w) ys) in
+      let h = historyOf (fed byValue (freshKept w) xs) in
+      let g = historyOf (fed byValue (freshKept w) ys) in
       let z : compareRecords d l e m ≡ given (sameSteps (map stepOf h) (map stepOf g)) =
       rw (a, b)
       (ap₂ (λ (x y : Kept). walked (entriesIn x) (entriesIn y)) (s ∙ run-is-laid-out w pos xs r) (t ∙ run-is-laid-out w pos ys q)

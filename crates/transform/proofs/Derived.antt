@@ -25,7 +25,7 @@ use Rattle.fst.specs.Refusal.{Reply, refused, given, Test, tried}
 use Rattle.fst.specs.Record.{Lent, Kept, largestIn, keptIn}
 use Rattle.fst.specs.Change.{stored}
 use Rattle.runs.specs.Runs as runs
-use Rattle.runs.specs.Runs.{Step, endsLike, joined, laidOut, Same}
+use Rattle.runs.specs.Runs.{byValue, Step, endsLike, joined, laidOut, Same}
 use Rattle.layout.proofs.Entries.{laws}
 use Rattle.runs.proofs.Joined.{Every, every-map}
 use Rattle.runs.proofs.Laid.{Sound, equal-same, laid-same, laid-found}
@@ -646,7 +646,7 @@ module _ (a : Accepted) where
 
 -- two accepted Derives of one width leave equal records just where their largest sets and their derived lists are equal
 pub demand-3-derived : (a b : Accepted) → a .derivation .width ≡ b .derivation .width
-    → Same (recordOf a) (recordOf b) ↔ ((largestAmong (ksOf a) ≡ largestAmong (ksOf b)) × (listOf a ≡ listOf b))
+    → Same byValue (recordOf a) (recordOf b) ↔ ((largestAmong (ksOf a) ≡ largestAmong (ksOf b)) × (listOf a ≡ listOf b))
 demand-3-derived a b e =
     let w = a .derivation .width in
     let M = largestAmong (ksOf a) in

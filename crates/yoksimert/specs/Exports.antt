@@ -5,7 +5,7 @@ use mathlib.Core.Bool.{Bool}
 use mathlib.Core.List.{List}
 use Rattle.fst.specs.declared.Description.{Description}
 use Rattle.fst.specs.Refusal.{Outcome, refused}
-use Rattle.fst.specs.Record.{Lent, sizeOf}
+use Rattle.fst.specs.Record.{Lent, Held, sizeOf}
 use Rattle.fst.specs.Change.{Change, Recorder, addChange}
 use Rattle.signal.specs.Read.{readEntry, readText}
 use Rattle.signal.specs.Compare.{compareRecords}
@@ -20,10 +20,8 @@ use Rattle.yoksimert.specs.Flat.{decoded, encoded, noEntry, flatEntry, f
 -- ---- Add a change
 
 -- what a call has in hand: the numbers and the two slices, whole
-pub record FlatRecorder : Type 0 where
-  pub description : FlatDescription
-  pub bytes : List ℕ
-  pub indices : List ℕ
+abbrev pub FlatRecorder : Type 0
+FlatRecorder = Held FlatDescription
 
 abbrev pub flatLeft : Outcome Recorder → Outcome FlatRecorder
 flatLeft o =
