@@ -1,10 +1,8 @@
 //! `cfg(archive)`: whether the proved archive was there when the crate `yoksimert` was built.
 
+#[path = "../present.rs"]
+mod present;
+
 fn main() {
-    let variable = "DEP_YOKSIMERT_PRESENT";
-    println!("cargo::rustc-check-cfg=cfg(archive)");
-    println!("cargo::rerun-if-env-changed={variable}");
-    if std::env::var_os(variable).is_some() {
-        println!("cargo::rustc-cfg=archive");
-    }
+    present::flag("archive", "DEP_YOKSIMERT_PRESENT");
 }

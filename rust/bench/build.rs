@@ -1,19 +1,14 @@
 //! `cfg(wellen)`: whether the reference was built with wellen's source. `cfg(archive)` and `cfg(inner)`: whether the archives
 //! `libyoksimert.a` and `libbench.a` were there.
 
+#[path = "../present.rs"]
+mod present;
+
 use std::path::Path;
 
 fn main() {
-    for (name, variable) in [
-        ("wellen", "DEP_WELLEN_PRESENT"),
-        ("archive", "DEP_YOKSIMERT_PRESENT"),
-    ] {
-        println!("cargo::rustc-check-cfg=cfg({name})");
-        println!("cargo::rerun-if-env-changed={variable}");
-        if std::env::var_os(variable).is_some() {
-            println!("cargo::rustc-cfg={name}");
-        }
-    }
+    present::flag("wellen", "DEP_WELLEN_PRESENT");
+    present::flag("archive", "DEP_YOKSIMERT_PRESENT");
     println!("cargo::rustc-check-cfg=cfg(inner)");
     let here = std::env::var("CARGO_MANIFEST_DIR").expect("cargo sets CARGO_MANIFEST_DIR");
     let folder = Path::new(&here).join("../../target/staticlib");

@@ -1,14 +1,9 @@
 //! `cfg(wellen)`: whether the reference was built with wellen's source. `cfg(archive)`: whether the proved archive was there.
 
+#[path = "../present.rs"]
+mod present;
+
 fn main() {
-    for (name, variable) in [
-        ("wellen", "DEP_WELLEN_PRESENT"),
-        ("archive", "DEP_YOKSIMERT_PRESENT"),
-    ] {
-        println!("cargo::rustc-check-cfg=cfg({name})");
-        println!("cargo::rerun-if-env-changed={variable}");
-        if std::env::var_os(variable).is_some() {
-            println!("cargo::rustc-cfg={name}");
-        }
-    }
+    present::flag("wellen", "DEP_WELLEN_PRESENT");
+    present::flag("archive", "DEP_YOKSIMERT_PRESENT");
 }

@@ -7,6 +7,8 @@ fn main() {
     let folder = Path::new(&here).join("../../target/staticlib");
     let archive = folder.join("libyoksimert.a");
     println!("cargo::rustc-check-cfg=cfg(archive)");
+    // The folder too: an archive that comes back as old as it was alters the folder alone.
+    println!("cargo::rerun-if-changed={}", folder.display());
     println!("cargo::rerun-if-changed={}", archive.display());
     if archive.is_file() {
         println!("cargo::rustc-link-search=native={}", folder.display());

@@ -5,6 +5,7 @@ use crate::timing::best_of;
 use oracle::{Derivation, Encoding, Input, Side, States};
 use reference::{Record, Writer};
 use std::hint::black_box;
+use std::time::Duration;
 
 /// Entries of all inputs together.
 const ENTRIES: u32 = 1_000_000;
@@ -87,48 +88,55 @@ fn joined(pieces: &[(u32, u32, u32)]) -> Derivation {
 }
 
 fn timed(name: &str, states: States, derivation: &Derivation, inputs: &Inputs) {
+    let (ours, made) = ours(derivation, inputs);
+    let (theirs, wellens) = wellens(derivation, inputs);
+    assert_eq!(made as usize, wellens, "both make as many entries");
+    println!(
+        "| {name} | {states:?} | {made} | {ours:.1} | {theirs:.1} | {:.1} |",
+        theirs / ours
+    );
+}
+
+/// ms, and the number of entries made.
+fn ours(derivation: &Derivation, inputs: &Inputs) -> (f64, u32) {
     let Inputs {
-        records,
         places,
         bytes,
         indices,
+        ..
     } = inputs;
     let entry = largest_entry(derivation.width);
     let mut out_bytes = vec![0; entry * indices.len()];
     let mut out_indices = vec![0; indices.len()];
     let mut made = 0;
-    let ours = best_of(
+    let time = best_of(
         ROUNDS,
         || (),
         || {
-            let answer = archive::derive(
-                derivation,
-                places,
-                bytes,
-                indices,
-                &mut out_bytes,
-                &mut out_indices,
-            );
+            let (out_bytes, out_indices) = (&mut out_bytes, &mut out_indices);
+            let answer =
+                archive::derive(derivation, places, bytes, indices, out_bytes, out_indices);
             let description = black_box(answer).expect("it is accepted");
             assert!(matches!(description.encoding, Encoding::BitVector { .. }));
             made = description.count;
         },
     );
-    let mut wellens = 0;
-    let theirs = best_of(
+    (ms(time), made)
+}
+
+/// The same of wellen.
+fn wellens(derivation: &Derivation, inputs: &Inputs) -> (f64, usize) {
+    let mut made = 0;
+    let time = best_of(
         ROUNDS,
         || (),
-        || {
-            wellens = black_box(reference::derive_unguarded(derivation, records));
-        },
+        || made = black_box(reference::derive_unguarded(derivation, &inputs.records)),
     );
-    assert_eq!(made as usize, wellens, "both make as many entries");
-    let ms = |time: std::time::Duration| time.as_secs_f64() * 1e3;
-    let (ours, theirs) = (ms(ours), ms(theirs));
-    println!(
-        "| {name} | {states:?} | {made} | {ours:.1} | {theirs:.1} | {:.1} |",
-        theirs / ours
-    );
+    (ms(time), made)
+}
+
+fn ms(time: Duration) -> f64 {
+    time.as_secs_f64() * 1e3
 }
 
 /// Bytes that an entry of a width takes at most.

@@ -12,34 +12,36 @@ pub struct Place {
     pub next_index: u32,
 }
 
-/// The crate `bench` has the Rattle side of these declarations.
 mod c {
+    use super::Place;
+
+    // SAFETY: the declarations are those of the Rattle source crates/bench/src/lib.rt, which rust/yoksimert/tests/declarations.rs compares.
     unsafe extern "C" {
-        pub fn bench_least(value: *const u8, length: usize) -> u32;
+        pub fn bench_least(value: *const u8, value_len: usize) -> u32;
         pub fn bench_pack(
             mark: u32,
             value: *const u8,
-            length: usize,
+            value_len: usize,
             out: *mut u8,
-            room: usize,
+            out_len: usize,
         ) -> usize;
         pub fn bench_equals(
             mark: u32,
             value: *const u8,
-            length: usize,
+            value_len: usize,
             bytes: *const u8,
-            room: usize,
+            bytes_len: usize,
         ) -> u32;
         pub fn bench_expand(
             from: u32,
             to: u32,
             data: *mut u8,
-            length: usize,
+            data_len: usize,
             entries: usize,
             bits: u32,
         );
-        pub fn bench_search(indices: *const u32, length: usize, needle: u32) -> super::Place;
-        pub fn bench_falls(indices: *const u32, length: usize) -> u32;
+        pub fn bench_search(indices: *const u32, indices_len: usize, needle: u32) -> Place;
+        pub fn bench_falls(indices: *const u32, indices_len: usize) -> u32;
     }
 }
 

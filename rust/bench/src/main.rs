@@ -15,9 +15,17 @@ mod timing;
 
 #[cfg(all(wellen, archive, inner))]
 fn main() {
-    let which = std::env::args().nth(1).unwrap_or_default();
+    let arguments: Vec<String> = std::env::args().skip(1).collect();
+    let part = match arguments.iter().map(String::as_str).collect::<Vec<_>>()[..] {
+        [] => None,
+        [part @ ("layout" | "records" | "derive")] => Some(part),
+        _ => {
+            eprintln!("usage: bench [layout | records | derive]");
+            std::process::exit(2);
+        }
+    };
     println!("{}", timing::machine());
-    let wanted = |part| which.is_empty() || which == part;
+    let wanted = |name| part.is_none_or(|part| part == name);
     if wanted("layout") {
         layout::pack();
         layout::least();

@@ -4,6 +4,7 @@ use crate::inner::{self, Rising};
 use crate::strings::{SETS, string, strings_apart};
 use crate::timing::{best, per};
 use oracle::{Record, States};
+use std::cell::RefCell;
 use std::hint::black_box;
 use yoksimert::raw::{self, FlatDescription};
 
@@ -111,45 +112,43 @@ pub fn raise() {
         (8, States::Nine),
         (64, States::Four),
     ] {
-        let values = [string(States::Two, width, 1), string(States::Two, width, 2)];
-        let values = if values[0] == values[1] {
-            [vec![b'0'; width], vec![b'1'; width]]
-        } else {
-            values
-        };
-        let letter = if last == States::Four { b'x' } else { b'h' };
-        let raising = vec![letter; width];
-        let room = (MILLION + 1) * (width / 2 + 2);
-        let full = std::cell::RefCell::new(Recorder::new(width as u32, room, MILLION + 1));
-        let fill = || {
-            let mut recorder = full.borrow_mut();
-            recorder.description = raw::fresh(width as u32).description;
-            for entry in 0..MILLION {
-                recorder.add(entry as u32, &values[entry % 2]);
-            }
-        };
-        let ours = best(fill, || {
-            full.borrow_mut().add(MILLION as u32, black_box(&raising))
-        });
-        let writer = std::cell::RefCell::new(reference::Writer::fresh(width as u32));
-        let fill = || {
-            let mut fresh = reference::Writer::fresh(width as u32);
-            for entry in 0..MILLION {
-                fresh.add_string_unguarded(entry as u32, &values[entry % 2]);
-            }
-            *writer.borrow_mut() = fresh;
-        };
-        let theirs = best(fill, || {
-            writer
-                .borrow_mut()
-                .add_string_unguarded(MILLION as u32, black_box(&raising));
-        });
-        let (ours, theirs) = (per(ours, MILLION), per(theirs, MILLION));
-        println!(
-            "| {width} | Two | {last:?} | {ours:.2} | {theirs:.2} | {:.1} |",
-            theirs / ours
-        );
+        raise_at(width, last);
     }
+}
+
+fn raise_at(width: usize, last: States) {
+    let values = strings_apart(States::Two, width);
+    let letter = if last == States::Four { b'x' } else { b'h' };
+    let raising = vec![letter; width];
+    let changes = || (0..MILLION as u32).zip(values.iter().cycle());
+    let full = RefCell::new(Recorder::new(
+        width as u32,
+        (MILLION + 1) * (width / 2 + 2),
+        MILLION + 1,
+    ));
+    let fill = || {
+        let mut recorder = full.borrow_mut();
+        recorder.description = raw::fresh(width as u32).description;
+        changes().for_each(|(index, value)| recorder.add(index, value));
+    };
+    let ours = best(fill, || {
+        full.borrow_mut().add(MILLION as u32, black_box(&raising))
+    });
+    let writer = RefCell::new(reference::Writer::fresh(width as u32));
+    let fill = || {
+        let mut fresh = reference::Writer::fresh(width as u32);
+        changes().for_each(|(index, value)| fresh.add_string_unguarded(index, value));
+        *writer.borrow_mut() = fresh;
+    };
+    let theirs = best(fill, || {
+        let mut writer = writer.borrow_mut();
+        writer.add_string_unguarded(MILLION as u32, black_box(&raising));
+    });
+    let (ours, theirs) = (per(ours, MILLION), per(theirs, MILLION));
+    println!(
+        "| {width} | Two | {last:?} | {ours:.2} | {theirs:.2} | {:.1} |",
+        theirs / ours
+    );
 }
 
 /// A record of so many entries, and the same of wellen's.
@@ -185,58 +184,39 @@ pub fn read() {
     );
     for states in SETS {
         for width in [1usize, 8, 64, 256] {
-            let entries = 20_000;
-            let (recorder, wellen) = filled(states, width, entries);
-            let (flat, count) = (recorder.description, recorder.record().description.count);
-            let read = best(
-                || (),
-                || {
-                    for entry in 0..count {
-                        black_box(raw::read(flat, &recorder.bytes, 0, black_box(entry)));
-                    }
-                },
-            );
-            let wellen_read = best(
-                || (),
-                || {
-                    for entry in 0..count {
-                        black_box(wellen.read_unguarded(black_box(entry)));
-                    }
-                },
-            );
-            let mut out = vec![0u8; width];
-            let text = best(
-                || (),
-                || {
-                    for entry in 0..count {
-                        black_box(raw::text(
-                            flat,
-                            &recorder.bytes,
-                            0,
-                            black_box(entry),
-                            &mut out,
-                        ));
-                    }
-                },
-            );
-            let wellen_text = best(
-                || (),
-                || {
-                    for entry in 0..count {
-                        black_box(wellen.text_unguarded(black_box(entry)));
-                    }
-                },
-            );
-            let count = count as usize;
-            let (read, wellen_read) = (per(read, count), per(wellen_read, count));
-            let (text, wellen_text) = (per(text, count), per(wellen_text, count));
-            println!(
-                "| {states:?} | {width} | {read:.1} | {wellen_read:.1} | {:.1} | {text:.1} | {wellen_text:.1} | {:.1} |",
-                wellen_read / read,
-                wellen_text / text
-            );
+            read_at(states, width);
         }
     }
+}
+
+fn read_at(states: States, width: usize) {
+    let (recorder, wellen) = filled(states, width, 20_000);
+    let (flat, bytes) = (recorder.description, &recorder.bytes);
+    let read = each_entry(flat.count, |entry| raw::read(flat, bytes, 0, entry));
+    let wellen_read = each_entry(flat.count, |entry| wellen.read_unguarded(entry));
+    let mut out = vec![0; width];
+    let text = each_entry(flat.count, |entry| {
+        raw::text(flat, bytes, 0, entry, &mut out)
+    });
+    let wellen_text = each_entry(flat.count, |entry| wellen.text_unguarded(entry));
+    println!(
+        "| {states:?} | {width} | {read:.1} | {wellen_read:.1} | {:.1} | {text:.1} | {wellen_text:.1} | {:.1} |",
+        wellen_read / read,
+        wellen_text / text
+    );
+}
+
+/// ns of a call, of one for each of so many entries.
+fn each_entry<T>(count: u32, mut call: impl FnMut(u32) -> T) -> f64 {
+    let time = best(
+        || (),
+        || {
+            for entry in 0..count {
+                black_box(call(black_box(entry)));
+            }
+        },
+    );
+    per(time, count as usize)
 }
 
 /// ms for two equal records of a million entries.

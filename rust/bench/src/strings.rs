@@ -4,25 +4,27 @@ use oracle::States;
 
 pub const SETS: [States; 3] = [States::Two, States::Four, States::Nine];
 
-/// A string of a set's letters, without order.
+/// A string whose least set this is: letters of the set without order, and at one place, which differs from string to string, one that
+/// no smaller set has.
 pub fn string(states: States, width: usize, seed: u64) -> Vec<u8> {
-    let letters: &[u8] = match states {
-        States::Two => b"01",
-        States::Four => b"01xz",
-        States::Nine => b"01xzhuwl-",
+    let (letters, own): (&[u8], &[u8]) = match states {
+        States::Two => (b"01", b"01"),
+        States::Four => (b"01xz", b"xz"),
+        States::Nine => (b"01xzhuwl-", b"huwl-"),
     };
     let mut state = seed;
-    (0..width)
-        .map(|_| {
-            state = state
-                .wrapping_mul(6_364_136_223_846_793_005)
-                .wrapping_add(1);
-            letters[(state >> 33) as usize % letters.len()]
-        })
-        .collect()
+    let mut below = |bound: usize| {
+        state = state
+            .wrapping_mul(6_364_136_223_846_793_005)
+            .wrapping_add(1);
+        (state >> 33) as usize % bound
+    };
+    let mut string: Vec<u8> = (0..width).map(|_| letters[below(letters.len())]).collect();
+    string[below(width)] = own[below(own.len())];
+    string
 }
 
-/// Some strings of a set's letters to be put in a circle: none equals the one before it.
+/// Some strings of a set to be put in a circle: none equals the one before it.
 pub fn strings_apart(states: States, width: usize) -> Vec<Vec<u8>> {
     let mut strings: Vec<Vec<u8>> = (0..64).map(|seed| string(states, width, seed)).collect();
     strings.dedup();

@@ -24,8 +24,8 @@ pub fn outcome(_: &Call) -> Result<Outcome, String> {
 #[cfg(archive)]
 mod present {
     use super::{Call, Outcome};
-    use crate::call::Answer;
-    use oracle::Refusal;
+    use crate::call::Operations;
+    use oracle::{Description, Refusal};
     use std::panic::{self, AssertUnwindSafe};
 
     /// So many elements on each side of a slice that is lent to be altered must stay as they are.
@@ -39,7 +39,7 @@ mod present {
         let mut bytes = guarded(bytes, GUARD_BYTE);
         let mut indices = guarded(indices, GUARD_INDEX);
         let answer = panic::catch_unwind(AssertUnwindSafe(|| {
-            answer(call, within(&mut bytes), within(&mut indices))
+            call.answer(&ARCHIVE, within(&mut bytes), within(&mut indices))
         }));
         let answer = answer.map_err(|_| "an answer that makes no sense".to_string())?;
         Ok(Outcome {
@@ -49,51 +49,22 @@ mod present {
         })
     }
 
-    fn answer(call: &Call, bytes: &mut [u8], indices: &mut [u32]) -> Result<Answer, Refusal> {
-        match call {
-            Call::Fresh { width } => {
-                let made = archive::fresh(*width);
-                assert_eq!(
-                    archive::recorder_fresh(*width),
-                    made,
-                    "by the recorder lent"
-                );
-                made.map(Answer::Description)
-            }
-            Call::Add {
-                record,
-                index,
-                change,
-            } => {
-                let (byte_start, index_start) = (record.byte_start, record.index_start);
-                let d = record.description;
-                archive::add_change(d, bytes, byte_start, indices, index_start, *index, change)
-                    .map(Answer::Description)
-            }
-            Call::Read { record, entry } => {
-                archive::read(record.description, &record.bytes, record.byte_start, *entry)
-                    .map(Answer::Entry)
-            }
-            Call::Text { record, entry, .. } => {
-                let (d, byte_start) = (record.description, record.byte_start);
-                archive::text(d, &record.bytes, byte_start, *entry, bytes).map(|()| Answer::Written)
-            }
-            Call::Compare { first, second } => {
-                archive::compare(&first.as_record(), &second.as_record()).map(Answer::Equal)
-            }
-            Call::LookUp { indices, sought } => {
-                archive::look_up(indices, *sought).map(Answer::Offset)
-            }
-            Call::AddPiece(call) => {
-                archive::add_piece(&call.derivation, call.side, call.name, call.msb, call.lsb)
-                    .map(|next| Answer::Derivation(Box::new(next)))
-            }
-            Call::Derive(call) => {
-                let (d, inputs) = (&call.derivation, &call.inputs);
-                archive::derive(d, inputs, &call.bytes, &call.indices, bytes, indices)
-                    .map(Answer::Description)
-            }
-        }
+    const ARCHIVE: Operations = Operations {
+        fresh: fresh_both_ways,
+        add_change: archive::add_change,
+        read: archive::read,
+        text: archive::text,
+        compare: archive::compare,
+        look_up: archive::look_up,
+        add_piece: archive::add_piece,
+        derive: archive::derive,
+    };
+
+    fn fresh_both_ways(width: u32) -> Result<Description, Refusal> {
+        let made = archive::fresh(width);
+        let lent = archive::recorder_fresh(width);
+        assert_eq!(lent, made, "by the recorder lent");
+        made
     }
 
     fn guarded<T: Copy>(slice: &[T], guard: T) -> Vec<T> {

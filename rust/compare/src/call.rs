@@ -126,7 +126,7 @@ impl Call {
     pub fn by_oracle(&self) -> Outcome {
         let (bytes, indices) = self.alterable();
         let (mut bytes, mut indices) = (bytes.to_vec(), indices.to_vec());
-        let answer = self.oracle_answer(&mut bytes, &mut indices);
+        let answer = self.answer(&ORACLE, &mut bytes, &mut indices);
         Outcome {
             answer,
             bytes,
@@ -134,9 +134,15 @@ impl Call {
         }
     }
 
-    fn oracle_answer(&self, bytes: &mut [u8], indices: &mut [u32]) -> Result<Answer, Refusal> {
+    /// The answer of an implementation, which is lent the slices to be altered.
+    pub fn answer(
+        &self,
+        by: &Operations,
+        bytes: &mut [u8],
+        indices: &mut [u32],
+    ) -> Result<Answer, Refusal> {
         match self {
-            Call::Fresh { width } => oracle::fresh(*width).map(Answer::Description),
+            Call::Fresh { width } => (by.fresh)(*width).map(Answer::Description),
             Call::Add {
                 record,
                 index,
@@ -144,50 +150,84 @@ impl Call {
             } => {
                 let (byte_start, index_start) = (record.byte_start, record.index_start);
                 let d = record.description;
-                oracle::add_change(d, bytes, byte_start, indices, index_start, *index, change)
+                (by.add_change)(d, bytes, byte_start, indices, index_start, *index, change)
                     .map(Answer::Description)
             }
             Call::Read { record, entry } => {
-                oracle::read(record.description, &record.bytes, record.byte_start, *entry)
+                (by.read)(record.description, &record.bytes, record.byte_start, *entry)
                     .map(Answer::Entry)
             }
             Call::Text { record, entry, .. } => {
                 let (d, byte_start) = (record.description, record.byte_start);
-                oracle::text(d, &record.bytes, byte_start, *entry, bytes).map(|()| Answer::Written)
+                (by.text)(d, &record.bytes, byte_start, *entry, bytes).map(|()| Answer::Written)
             }
             Call::Compare { first, second } => {
-                oracle::compare(&first.as_record(), &second.as_record()).map(Answer::Equal)
+                (by.compare)(&first.as_record(), &second.as_record()).map(Answer::Equal)
             }
-            Call::LookUp { indices, sought } => {
-                oracle::look_up(indices, *sought).map(Answer::Offset)
-            }
-            Call::AddPiece(call) => call
-                .by_oracle()
-                .map(|next| Answer::Derivation(Box::new(next))),
-            Call::Derive(call) => call.by_oracle(bytes, indices).map(Answer::Description),
+            Call::LookUp { indices, sought } => (by.look_up)(indices, *sought).map(Answer::Offset),
+            Call::AddPiece(call) => call.answer(by),
+            Call::Derive(call) => call.answer(by, bytes, indices),
         }
     }
 }
 
 impl PieceCall {
-    fn by_oracle(&self) -> Result<Derivation, Refusal> {
-        oracle::add_piece(&self.derivation, self.side, self.name, self.msb, self.lsb)
+    fn answer(&self, by: &Operations) -> Result<Answer, Refusal> {
+        (by.add_piece)(&self.derivation, self.side, self.name, self.msb, self.lsb)
+            .map(|next| Answer::Derivation(Box::new(next)))
     }
 }
 
 impl DeriveCall {
-    fn by_oracle(&self, bytes: &mut [u8], indices: &mut [u32]) -> Result<Description, Refusal> {
-        let (derivation, inputs) = (&self.derivation, &self.inputs);
-        oracle::derive(
-            derivation,
-            inputs,
-            &self.bytes,
-            &self.indices,
-            bytes,
-            indices,
-        )
+    fn answer(
+        &self,
+        by: &Operations,
+        bytes: &mut [u8],
+        indices: &mut [u32],
+    ) -> Result<Answer, Refusal> {
+        let (d, inputs) = (&self.derivation, &self.inputs);
+        (by.derive)(d, inputs, &self.bytes, &self.indices, bytes, indices).map(Answer::Description)
     }
 }
+
+/// An implementation of document 01's operations under the oracle's types.
+#[expect(clippy::type_complexity, reason = "each is an operation's signature")]
+pub struct Operations {
+    pub fresh: fn(u32) -> Result<Description, Refusal>,
+    pub add_change: fn(
+        Description,
+        &mut [u8],
+        usize,
+        &mut [u32],
+        usize,
+        u32,
+        &Change,
+    ) -> Result<Description, Refusal>,
+    pub read: fn(Description, &[u8], usize, u32) -> Result<Entry, Refusal>,
+    pub text: fn(Description, &[u8], usize, u32, &mut [u8]) -> Result<(), Refusal>,
+    pub compare: fn(&Record, &Record) -> Result<bool, Refusal>,
+    pub look_up: fn(&[u32], u32) -> Result<Option<Offset>, Refusal>,
+    pub add_piece: fn(&Derivation, Side, u32, u32, u32) -> Result<Derivation, Refusal>,
+    pub derive: fn(
+        &Derivation,
+        &[Input],
+        &[u8],
+        &[u32],
+        &mut [u8],
+        &mut [u32],
+    ) -> Result<Description, Refusal>,
+}
+
+const ORACLE: Operations = Operations {
+    fresh: oracle::fresh,
+    add_change: oracle::add_change,
+    read: oracle::read,
+    text: oracle::text,
+    compare: oracle::compare,
+    look_up: oracle::look_up,
+    add_piece: oracle::add_piece,
+    derive: oracle::derive,
+};
 
 /// The bytes of one entry (document 01, An entry): L, and one more with a meta byte.
 pub fn entry_size(encoding: Encoding) -> usize {

@@ -5,7 +5,9 @@ use compare::check::Checker;
 use compare::generate::{Generator, Size};
 use compare::{long, rows};
 
-const EXPORTED: [&str; 6] = ["add", "compare", "fresh", "lookup", "read", "text"];
+const EXPORTED: [&str; 9] = [
+    "add", "compare", "derive", "fresh", "left", "lookup", "read", "right", "text",
+];
 
 #[test]
 fn generated_calls_agree() {

@@ -3,6 +3,7 @@
 use crate::raw::{self, FlatDerivation, FlatInput, FlatInputs, FlatJoined, FlatMade};
 use crate::refusal::accepted;
 use crate::signal::{FixedWidthEncoding, Signal, cut, entry_bound};
+use crate::writer::doubled_length;
 use crate::{MAXIMUM, Refusal, SignalWriter};
 use std::iter::zip;
 
@@ -147,19 +148,39 @@ impl DerivedBitVecSignal {
 /// Each is tried over all inputs before the next: [`Refusal::BadRecord`]; [`Refusal::BadDerivation`] if there is not one record for each
 /// input, or one is no bit vector or narrower than a piece; [`Refusal::LateInput`], [`Refusal::IndexFalls`], [`Refusal::BadMark`];
 /// [`Refusal::BadCode`] at a picked level; [`Refusal::NoRoom`] for more than 1,048,576 changes.
+///
+/// ```
+/// use yoksimert::{DerivedBitVecSignal, Refusal, SignalWriter, transform_signal};
+///
+/// # fn main() -> Result<(), Refusal> {
+/// let mut tariff = SignalWriter::new(4)?;
+/// tariff.add_change(0, "0001")?;
+/// tariff.add_change(5, "0101")?; // the two lower wires stay as they are
+/// tariff.add_change(9, "0110")?;
+/// let low = DerivedBitVecSignal::new_slice(0, 1, 0)?;
+/// let low = transform_signal(&low, &[&tariff.finish()])?;
+/// assert_eq!((low.time_indices(), low.bytes()), (&[0, 9][..], &[0b01, 0b10][..]));
+///
+/// let late = SignalWriter::new(2)?.finish();
+/// let both = DerivedBitVecSignal::new_slice(0, 1, 0)?;
+/// assert_eq!(transform_signal(&both, &[&late]), Err(Refusal::LateInput));
+/// # Ok(())
+/// # }
+/// ```
 pub fn transform_signal(
     transform: &DerivedBitVecSignal,
     inputs: &[&Signal],
 ) -> Result<Signal, Refusal> {
     let shared = Shared::new(inputs)?;
-    let most = shared.most_steps().min(MAXIMUM);
+    // The first step, and one for each later entry of an input at most.
+    let most = shared.indices.len().min(MAXIMUM);
     let mut room = shared.longest().min(most);
     loop {
         let derived = derive(transform, &shared, room);
         if room == most || !matches!(derived, Err(Refusal::NoRoom)) {
             return derived;
         }
-        room = (room * 2).min(most);
+        room = doubled_length(room, most);
     }
 }
 
@@ -236,11 +257,6 @@ impl Shared {
         };
         self.bytes.extend_from_slice(signal.bytes());
         self.indices.extend_from_slice(signal.time_indices());
-    }
-
-    /// The first step, and one for each later entry of an input at most.
-    fn most_steps(&self) -> usize {
-        self.indices.len().max(1)
     }
 
     fn longest(&self) -> usize {

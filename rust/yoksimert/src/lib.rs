@@ -5,7 +5,30 @@
 //! be answered gives a [`Refusal`]; none panics.
 //!
 //! `build.rs` looks for the archive in `target/staticlib` of the repository, where `rt staticlib yoksimert` writes it.
+#![cfg_attr(
+    archive,
+    doc = r#"
+```
+use yoksimert::{DerivedBitVecSignal, Refusal, SignalWriter, transform_signal};
 
+# fn main() -> Result<(), Refusal> {
+let mut tariff = SignalWriter::new(4)?;
+tariff.add_change(0, "zzzz")?;
+tariff.add_change(7, "0001")?;
+assert_eq!(tariff.add_change(6, "0010"), Err(Refusal::IndexBelowLast));
+let tariff = tariff.finish();
+
+let offset = tariff.get_offset(9)?.expect("a change at or before 9");
+assert_eq!(tariff.get_value_at(&offset, 0)?.to_string(), "0001");
+
+let low = DerivedBitVecSignal::new_slice(0, 1, 0)?;
+let low = transform_signal(&low, &[&tariff])?;
+assert_eq!(low.get_entry(1)?.to_string(), "01");
+# Ok(())
+# }
+```
+"#
+)]
 #![deny(unsafe_code)]
 #![warn(missing_docs)]
 

@@ -1,7 +1,27 @@
 //! The archive's calls with plain numbers and lent slices, for those who keep their own vectors.
 //!
 //! The header `include/yoksimert.h` says what the numbers mean. In each answer `number` is 0 where the call is accepted, and else the
-//! number of the [`Refusal`](crate::Refusal); the slices are then as they were. Starts count elements from a slice's beginning.
+//! number of the [`Refusal`](crate::Refusal), which [`Refusal::from_number`](crate::Refusal::from_number) names; the slices are then as
+//! they were. Starts count elements from a slice's beginning.
+//!
+//! ```
+//! use yoksimert::{Refusal, raw};
+//!
+//! let (mut bytes, mut indices) = ([0; 4], [0; 2]);
+//! let mut flag = raw::fresh(1).description;
+//! for (index, value, answer) in [(5, b"0", 0), (7, b"1", 0), (6, b"0", 6)] {
+//!     let number = raw::recorder_add_change(&mut flag, &mut bytes, 1, &mut indices, 0, index, value);
+//!     assert_eq!(number, answer);
+//! }
+//! assert_eq!(Refusal::from_number(6), Some(Refusal::IndexBelowLast));
+//! assert_eq!((flag.count, bytes, indices), (2, [0, 0, 1, 0], [5, 7]));
+//!
+//! let found = raw::look_up(&indices, 6);
+//! assert_eq!((found.start, found.elements, found.next_index), (0, 1, 7));
+//! let mut text = [0; 1];
+//! assert_eq!(raw::text(flag, &bytes, 1, found.start as u32, &mut text), 0);
+//! assert_eq!(&text, b"0");
+//! ```
 //!
 //! Here is all unsafe code of the crate. A lent slice crosses as a pointer and a number of elements, a lent array as a pointer. The
 //! functions are proved to end, to read and write nothing but what they are lent, and to take any numbers; each is called with a slice's
@@ -261,18 +281,21 @@ pub struct FlatRecord<'a> {
 
 /// Fresh: the empty record of a width; width 0 makes an event. Refused: 1.
 #[inline]
+#[must_use]
 pub fn fresh(width: u32) -> FlatMade {
     yoksimert_fresh(width)
 }
 
 /// Fresh: the empty record of reals.
 #[inline]
+#[must_use]
 pub fn fresh_real() -> FlatDescription {
     yoksimert_fresh_real()
 }
 
 /// Fresh of a recorder that is lent, whatever it was; the answer is the number. Refused: 1, and the recorder is as it was.
 #[inline]
+#[must_use]
 pub fn recorder_fresh(recorder: &mut FlatDescription, width: u32) -> u32 {
     // SAFETY: one description, lent to this call alone.
     unsafe { yoksimert_recorder_fresh(recorder, width) }
@@ -280,6 +303,7 @@ pub fn recorder_fresh(recorder: &mut FlatDescription, width: u32) -> u32 {
 
 /// Fresh of reals, of a recorder that is lent, whatever it was; the answer is 0.
 #[inline]
+#[must_use]
 pub fn recorder_fresh_real(recorder: &mut FlatDescription) -> u32 {
     // SAFETY: one description, lent to this call alone.
     unsafe { yoksimert_recorder_fresh_real(recorder) }
@@ -287,6 +311,7 @@ pub fn recorder_fresh_real(recorder: &mut FlatDescription) -> u32 {
 
 /// Add a change to a recorder that is lent: a string; the answer is the number. Refused: 2, 3, 4, 5, 6, 7.
 #[inline]
+#[must_use]
 pub fn recorder_add_change(
     recorder: &mut FlatDescription,
     bytes: &mut [u8],
@@ -315,6 +340,7 @@ pub fn recorder_add_change(
 
 /// Add a change to a recorder that is lent: a real, by the 64 bits of its double; the answer is the number. Refused: 2, 3, 6, 7.
 #[inline]
+#[must_use]
 pub fn recorder_add_real(
     recorder: &mut FlatDescription,
     bytes: &mut [u8],
@@ -342,6 +368,7 @@ pub fn recorder_add_real(
 
 /// Read an entry. Refused: 2, 8, 9.
 #[inline]
+#[must_use]
 pub fn read(
     description: FlatDescription,
     bytes: &[u8],
@@ -354,6 +381,7 @@ pub fn read(
 
 /// Text of an entry, into the first bytes of `out`; the answer is the number. Refused: 2, 3, 8, 9, 10, 7.
 #[inline]
+#[must_use]
 pub fn text(
     description: FlatDescription,
     bytes: &[u8],
@@ -377,6 +405,7 @@ pub fn text(
 
 /// Compare: whether two records have equal time indices and values. Refused: 2, 9, 10.
 #[inline]
+#[must_use]
 pub fn compare(a: FlatRecord, b: FlatRecord) -> FlatEqual {
     // SAFETY: four slices, each by its own pointer and length, which are read alone.
     unsafe {
@@ -401,6 +430,7 @@ pub fn compare(a: FlatRecord, b: FlatRecord) -> FlatEqual {
 
 /// Look up: the entries that hold at a time index. Refused: 2, 11.
 #[inline]
+#[must_use]
 pub fn look_up(indices: &[u32], sought: u32) -> FlatOffset {
     // SAFETY: one slice, by its own pointer and length, which is read alone.
     unsafe { yoksimert_look_up(indices.as_ptr(), indices.len(), sought) }
@@ -408,6 +438,7 @@ pub fn look_up(indices: &[u32], sought: u32) -> FlatOffset {
 
 /// Add a piece on the left, the most significant side: bits msb to lsb of an input. Refused: 14, 12, 13.
 #[inline]
+#[must_use]
 pub fn concat_left(
     derivation: FlatDerivation,
     names: &mut [u32; 8],
@@ -422,6 +453,7 @@ pub fn concat_left(
 
 /// Add a piece on the right, the least significant side. Refused: 14, 12, 13.
 #[inline]
+#[must_use]
 pub fn concat_right(
     derivation: FlatDerivation,
     names: &mut [u32; 8],
@@ -436,6 +468,7 @@ pub fn concat_right(
 
 /// Add all wires of an input on the left; no wires add nothing. Refused: 14, 12, 13.
 #[inline]
+#[must_use]
 pub fn concat_left_full(
     derivation: FlatDerivation,
     names: &mut [u32; 8],
@@ -449,6 +482,7 @@ pub fn concat_left_full(
 
 /// Add all wires of an input on the right; no wires add nothing. Refused: 14, 12, 13.
 #[inline]
+#[must_use]
 pub fn concat_right_full(
     derivation: FlatDerivation,
     names: &mut [u32; 8],
@@ -463,6 +497,7 @@ pub fn concat_right_full(
 /// Derive: the record of a derivation of bit vectors, into the first bytes and indices of the output slices. Refused: 2, 14, 15, 11, 9,
 /// 10, 7.
 #[inline]
+#[must_use]
 #[expect(
     clippy::too_many_arguments,
     reason = "a derivation with its two arrays, the inputs, two lent slices and two output slices"

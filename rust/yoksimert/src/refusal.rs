@@ -1,103 +1,71 @@
 use std::error::Error;
 use std::fmt::{self, Display, Formatter};
 
-/// Why a call was refused. A refused call alters nothing.
-///
-/// ```
-/// use yoksimert::{Refusal, SignalWriter};
-///
-/// let refusal = SignalWriter::new(4_097).err();
-/// assert_eq!(refusal, Some(Refusal::WidthTooLarge));
-/// assert_eq!(Refusal::WidthTooLarge.number(), 1);
-/// ```
-#[derive(Clone, Copy, PartialEq, Eq, PartialOrd, Ord, Hash, Debug)]
-pub enum Refusal {
-    /// 1
-    WidthTooLarge = 1,
-    /// 2
-    BadRecord,
-    /// 3
-    WrongKind,
-    /// 4
-    WrongLength,
-    /// 5
-    ForeignCharacter,
-    /// 6
-    IndexBelowLast,
-    /// 7
-    NoRoom,
-    /// 8
-    NoSuchEntry,
-    /// 9
-    BadMark,
-    /// 10
-    BadCode,
-    /// 11
-    IndexFalls,
-    /// 12
-    BadRange,
-    /// 13
-    DerivationFull,
-    /// 14
-    BadDerivation,
-    /// 15
-    LateInput,
+/// The refusals by their numbers in document 01, in order from 1.
+macro_rules! refusals {
+    ($($number:literal $name:ident $reason:literal)*) => {
+        /// Why a call was refused. A refused call alters nothing.
+        ///
+        /// ```
+        /// use yoksimert::{Refusal, SignalWriter};
+        ///
+        /// let refusal = SignalWriter::new(4_097).err();
+        /// assert_eq!(refusal, Some(Refusal::WidthTooLarge));
+        /// assert_eq!(Refusal::WidthTooLarge.number(), 1);
+        /// assert_eq!(Refusal::WidthTooLarge.to_string(), "the width is above 4,096 (refusal 1)");
+        /// ```
+        #[derive(Clone, Copy, PartialEq, Eq, PartialOrd, Ord, Hash, Debug)]
+        #[non_exhaustive]
+        pub enum Refusal {
+            $(#[doc = concat!(stringify!($number), ": ", $reason)] $name = $number,)*
+        }
+
+        impl Refusal {
+            /// Every refusal, by its number.
+            pub const ALL: &'static [Self] = &[$(Self::$name,)*];
+
+            /// What is wrong.
+            #[must_use]
+            pub fn reason(self) -> &'static str {
+                match self {
+                    $(Self::$name => $reason,)*
+                }
+            }
+        }
+    };
+}
+
+refusals! {
+    1 WidthTooLarge "the width is above 4,096"
+    2 BadRecord "not a record: its width is not 1 to 4,096, it has more than 1,048,576 entries, or its bytes or time indices are too few"
+    3 WrongKind "the record is of another kind than the value or the call"
+    4 WrongLength "the string has not one character for each wire, or, for an event, more than one"
+    5 ForeignCharacter "a character is none of 0 1 x z h u w l -"
+    6 IndexBelowLast "the time index is below the last one kept"
+    7 NoRoom "no room: the record has 1,048,576 entries, or the slice is too short"
+    8 NoSuchEntry "the record has no such entry"
+    9 BadMark "an entry's mark is no set's, or above the record's largest set"
+    10 BadCode "an entry has a code that is no level's"
+    11 IndexFalls "a time index is below the one before it"
+    12 BadRange "the piece's msb is below its lsb or above 4,095"
+    13 DerivationFull "the derivation has 8 inputs, 64 pieces or 4,096 bits, and the piece would exceed that"
+    14 BadDerivation "the derivation has no piece, does not fit the records it is given, or breaks a limit"
+    15 LateInput "an input is empty, or does not start at time index 0"
 }
 
 impl Refusal {
-    /// Every refusal, by its number.
-    pub const ALL: [Self; 15] = [
-        Self::WidthTooLarge,
-        Self::BadRecord,
-        Self::WrongKind,
-        Self::WrongLength,
-        Self::ForeignCharacter,
-        Self::IndexBelowLast,
-        Self::NoRoom,
-        Self::NoSuchEntry,
-        Self::BadMark,
-        Self::BadCode,
-        Self::IndexFalls,
-        Self::BadRange,
-        Self::DerivationFull,
-        Self::BadDerivation,
-        Self::LateInput,
-    ];
-
     /// The number in document 01, 1 to 15.
     #[must_use]
     pub fn number(self) -> u8 {
         self as u8
     }
 
-    /// What is wrong.
+    /// The refusal of a number that a call of [`raw`](crate::raw) answers; none for 0, an accepted call, and above 15.
     #[must_use]
-    pub fn reason(self) -> &'static str {
-        match self {
-            Self::WidthTooLarge => "the width is above 4,096",
-            Self::BadRecord => {
-                "not a record: its width is not 1 to 4,096, it has more than 1,048,576 entries, or its bytes or time indices are too few"
-            }
-            Self::WrongKind => "the record is of another kind than the value or the call",
-            Self::WrongLength => {
-                "the string has not one character for each wire, or, for an event, more than one"
-            }
-            Self::ForeignCharacter => "a character is none of 0 1 x z h u w l -",
-            Self::IndexBelowLast => "the time index is below the last one kept",
-            Self::NoRoom => "no room: the record has 1,048,576 entries, or the slice is too short",
-            Self::NoSuchEntry => "the record has no such entry",
-            Self::BadMark => "an entry's mark is no set's, or above the record's largest set",
-            Self::BadCode => "an entry has a code that is no level's",
-            Self::IndexFalls => "a time index is below the one before it",
-            Self::BadRange => "the piece's msb is below its lsb or above 4,095",
-            Self::DerivationFull => {
-                "the derivation has 8 inputs, 64 pieces or 4,096 bits, and the piece would exceed that"
-            }
-            Self::BadDerivation => {
-                "the derivation has no piece, does not fit the records it is given, or breaks a limit"
-            }
-            Self::LateInput => "an input is empty, or does not start at time index 0",
-        }
+    #[inline]
+    pub fn from_number(number: u32) -> Option<Self> {
+        let before = number.checked_sub(1)?;
+        Self::ALL.get(before as usize).copied()
     }
 }
 
@@ -109,11 +77,11 @@ impl Display for Refusal {
 
 impl Error for Refusal {}
 
-/// 0 is an accepted call. The archive gives no number above 15.
+/// 0 is an accepted call.
 #[inline]
 pub(crate) fn accepted(number: u32) -> Result<(), Refusal> {
-    match number.checked_sub(1) {
-        None => Ok(()),
-        Some(before) => Err(Refusal::ALL[before as usize]),
+    match number {
+        0 => Ok(()),
+        _ => Err(Refusal::from_number(number).expect("the archive gives no number above 15")),
     }
 }

@@ -171,7 +171,8 @@ impl Signal {
         self.time_indices.get(offset.start).copied()
     }
 
-    /// The value at an offset, by its number among the changes of that time index.
+    /// The value at an offset, by its number among the changes of that time index. An offset has changes, so 0 elements are 65,536 or
+    /// a multiple of it.
     ///
     /// # Errors
     /// [`Refusal::NoSuchEntry`] also for an element not below `offset.elements`; else as [`Signal::get_entry`].
@@ -181,11 +182,10 @@ impl Signal {
         offset: &DataOffset,
         element: u16,
     ) -> Result<SignalValueRef<'_>, Refusal> {
-        if element >= offset.elements {
+        if offset.elements != 0 && element >= offset.elements {
             return Err(Refusal::NoSuchEntry);
         }
-        let entry = offset.start.saturating_add(usize::from(element));
-        self.get_entry(u32::try_from(entry).unwrap_or(u32::MAX))
+        self.get_entry(offset.start.saturating_add(usize::from(element)))
     }
 
     /// The value of an entry, by its number from 0.
@@ -193,7 +193,9 @@ impl Signal {
     /// # Errors
     /// [`Refusal::NoSuchEntry`]. [`Refusal::BadRecord`] and [`Refusal::BadMark`] for a record that no writer made.
     #[inline]
-    pub fn get_entry(&self, entry: u32) -> Result<SignalValueRef<'_>, Refusal> {
+    pub fn get_entry(&self, entry: usize) -> Result<SignalValueRef<'_>, Refusal> {
+        // A record has fewer entries than `u32::MAX`.
+        let entry = u32::try_from(entry).unwrap_or(u32::MAX);
         let answer = raw::read(self.description(), &self.bytes, 0, entry);
         accepted(answer.number)?;
         // An accepted Read gives a part of the bytes it was lent, and 8 bytes for a real.
@@ -219,8 +221,8 @@ impl Signal {
     pub fn iter_changes(
         &self,
     ) -> impl Iterator<Item = Result<(TimeTableIdx, SignalValueRef<'_>), Refusal>> {
-        let numbered = self.time_indices.iter().zip(0..=u32::MAX);
-        numbered.map(|(time_idx, entry)| Ok((*time_idx, self.get_entry(entry)?)))
+        let numbered = self.time_indices.iter().enumerate();
+        numbered.map(|(entry, time_idx)| Ok((*time_idx, self.get_entry(entry)?)))
     }
 
     /// Whether both records have the same time indices and values; `==` says no where this is refused.
@@ -292,4 +294,22 @@ pub struct DataOffset {
     pub time_match: bool,
     /// The next greater time index in the record.
     pub next_index: Option<NonZeroTimeTableIdx>,
+}
+
+#[cfg(test)]
+mod tests {
+    use crate::SignalWriter;
+
+    #[test]
+    fn a_record_keeps_no_spare_room() {
+        let mut writer = SignalWriter::new(9).expect("the width stands");
+        for time_idx in 0..100 {
+            let string = ["000000000", "00000000x"][time_idx as usize % 2];
+            assert_eq!(writer.add_change(time_idx, string), Ok(()));
+        }
+        let signal = writer.finish();
+        let (bytes, time_indices) = (&signal.bytes, &signal.time_indices);
+        assert_eq!((bytes.len(), bytes.capacity()), (300, 300));
+        assert_eq!((time_indices.len(), time_indices.capacity()), (100, 100));
+    }
 }

@@ -36,6 +36,26 @@ impl States {
 /// The value of a change, where it stands in its record.
 ///
 /// Two values are equal if they are of the same kind and have equal levels, whatever their largest sets; reals are compared by `==`.
+///
+/// ```
+/// use yoksimert::{SignalValueRef, SignalWriter, States};
+///
+/// # fn main() -> Result<(), yoksimert::Refusal> {
+/// let mut tariff = SignalWriter::new(4)?;
+/// tariff.add_change(0, "0010")?;
+/// tariff.add_change(1, "00X0")?;
+/// let tariff = tariff.finish();
+/// let (number, unknown) = (tariff.get_entry(0)?, tariff.get_entry(1)?);
+/// assert_eq!((number.states(), unknown.states()), (Some(States::Two), Some(States::Four)));
+/// assert_eq!((u64::try_from(number), u64::try_from(unknown)), (Ok(2), Err(())));
+/// assert_eq!((number.to_string(), unknown.to_string()), ("0010".into(), "00x0".into()));
+///
+/// let mut fare = SignalWriter::new_real();
+/// fare.add_change(0, 3.2)?;
+/// assert_eq!(fare.finish().get_entry(0)?, SignalValueRef::Real(3.2));
+/// # Ok(())
+/// # }
+/// ```
 #[derive(Clone, Copy, PartialEq, Debug)]
 pub enum SignalValueRef<'a> {
     /// That the event took place.
@@ -97,6 +117,22 @@ impl Display for SignalValueRef<'_> {
 }
 
 /// The levels of an entry.
+///
+/// ```
+/// use yoksimert::SignalWriter;
+///
+/// # fn main() -> Result<(), yoksimert::Refusal> {
+/// let mut flag = SignalWriter::new(9)?;
+/// flag.add_change(0, "100000101")?;
+/// let flag = flag.finish();
+/// let levels = flag.get_entry(0)?.as_bit_vec().expect("a bit vector");
+/// assert_eq!(levels.be_bytes(), Some(&[0x01, 0x05][..]));
+/// let mut text = [b' '; 10];
+/// levels.write_bit_string(&mut text)?;
+/// assert_eq!(&text, b"100000101 ");
+/// # Ok(())
+/// # }
+/// ```
 #[derive(Clone, Copy)]
 pub struct BitVecRef<'a> {
     pub(crate) signal: &'a Signal,
@@ -125,7 +161,8 @@ impl<'a> BitVecRef<'a> {
         self.data
     }
 
-    /// The levels as a big-endian number, if the own set is Two.
+    /// The levels as a big-endian number, if the own set is Two. The bytes are the record's own: above the first level they may have
+    /// bits that no [`SignalWriter`](crate::SignalWriter) stores, and that [`bit_string`](Self::bit_string) and `u64` leave out.
     #[must_use]
     pub fn be_bytes(&self) -> Option<&'a [u8]> {
         (self.states == States::Two).then_some(self.data)
@@ -158,10 +195,10 @@ impl<'a> BitVecRef<'a> {
     }
 }
 
+/// Equal texts are of equal widths. Where [`BitVecRef::bit_string`] is refused, a value differs from itself.
 impl PartialEq for BitVecRef<'_> {
     fn eq(&self, other: &Self) -> bool {
-        self.width == other.width
-            && matches!((self.bit_string(), other.bit_string()), (Ok(a), Ok(b)) if a == b)
+        matches!((self.bit_string(), other.bit_string()), (Ok(a), Ok(b)) if a == b)
     }
 }
 
@@ -176,12 +213,51 @@ impl TryFrom<BitVecRef<'_>> for u64 {
     }
 }
 
-/// An error for a real or an event, and where the levels are no number.
+/// An error for an event, for a real that is no whole number of 64 bits, and where the levels are no number.
 impl TryFrom<SignalValueRef<'_>> for u64 {
     type Error = ();
 
     fn try_from(value: SignalValueRef<'_>) -> Result<Self, ()> {
-        value.as_bit_vec().ok_or(())?.try_into()
+        match value {
+            SignalValueRef::Event => Err(()),
+            SignalValueRef::BitVec(levels) => levels.try_into(),
+            SignalValueRef::Real(real) => {
+                let number = u64::try_from(real as u128).map_err(|_| ())?;
+                if number as f64 == real {
+                    Ok(number)
+                } else {
+                    Err(())
+                }
+            }
+        }
+    }
+}
+
+/// An error for an event, and where the levels are no number or one that no double is.
+impl TryFrom<SignalValueRef<'_>> for f64 {
+    type Error = ();
+
+    fn try_from(value: SignalValueRef<'_>) -> Result<Self, ()> {
+        match value {
+            SignalValueRef::Event => Err(()),
+            SignalValueRef::BitVec(levels) => {
+                let number = u64::try_from(levels)?;
+                let real = number as f64;
+                if real as u128 == u128::from(number) {
+                    Ok(real)
+                } else {
+                    Err(())
+                }
+            }
+            SignalValueRef::Real(real) => Ok(real),
+        }
+    }
+}
+
+/// As [`Display`].
+impl From<SignalValueRef<'_>> for String {
+    fn from(value: SignalValueRef<'_>) -> Self {
+        value.to_string()
     }
 }
 

@@ -4,6 +4,7 @@ use crate::raw::{self, FlatDescription};
 use crate::refusal::accepted;
 use crate::signal::{FixedWidthEncoding, Signal, cut, entry_bound};
 use crate::{MAXIMUM, Refusal, TimeTableIdx};
+use std::fmt::{self, Debug, Formatter};
 
 /// The value of a change: a string of characters, one for each wire, or a real.
 #[derive(Clone, Copy, PartialEq, Debug)]
@@ -26,8 +27,20 @@ impl<'a, const N: usize> From<&'a [u8; N]> for FstSignalValue<'a> {
     }
 }
 
+impl<'a> From<&'a Vec<u8>> for FstSignalValue<'a> {
+    fn from(value: &'a Vec<u8>) -> Self {
+        Self::String(value)
+    }
+}
+
 impl<'a> From<&'a str> for FstSignalValue<'a> {
     fn from(value: &'a str) -> Self {
+        Self::String(value.as_bytes())
+    }
+}
+
+impl<'a> From<&'a String> for FstSignalValue<'a> {
+    fn from(value: &'a String) -> Self {
         Self::String(value.as_bytes())
     }
 }
@@ -35,6 +48,12 @@ impl<'a> From<&'a str> for FstSignalValue<'a> {
 impl From<f64> for FstSignalValue<'_> {
     fn from(value: f64) -> Self {
         Self::Real(value)
+    }
+}
+
+impl<'a> From<&FstSignalValue<'a>> for FstSignalValue<'a> {
+    fn from(value: &FstSignalValue<'a>) -> Self {
+        *value
     }
 }
 
@@ -55,7 +74,7 @@ impl From<f64> for FstSignalValue<'_> {
 /// # Ok(())
 /// # }
 /// ```
-#[derive(Clone, Debug)]
+#[derive(Clone)]
 pub struct SignalWriter {
     description: FlatDescription,
     /// The entries, and zeros behind them for those to come.
@@ -185,8 +204,41 @@ impl SignalWriter {
     }
 }
 
-/// Doubles the vector, to 64 elements at least and to `most` at most; the new ones are zeros.
+impl Debug for SignalWriter {
+    fn fmt(&self, f: &mut Formatter<'_>) -> fmt::Result {
+        let (changes, encoding) = (self.len(), self.encoding());
+        write!(f, "SignalWriter({changes} changes, {encoding:?})")
+    }
+}
+
+/// Doubles the vector, to `most` at most; the new elements are zeros.
 fn doubled<T: Default + Clone>(elements: &mut Vec<T>, most: usize) {
-    let length = (elements.len() * 2).max(64).min(most);
+    let length = doubled_length(elements.len(), most);
+    // `resize` alone may keep more than `most`.
+    elements.reserve_exact(length - elements.len());
     elements.resize(length, T::default());
+}
+
+/// Twice the length, 64 at least and `most` at most.
+pub(crate) fn doubled_length(length: usize, most: usize) -> usize {
+    (length * 2).max(64).min(most)
+}
+
+#[cfg(test)]
+mod tests {
+    use super::*;
+
+    #[test]
+    fn a_vector_doubles_up_to_the_most() {
+        let mut elements = vec![];
+        let mut grown = || {
+            doubled(&mut elements, 1_000);
+            (elements.len(), elements.capacity())
+        };
+        let lengths = [64, 128, 256, 512, 1_000, 1_000];
+        assert_eq!(lengths.map(|_| grown()), lengths.map(|at| (at, at)));
+        assert!(elements.iter().all(|byte: &u8| *byte == 0));
+        doubled(&mut elements, 3_000);
+        assert_eq!((elements.len(), elements.capacity()), (2_000, 2_000));
+    }
 }

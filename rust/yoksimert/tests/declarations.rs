@@ -1,5 +1,5 @@
 //! The header, the Rust declarations and the Rattle source agree on every function's name, parameters and result, and on every struct's
-//! fields.
+//! fields; so do the Rust declarations and the Rattle source of the functions that the benchmarks time.
 
 use std::collections::BTreeMap;
 use std::fs;
@@ -9,6 +9,7 @@ use std::path::Path;
 type Items = BTreeMap<String, Vec<(String, String)>>;
 
 const RESULT: &str = "result";
+const EXPORTED: &str = "pub extern \"C\" fn ";
 
 fn file(path: &str) -> String {
     let path = Path::new(env!("CARGO_MANIFEST_DIR"))
@@ -151,10 +152,11 @@ fn structs(text: &str) -> Items {
     fields.collect()
 }
 
-/// Functions that begin with `before` and whose result stands before `after`.
-fn functions(text: &str, before: &str, after: &str) -> Items {
-    let items = between(text, before, after);
-    let functions = items.iter().map(|item| {
+/// Functions that begin with `before` and whose result stands before one of `after`.
+fn functions(text: &str, before: &str, after: &[&str]) -> Items {
+    let functions = text.split(before).skip(1).map(|rest| {
+        let ends = after.iter().filter_map(|mark| rest.find(mark));
+        let item = &rest[..ends.min().expect("the declaration ends")];
         let (name, rest) = item.split_once('(').expect("parameters");
         let (parameters, result) = rest.split_once(')').expect("the parameters end");
         let result = result.trim().trim_start_matches("-> ").to_string();
@@ -170,7 +172,7 @@ fn of_rattle() -> Items {
     let exports = ["exports", "recorder", "derivations"]
         .map(|name| flattened(&file(&format!("crates/yoksimert/src/{name}.rt"))))
         .join(" ");
-    let exported = functions(&exports, "pub extern \"C\" fn ", " ensures");
+    let exported = functions(&exports, EXPORTED, &[" ensures"]);
     assert_eq!(
         exported.len(),
         exports.matches("#[no_mangle]").count(),
@@ -180,11 +182,11 @@ fn of_rattle() -> Items {
     items
 }
 
-fn of_rust() -> Items {
-    let text = flattened(&file("rust/yoksimert/src/raw.rs"));
+fn of_rust(path: &str) -> Items {
+    let text = flattened(&file(path));
     let mut items = structs(&text);
     let block = between(&text, "unsafe extern \"C\" {", "}").concat();
-    items.extend(functions(&block, "fn ", ";"));
+    items.extend(functions(&block, "fn ", &[";"]));
     items
 }
 
@@ -215,7 +217,16 @@ fn of_header() -> Items {
 #[test]
 fn the_three_texts_agree() {
     let rattle = of_rattle();
-    assert_eq!(rattle.len(), 10 + 17, "{rattle:#?}");
-    assert_eq!(of_rust(), rattle);
+    assert_eq!(rattle.len(), 9 + 15, "{rattle:#?}");
+    assert_eq!(of_rust("rust/yoksimert/src/raw.rs"), rattle);
     assert_eq!(of_header(), rattle);
+}
+
+#[test]
+fn the_benchmarks_texts_agree() {
+    let text = flattened(&file("crates/bench/src/lib.rt"));
+    let mut rattle = structs(&text);
+    rattle.extend(functions(&text, EXPORTED, &[" requires", " {"]));
+    assert_eq!(rattle.len(), 1 + 6, "{rattle:#?}");
+    assert_eq!(of_rust("rust/bench/src/inner.rs"), rattle);
 }

@@ -73,6 +73,7 @@ fn other_numbers_are_refused() {
 
 #[test]
 fn numbers_come_back_from_a_repeat() {
+    let mut repeats = 0;
     each(|flat| {
         if !is_description(flat)
             || flat.kind != 2
@@ -87,7 +88,9 @@ fn numbers_come_back_from_a_repeat() {
         let number =
             raw::recorder_add_change(&mut recorder, &mut bytes, 0, &mut indices, 0, 5, &string);
         assert_eq!((number, recorder), (0, flat));
+        repeats += 1;
     });
+    assert_eq!(repeats, 2 * 3, "widths 1 and 3, three sets");
 }
 
 #[test]

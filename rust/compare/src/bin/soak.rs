@@ -211,11 +211,14 @@ mod soak {
     }
 
     /// kB of memory that the process holds.
-    fn memory() -> u64 {
-        let status = std::fs::read_to_string("/proc/self/status").unwrap_or_default();
+    fn memory() -> Result<u64, String> {
+        const STATUS: &str = "/proc/self/status";
+        let status = std::fs::read_to_string(STATUS);
+        let status = status.map_err(|error| format!("{STATUS}: {error}"))?;
         let line = status.lines().find_map(|line| line.strip_prefix("VmRSS:"));
         let number = line.and_then(|line| line.split_whitespace().next());
-        number.and_then(|number| number.parse().ok()).unwrap_or(0)
+        let number = number.and_then(|number| number.parse().ok());
+        number.ok_or_else(|| format!("{STATUS} tells no memory"))
     }
 
     pub fn run(seed: u64, changes: u64) -> ExitCode {
@@ -251,7 +254,7 @@ mod soak {
                 one(&mut recorders[at], &mut random, &mut out, &mut seen)?;
             }
             let time = start.elapsed().as_nanos() as f64 / many.max(1) as f64;
-            let memory = memory();
+            let memory = memory()?;
             println!("| {} | {time:.0} | {memory} |", tenth * many);
             let first = *level.get_or_insert(memory);
             if memory > first + LEVEL {

@@ -4,7 +4,8 @@ use super::Generator;
 use oracle::{Change, Encoding, States};
 
 const LETTERS: &[u8; 9] = b"01xzhuwl-";
-const FOREIGN: &[u8] = b"2yXg -_\0\xff\x0f/:@[`{HhQ";
+/// Foreign characters, most of them next to one of the alphabet, and some of the alphabet.
+const NEIGHBOURS: &[u8] = b"2yXg -_\0\xff\x0f/:@[`{HhQ";
 const REALS: &[u64] = &[
     0,
     1 << 63,
@@ -83,7 +84,7 @@ impl Generator {
         }
     }
 
-    /// Now and then a wrong length or a byte from outside the alphabet.
+    /// Now and then a wrong length or another byte, mostly from outside the alphabet.
     fn spoilt(&mut self, mut string: Vec<u8>) -> Vec<u8> {
         match self.random.below(40) {
             0 => string.truncate(string.len() - 1),
@@ -91,7 +92,7 @@ impl Generator {
             2 => string.clear(),
             3 | 4 => {
                 let at = self.random.below(string.len());
-                string[at] = self.random.pick(FOREIGN);
+                string[at] = self.random.pick(NEIGHBOURS);
             }
             5 => {
                 let at = self.random.below(string.len());

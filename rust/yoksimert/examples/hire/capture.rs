@@ -25,44 +25,69 @@ pub struct Capture {
 
 /// Reads `wires NAME COUNT` and `INDEX NAME LEVELS`; `#` begins a comment.
 pub fn read(text: &str) -> Result<Capture, String> {
-    let mut writers: Vec<(String, u32, SignalWriter)> = Vec::new();
-    let (mut offered, mut refused) = (0, Vec::new());
+    let mut reader = Reader::default();
     for (text, line) in text.lines().zip(1..) {
-        let wrong = |what: &str| format!("line {line}: {what}: {text}");
+        let wrong = |what: String| format!("line {line}: {what}: {text}");
         let words: Vec<&str> = text.split_whitespace().collect();
         match words[..] {
             [] => {}
             [first, ..] if first.starts_with('#') => {}
-            ["wires", name, wires] => {
-                let wires = wires.parse().map_err(|_| wrong("not a number of wires"))?;
-                let writer = SignalWriter::new(wires).map_err(|why| wrong(&why.to_string()))?;
-                writers.push((name.to_string(), wires, writer));
-            }
+            ["wires", name, wires] => reader.wires(name, wires).map_err(wrong)?,
             [index, name, levels] => {
-                let index = index.parse().map_err(|_| wrong("not a time index"))?;
-                let lead = writers.iter_mut().find(|lead| lead.0 == name);
-                let (_, _, writer) = lead.ok_or_else(|| wrong("not a signal"))?;
-                offered += 1;
-                if let Err(refusal) = writer.add_change(index, levels) {
-                    let text = text.to_string();
-                    refused.push(Refused {
-                        line,
-                        text,
-                        refusal,
-                    });
-                }
+                let answer = reader.change(index, name, levels).map_err(wrong)?;
+                let text = text.to_string();
+                reader.refused.extend(answer.err().map(|refusal| Refused {
+                    line,
+                    text,
+                    refusal,
+                }));
             }
-            _ => return Err(wrong("three words are expected")),
+            _ => return Err(wrong("three words are expected".into())),
         }
     }
-    let leads = writers.into_iter().map(|(name, wires, writer)| Lead {
-        name,
-        wires,
-        signal: writer.finish(),
-    });
-    Ok(Capture {
-        leads: leads.collect(),
-        offered,
-        refused,
-    })
+    Ok(reader.finish())
+}
+
+/// The signals so far.
+#[derive(Default)]
+struct Reader {
+    writers: Vec<(String, u32, SignalWriter)>,
+    offered: usize,
+    refused: Vec<Refused>,
+}
+
+impl Reader {
+    fn wires(&mut self, name: &str, wires: &str) -> Result<(), String> {
+        let wires = wires.parse().map_err(|_| "not a number of wires")?;
+        let writer = SignalWriter::new(wires).map_err(|refusal| refusal.to_string())?;
+        self.writers.push((name.to_string(), wires, writer));
+        Ok(())
+    }
+
+    /// The recorder's answer, if the line is one of a signal.
+    fn change(
+        &mut self,
+        index: &str,
+        name: &str,
+        levels: &str,
+    ) -> Result<Result<(), Refusal>, String> {
+        let index = index.parse().map_err(|_| "not a time index")?;
+        let lead = self.writers.iter_mut().find(|lead| lead.0 == name);
+        let (_, _, writer) = lead.ok_or("not a signal")?;
+        self.offered += 1;
+        Ok(writer.add_change(index, levels))
+    }
+
+    fn finish(self) -> Capture {
+        let leads = self.writers.into_iter().map(|(name, wires, writer)| Lead {
+            name,
+            wires,
+            signal: writer.finish(),
+        });
+        Capture {
+            leads: leads.collect(),
+            offered: self.offered,
+            refused: self.refused,
+        }
+    }
 }

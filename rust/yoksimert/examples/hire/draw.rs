@@ -1,6 +1,6 @@
 //! Levels over time, one column for each time index.
 
-use yoksimert::{Refusal, Signal};
+use yoksimert::{DataOffset, Refusal, Signal, SignalValueRef};
 
 pub const LEGEND: &str =
     "▁▁ low   ▂▂ weak low   ▔▔ high   ▀▀ weak high   ▒▒ unknown   ╌╌ not driven";
@@ -23,6 +23,12 @@ pub fn ruler(columns: usize) -> [String; 2] {
     [numbers.collect(), tens.map(|_| "|         ").collect()]
 }
 
+/// The value that holds from an offset on: of several changes at one index that of the last.
+pub fn held<'a>(signal: &'a Signal, offset: &DataOffset) -> Result<SignalValueRef<'a>, Refusal> {
+    // 0 elements are 65,536.
+    signal.get_value_at(offset, offset.elements.wrapping_sub(1))
+}
+
 /// A wire as a line at the height of its level, a bus as its levels behind a bar at each change.
 pub fn row(signal: &Signal, columns: u32) -> Result<String, Refusal> {
     let mut row = String::new();
@@ -31,8 +37,7 @@ pub fn row(signal: &Signal, columns: u32) -> Result<String, Refusal> {
         let (levels, until) = match signal.get_offset(at)? {
             None => (String::new(), signal.get_first_time_idx()),
             Some(offset) => {
-                // Of several changes at one index the last one holds.
-                let value = signal.get_value_at(&offset, offset.elements.saturating_sub(1))?;
+                let value = held(signal, &offset)?;
                 (value.to_string(), offset.next_index.map(u32::from))
             }
         };

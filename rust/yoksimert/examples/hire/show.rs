@@ -105,7 +105,7 @@ fn moment(lead: &Lead, index: u32) -> Result<String, Refusal> {
     let Some(offset) = signal.get_offset(index)? else {
         return Ok(format!("  {name:<8}nothing yet"));
     };
-    let value = signal.get_value_at(&offset, 0)?;
+    let value = draw::held(signal, &offset)?;
     let since = signal.time_indices()[offset.start];
     Ok(match offset.next_index {
         Some(next) => format!("  {name:<8}{value:<6}since {since}, until {next}"),

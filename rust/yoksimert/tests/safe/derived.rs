@@ -168,32 +168,42 @@ fn parts(signal: &Signal) -> (FixedWidthEncoding, &[u32], &[u8]) {
     (signal.encoding(), signal.time_indices(), signal.bytes())
 }
 
+/// A derivation of up to six pieces, and the oracle's.
+fn derivation(random: &mut Random, width: u32) -> (DerivedBitVecSignal, Derivation) {
+    let mut derived = DerivedBitVecSignal::new_slice(0, 0, 0).expect("the range stands");
+    let start = add_piece(&empty_derivation(), Side::Left, 0, 0, 0);
+    let mut judge = start.expect("the range stands");
+    let names = random.below(8) + 1;
+    for _ in 0..random.below(6) {
+        let name = random.below(names);
+        // Refused pieces are left out of both.
+        let _ = add(random, &mut derived, &mut judge, (name, width));
+    }
+    (derived, judge)
+}
+
+/// Records for so many inputs, of which now and then some are spoilt or one is too many.
+fn inputs(random: &mut Random, count: usize, width: u32) -> Vec<Signal> {
+    let spoilt = random.one_in(8);
+    let count = count + usize::from(random.one_in(40));
+    let mut one = |_| {
+        if spoilt && random.one_in(2) {
+            records::signal(random)
+        } else {
+            recorded(random, width)
+        }
+    };
+    (0..count).map(&mut one).collect()
+}
+
 #[test]
 fn records_are_derived_as_by_the_oracle() {
     let mut random = Random::new(6);
     let mut numbers = BTreeSet::new();
     for _ in 0..ROUNDS {
         let width = random.pick(&[1, 2, 3, 4, 5, 8, 9, 33]);
-        let mut derived = DerivedBitVecSignal::new_slice(0, 0, 0).expect("the range stands");
-        let start = add_piece(&empty_derivation(), Side::Left, 0, 0, 0);
-        let mut judge = start.expect("the range stands");
-        let names = random.below(8) + 1;
-        for _ in 0..random.below(6) {
-            let name = random.below(names);
-            // Refused pieces are left out of both.
-            let _ = add(&mut random, &mut derived, &mut judge, (name, width));
-        }
-        let spoilt = random.one_in(8);
-        let count = derived.inputs().len() + usize::from(random.one_in(40));
-        let signals: Vec<Signal> = (0..count)
-            .map(|_| {
-                if spoilt && random.one_in(2) {
-                    records::signal(&mut random)
-                } else {
-                    recorded(&mut random, width)
-                }
-            })
-            .collect();
+        let (derived, judge) = derivation(&mut random, width);
+        let signals = inputs(&mut random, derived.inputs().len(), width);
         let signals: Vec<&Signal> = signals.iter().collect();
         let answer = transform_signal(&derived, &signals);
         numbers.insert(
@@ -228,15 +238,20 @@ fn a_short_record_borrows_nothing_of_the_next() {
 }
 
 #[test]
-fn nine_records_are_too_many() {
+fn there_is_one_record_for_each_input() {
     let mut writer = SignalWriter::new(1).expect("the width stands");
     writer.add_change(0, "1").expect("the change stands");
     let one = writer.finish();
-    let slice = DerivedBitVecSignal::new_slice(1, 0, 0).expect("the range stands");
-    assert!(transform_signal(&slice, &[&one]).is_ok());
-    for many in [0, 2, 8, 9, 100] {
-        let answer = transform_signal(&slice, &vec![&one; many]);
-        assert_eq!(answer.err(), Some(Refusal::BadDerivation));
+    let mut derived = DerivedBitVecSignal::new_slice(1, 0, 0).expect("the range stands");
+    for inputs in 1..=8 {
+        for records in [0, 1, 2, 7, 8, 9, 100] {
+            let answer = transform_signal(&derived, &vec![&one; records]);
+            let refusal = (records != inputs).then_some(Refusal::BadDerivation);
+            assert_eq!(answer.err(), refusal, "{inputs} inputs, {records} records");
+        }
+        let ninth = derived.concat_right(inputs as u32 + 1, 0, 0);
+        let refusal = (inputs == 8).then_some(Refusal::DerivationFull);
+        assert_eq!(ninth.err(), refusal);
     }
 }
 

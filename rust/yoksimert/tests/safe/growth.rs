@@ -37,6 +37,32 @@ fn events_grow_to_the_maximum() {
     let offset = signal.get_offset(4).expect("no index falls");
     let offset = offset.expect("there are events");
     assert_eq!((offset.start, offset.elements), (0, 0), "modulo 65,536");
+    for element in [0, u16::MAX] {
+        let value = signal.get_value_at(&offset, element);
+        assert_eq!(value, Ok(SignalValueRef::Event));
+    }
+}
+
+/// As many changes at one index as there are element numbers: the count modulo 65,536 is 0, and each is read.
+#[test]
+fn every_change_at_an_index_is_read() {
+    const ELEMENTS: usize = 65_536;
+    let mut writer = SignalWriter::new(1).expect("the width stands");
+    for at in 0..ELEMENTS {
+        assert_eq!(writer.add_change(3, ["0", "1"][at % 2]), Ok(()));
+    }
+    let signal = writer.finish();
+    let offset = signal.get_offset(3).expect("no index falls");
+    let offset = offset.expect("there are changes");
+    assert_eq!((offset.start, offset.elements), (0, 0));
+    for element in 0..=u16::MAX {
+        let value = signal.get_value_at(&offset, element);
+        let value = value.expect("there is such a change");
+        assert_eq!(u64::try_from(value), Ok(u64::from(element) % 2));
+    }
+    let fewer = Signal::new_fixed_len(vec![3], signal.encoding(), vec![1]);
+    assert!(fewer.get_value_at(&offset, 0).is_ok());
+    assert_eq!(fewer.get_value_at(&offset, 1), Err(Refusal::NoSuchEntry));
 }
 
 #[test]

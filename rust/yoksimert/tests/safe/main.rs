@@ -10,3 +10,4 @@ mod records;
 mod rows;
 mod runs;
 mod values;
+mod writer;

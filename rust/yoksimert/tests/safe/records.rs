@@ -93,7 +93,7 @@ fn read(signal: &Signal, numbers: &mut Numbers) {
     let count = signal.time_indices().len();
     let d = judged::description(signal);
     for entry in (0..count as u32 + 1).chain([u32::MAX]) {
-        let answer = signal.get_entry(entry);
+        let answer = signal.get_entry(entry as usize);
         if let Ok(given) = answer {
             value(signal, entry, given, numbers);
         }
@@ -105,7 +105,7 @@ fn read(signal: &Signal, numbers: &mut Numbers) {
         let expected = signal.get_entry(entry);
         assert_eq!(change.map(|_| ()), expected.map(|_| ()));
         if let Ok((time_idx, _)) = change {
-            assert_eq!(time_idx, signal.time_indices()[entry as usize]);
+            assert_eq!(time_idx, signal.time_indices()[entry]);
         }
     }
 }
@@ -117,7 +117,7 @@ fn look_up(signal: &Signal, numbers: &mut Numbers) {
             let at = signal.get_time_idx_at(offset);
             assert_eq!(at == Some(time_idx), offset.time_match);
             for element in 0..offset.elements {
-                let entry = offset.start as u32 + u32::from(element);
+                let entry = offset.start + usize::from(element);
                 let given = signal.get_value_at(offset, element).map(|_| ());
                 assert_eq!(given, signal.get_entry(entry).map(|_| ()));
             }
@@ -191,7 +191,7 @@ fn arbitrary_offsets_are_refused() {
         let known = signal.time_indices().get(offset.start).copied();
         assert_eq!(signal.get_time_idx_at(&offset), known);
         let given = signal.get_value_at(&offset, element).map(|_| ());
-        if element >= offset.elements {
+        if offset.elements != 0 && element >= offset.elements {
             assert_eq!(given, Err(Refusal::NoSuchEntry));
         } else if entry >= signal.time_indices().len() as u128 {
             assert!(matches!(
@@ -199,23 +199,39 @@ fn arbitrary_offsets_are_refused() {
                 Err(Refusal::NoSuchEntry | Refusal::BadRecord)
             ));
         } else {
-            assert_eq!(given, signal.get_entry(entry as u32).map(|_| ()));
+            assert_eq!(given, signal.get_entry(entry as usize).map(|_| ()));
         }
     }
 }
 
+const REASONS: [&str; 15] = [
+    "the width is above 4,096",
+    "not a record: its width is not 1 to 4,096, it has more than 1,048,576 entries, or its bytes or time indices are too few",
+    "the record is of another kind than the value or the call",
+    "the string has not one character for each wire, or, for an event, more than one",
+    "a character is none of 0 1 x z h u w l -",
+    "the time index is below the last one kept",
+    "no room: the record has 1,048,576 entries, or the slice is too short",
+    "the record has no such entry",
+    "an entry's mark is no set's, or above the record's largest set",
+    "an entry has a code that is no level's",
+    "a time index is below the one before it",
+    "the piece's msb is below its lsb or above 4,095",
+    "the derivation has 8 inputs, 64 pieces or 4,096 bits, and the piece would exceed that",
+    "the derivation has no piece, does not fit the records it is given, or breaks a limit",
+    "an input is empty, or does not start at time index 0",
+];
+
 #[test]
 fn refusals_have_their_numbers() {
-    let numbers: Vec<u8> = Refusal::ALL
-        .iter()
-        .map(|refusal| refusal.number())
-        .collect();
-    assert_eq!(numbers, (1..=15).collect::<Vec<u8>>());
-    let reasons: BTreeSet<&str> = Refusal::ALL
-        .iter()
-        .map(|refusal| refusal.reason())
-        .collect();
-    assert_eq!(reasons.len(), 15);
+    assert_eq!(Refusal::ALL.len(), REASONS.len());
+    for ((refusal, number), reason) in Refusal::ALL.iter().zip(1..).zip(REASONS) {
+        assert_eq!((refusal.number(), refusal.reason()), (number, reason));
+        assert_eq!(Refusal::from_number(number.into()), Some(*refusal));
+    }
+    for none in [0, 16, 257, u32::MAX] {
+        assert_eq!(Refusal::from_number(none), None);
+    }
     let text = Refusal::NoSuchEntry.to_string();
     assert_eq!(text, "the record has no such entry (refusal 8)");
 }
