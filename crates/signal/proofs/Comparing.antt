@@ -10,12 +10,12 @@ use native.Mathlib.Numerals.{add-one}
 use native.Mathlib.Omega.{arith}
 use denote.Enum.Declared.{tagOf}
 use types.Run.{OneOf}
-use lib.Dec.{eqb}
+use lib.Dec.{T, eqb, eqb→eq}
 use borrow.Author.Tests.{eq-eqb, ne-eqb}
-use lib.Bits.{bitOr, or-shifted}
+use lib.Bits.{bitOr, bitXor, or-shifted, or-add-and, xor-add-and, xor-self, and-le-l, and-le-r}
 use lib.Pow.{shl-exact}
 use lib.ListN.{length, getD, take, drop, length-map, drop-of-length-le}
-use lib.Seq.{take-suc, take-all, drop-cons}
+use lib.Seq.{take-suc, take-take, take-all, drop-cons, getD-take}
 use Rattle.value.specs.declared.States.{States}
 use Rattle.value.specs.Digits.{number as digitsNumber}
 use Rattle.value.specs.Slice.{part, same, any}
@@ -89,6 +89,30 @@ module _ (xs ys : List ℕ) where
   alike-all i h k t =
       let e : xs ≡ ys = sym (take-all i xs h) ∙ t ∙ take-all i ys k in
       sym (from-T (same xs ys) (rw e (same-refl ys)))
+
+  -- the union of all differences
+  pub alike-union : (i u : ℕ) → i < length xs → i < length ys → eqb u 0 ≡ same (take i xs) (take i ys)
+      → eqb (bitOr u (bitXor (getD xs i 0) (getD ys i 0))) 0 ≡ same (take (i + 1) xs) (take (i + 1) ys)
+  alike-union i u h k e =
+      let x = getD xs i 0 in
+      let y = getD ys i 0 in
+      let z = bitXor x y in
+      let n : i ≤ i + 1 = omega arith in
+      let l : i < i + 1 = omega arith in
+      both-ways (eqb (bitOr u z) 0) (same (take (i + 1) xs) (take (i + 1) ys))
+      (λ t.
+      let o : bitOr u z ≡ 0 = eqb→eq (bitOr u z) 0 t in
+      let p : u ≡ 0 = omega (arith, or-add-and u z, and-le-r u z) in
+      let q : z ≡ 0 = omega (arith, or-add-and u z, and-le-l u z) in
+      let v : x ≡ y = omega (arith, xor-add-and x y, and-le-l x y, and-le-r x y) in
+      let s : take i xs ≡ take i ys = same-sound (take i xs) (take i ys) (subst T e (to-T (eqb u 0) (eq-eqb u 0 p))) in
+      rw (alike-more i x y h k refl refl v s) (same-refl (take (i + 1) ys)))
+      (λ t.
+      let q : take (i + 1) xs ≡ take (i + 1) ys = same-sound (take (i + 1) xs) (take (i + 1) ys) t in
+      let s : take i xs ≡ take i ys = sym (take-take i (i + 1) xs n) ∙ ap (take i) q ∙ take-take i (i + 1) ys n in
+      let v : x ≡ y = sym (getD-take (i + 1) xs i 0 l) ∙ ap (λ (m : List ℕ). getD m i 0) q ∙ getD-take (i + 1) ys i 0 l in
+      let p : u ≡ 0 = eqb→eq u 0 (subst T (sym e) (rw s (same-refl (take i ys)))) in
+      to-T (eqb (bitOr u z) 0) (eq-eqb (bitOr u z) 0 (ap₂ bitOr p (ap (bitXor x) (sym v) ∙ xor-self x))))
 
 -- ---- 9 and 10 of an entry
 

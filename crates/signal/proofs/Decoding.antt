@@ -95,8 +95,8 @@ module _ (cs : List ℕ) (i : ℕ) (h : i < length cs) where
       ∙ or-both (hasNoCode (take i cs)) (isNoCode (getD cs i 0)) n (lt-leb 9 (getD cs i 0) (rw (← e) b)))
 
   -- one more letter stored behind those that stand there
-  pub text-more : (out : List ℕ) (c : ℕ) → c ≡ letterOf (getD cs i 0) → i < length out
-      → set (overlay out 0 (textOf (take i cs))) i c ≡ overlay out 0 (textOf (take (i + 1) cs))
-  text-more out c e k =
-      overlay-store out 0 (textOf (take i cs)) i c (rw (length-map (take i cs) letterOf, length-take i cs) (omega arith)) k
-      ∙ ap (overlay out 0) (ap (λ (x : ℕ). textOf (take i cs) ++ (x ∷ [])) e ∙ sym (map-append letterOf (take i cs) (getD cs i 0 ∷ [])) ∙ ap textOf (sym taken-more))
+  pub text-more : (out : List ℕ) (at c : ℕ) → c ≡ letterOf (getD cs i 0) → at + i < length out
+      → set (overlay out at (textOf (take i cs))) (at + i) c ≡ overlay out at (textOf (take (i + 1) cs))
+  text-more out at c e k =
+      overlay-store out at (textOf (take i cs)) (at + i) c (rw (length-map (take i cs) letterOf, length-take i cs) (omega arith)) k
+      ∙ ap (overlay out at) (ap (λ (x : ℕ). textOf (take i cs) ++ (x ∷ [])) e ∙ sym (map-append letterOf (take i cs) (getD cs i 0 ∷ [])) ∙ ap textOf (sym taken-more))

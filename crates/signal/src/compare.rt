@@ -81,19 +81,18 @@ fn same_real(a: &[u8], b: &[u8]) -> bool
     same_bits(real_bits(a), real_bits(b))
 }
 
-// Whether two slices of one length hold equal bytes.
+// Whether two slices of one length hold equal bytes. The loop runs to the end, so that it is compiled to wide instructions.
 fn equal_bytes(a: &[u8], b: &[u8]) -> bool
     requires { ⌜ length (now a) ≡ length (now b) ⌝ }
     ensures { λ r. ⌜ r ≡ same (now (a .entry)) (now (b .entry)) ⌝ }
 {
+    let mut union: u8 = 0;
     let mut i = 0;
     while i < a.len() {
-        if a[i] != b[i] {
-            return false;
-        }
+        union |= a[i] ^ b[i];
         i += 1;
     }
-    true
+    union == 0
 }
 
 // Whether two lists of codes agree.

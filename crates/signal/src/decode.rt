@@ -1,9 +1,11 @@
 // An entry of a bit vector decoded: its own set, the bytes of its levels, its codes. Reading, comparing and deriving go through these.
 ghost use mathlib.Core.Path.{_≡_};
-ghost use Prim.Native.Nat.{_-_, _≤_, _<_};
-ghost use lib.ListN.{length, drop, getD};
+ghost use Prim.Native.Nat.{_+_, _-_, _*_, _/_, _^_, _≤_, _<_};
+ghost use lib.Dec.{ltb};
+ghost use lib.ListN.{length, take, drop, getD};
+ghost use Rattle.value.specs.Digits.{number, digits};
 ghost use Rattle.value.specs.Slice.{overlay};
-ghost use Rattle.value.specs.Level.{setAt, lenOf, hasNoCode, textOf};
+ghost use Rattle.value.specs.Level.{bitsOf, setAt, lenOf, hasNoCode, textOf};
 ghost use Rattle.signal.specs.Decode.{markIn};
 ghost use Rattle.signal.specs.Parts.{ownStates, codesAt, Levels};
 use crate::OwnStates;
@@ -61,6 +63,37 @@ pub fn code_at(width: u32, states: States, levels: &[u8], i: u32) -> u8
     states.get_bit(levels, width - 1 - i)
 }
 
+// More than 0 for a byte of two codes of which one is 9 to 15. It has no jumps, so that a loop over it is compiled to wide instructions.
+fn bad_bits(byte: u8) -> u8
+    ensures { λ r. ⌜ ltb 0 r ≡ hasNoCode (digits 16 2 byte) ⌝ }
+{
+    ((byte & 0x77) + 0x77) & byte & 0x88
+}
+
+// Whether a code of bytes that are full is 9 to 15.
+fn has_bad_byte(levels: &[u8]) -> bool
+    ensures { λ r. ⌜ r ≡ hasNoCode (digits 16 (2 * length (now (levels .entry))) (number 256 (now (levels .entry)))) ⌝ }
+{
+    let mut union: u8 = 0;
+    let mut i = 0;
+    while i < levels.len() {
+        union |= bad_bits(levels[i]);
+        i += 1;
+    }
+    0 < union
+}
+
+// Whether the code of a first byte that has but one is 9 to 15.
+fn has_bad_first(count: usize, levels: &[u8]) -> bool
+    requires { ⌜ (count ≤ 1) × (count ≤ length (now levels)) ⌝ }
+    ensures { λ r. ⌜ r ≡ hasNoCode (digits 16 count (number 256 (take count (now (levels .entry))))) ⌝ }
+{
+    if count == 0 {
+        return false;
+    }
+    9 <= (levels[0] & 15)
+}
+
 // Whether a code is 9 to 15, as only four bits can be.
 pub fn has_bad_code(width: u32, states: States, levels: &[u8]) -> bool
     requires { ⌜ Levels width states (now levels) ⌝ }
@@ -69,14 +102,65 @@ pub fn has_bad_code(width: u32, states: States, levels: &[u8]) -> bool
     if states.bits() < 4 {
         return false;
     }
+    let first = (width % 2) as usize;
+    if has_bad_first(first, levels) {
+        return true;
+    }
+    has_bad_byte(&levels[first..])
+}
+
+// Stores the characters of the lowest levels of a byte from a place on.
+fn write_levels(states: States, byte: u8, count: u32, out: &mut [u8], at: usize)
+    requires { ⌜ (count * bitsOf states ≤ 8) × (at + count ≤ length (now out)) ⌝ }
+    ensures { λ _. ⌜ now (out .exit) ≡ overlay (now (out .entry)) at (textOf (digits (2 ^ bitsOf states) count byte)) ⌝ }
+{
+    let bits = states.bits();
     let mut i = 0;
-    while i < width {
-        if 9 <= code_at(width, states, levels, i) {
-            return true;
-        }
+    while i < count {
+        let level = (byte >> ((count - 1 - i) * bits)) & states.mask();
+        out[at + i as usize] = num_to_bit_char(level);
         i += 1;
     }
-    false
+}
+
+// Stores the characters of a first byte that is not full. Returns how many bytes have been read.
+fn write_first(states: States, count: u32, levels: &[u8], out: &mut [u8]) -> usize
+    requires { ⌜ (count * bitsOf states ≤ 8) × (lenOf count states ≤ length (now levels)) × (count ≤ length (now out)) ⌝ }
+    ensures { λ r. ⌜ r ≡ lenOf count states ⌝ }
+    ensures { λ _. ⌜ now (out .exit) ≡ overlay (now (out .entry)) 0 (textOf (digits (2 ^ bitsOf states) count (number 256 (take (lenOf count states) (now (levels .entry)))))) ⌝ }
+{
+    if count == 0 {
+        return 0;
+    }
+    write_levels(states, levels[0], count, out, 0);
+    1
+}
+
+// Stores the characters of a full byte from a place on: `write_levels` for each set apart, so that it is compiled without a loop.
+fn write_byte(states: States, byte: u8, out: &mut [u8], at: usize)
+    requires { ⌜ at + 8 / bitsOf states ≤ length (now out) ⌝ }
+    ensures { λ _. ⌜ now (out .exit) ≡ overlay (now (out .entry)) at (textOf (digits (2 ^ bitsOf states) (8 / bitsOf states) byte)) ⌝ }
+{
+    match states {
+        States::Two => write_levels(States::Two, byte, 8, out, at),
+        States::Four => write_levels(States::Four, byte, 4, out, at),
+        States::Nine => write_levels(States::Nine, byte, 2, out, at),
+    }
+}
+
+// Stores the characters of full bytes from a place on.
+fn write_bytes(states: States, levels: &[u8], out: &mut [u8], at: usize)
+    requires { ⌜ at + 8 / bitsOf states * length (now levels) ≤ length (now out) ⌝ }
+    ensures { λ _. ⌜ now (out .exit) ≡ overlay (now (out .entry)) at (textOf (digits (2 ^ bitsOf states) (8 / bitsOf states * length (now (levels .entry))) (number 256 (now (levels .entry))))) ⌝ }
+{
+    let per_byte = states.bits_in_a_byte() as usize;
+    let mut i = at;
+    let mut k = 0;
+    while k < levels.len() {
+        write_byte(states, levels[k], out, i);
+        i += per_byte;
+        k += 1;
+    }
 }
 
 // Stores the characters of an entry.
@@ -84,9 +168,7 @@ pub fn write_text(width: u32, states: States, levels: &[u8], out: &mut [u8])
     requires { ⌜ Levels width states (now levels) × (width ≤ length (now out)) ⌝ }
     ensures { λ _. ⌜ now (out .exit) ≡ overlay (now (out .entry)) 0 (textOf (codesAt width states (now (levels .entry)))) ⌝ }
 {
-    let mut i = 0;
-    while i < width {
-        out[i as usize] = num_to_bit_char(code_at(width, states, levels, i));
-        i += 1;
-    }
+    let count = width % states.bits_in_a_byte();
+    let k = write_first(states, count, levels, out);
+    write_bytes(states, &levels[k..], out, count as usize)
 }

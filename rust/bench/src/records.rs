@@ -192,7 +192,8 @@ pub fn read() {
 fn read_at(states: States, width: usize) {
     let (recorder, wellen) = filled(states, width, 20_000);
     let (flat, bytes) = (recorder.description, &recorder.bytes);
-    let read = each_entry(flat.count, |entry| raw::read(flat, bytes, 0, entry));
+    // One number, as of wellen: a copy of the whole answer would wait for its single stores.
+    let read = each_entry(flat.count, |entry| raw::read(flat, bytes, 0, entry).length);
     let wellen_read = each_entry(flat.count, |entry| wellen.read_unguarded(entry));
     let mut out = vec![0; width];
     let text = each_entry(flat.count, |entry| {

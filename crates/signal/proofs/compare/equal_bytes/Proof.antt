@@ -1,34 +1,32 @@
--- `signal::compare::equal_bytes` meets its contract: the bytes passed agree.
+-- `signal::compare::equal_bytes` meets its contract: the union of the differences so far is 0 where the bytes so far agree.
 -- Assumes nothing.
-use lib.ListN.{length, take}
-use denote.Ref.{now}
-use mathlib.Core.Path.{_≡_, refl}
-use native.Mathlib.Omega.{arith}
-use Rattle.signal.proofs.Comparing.{alike-none, alike-not, alike-more, alike-all}
+use mathlib.Core.Path.{_≡_, refl, ap₂, _∙_}
 use Prim.Native.Nat.{_-_, _≤_}
+use native.Mathlib.Omega.{arith}
+use denote.Ref.{now}
+use lib.Dec.{eqb}
+use lib.ListN.{length, take}
+use lib.Seq.{take-all}
+use Rattle.value.specs.Slice.{same}
+use Rattle.signal.proofs.Comparing.{alike-union}
 use Rattle.signal.proofs.compare.equal_bytes.Statement.{statement}
 use Rattle.signal.proofs.compare.equal_bytes.Tie as tie
 
 abbrev Inv-loop : tie.InvT-loop
-Inv-loop a b i₀ i = (i ≤ length a) × (take i a ≡ take i b)
+Inv-loop a b union₀ i₀ union i = (i ≤ length a) × (eqb union 0 ≡ same (take i a) (take i b))
 
 abbrev μ-loop : tie.MeasureT-loop
-μ-loop a b i₀ i = length a - i
+μ-loop a b union₀ i₀ union i = length a - i
 
 loop-holds : tie.Need-loop-holds Inv-loop μ-loop
-loop-holds c = (omega arith, alike-none (now (c .args .a)) (now (c .args .b)))
+unfolding same
+loop-holds c = (omega arith, refl)
 
-shared-slice-read-if1 : tie.Need-shared-slice-read-if1 Inv-loop μ-loop
-shared-slice-read-if1 c = omega arith
+shared-slice-read-union : tie.Need-shared-slice-read-union Inv-loop μ-loop
+shared-slice-read-union c = omega arith
 
-shared-slice-read-if1-2 : tie.Need-shared-slice-read-if1-2 Inv-loop μ-loop
-shared-slice-read-if1-2 c = omega arith
-
-returns : tie.Need-returns Inv-loop μ-loop
-returns c =
-    let l = c .before .before .before .before in
-    let a = l .before .args in
-    alike-not (now (a .a)) (now (a .b)) (l .loop .i) _ _ refl refl (c .if1 .taken)
+shared-slice-read-union-2 : tie.Need-shared-slice-read-union-2 Inv-loop μ-loop
+shared-slice-read-union-2 c = omega arith
 
 add-i : tie.Need-add-i Inv-loop μ-loop
 add-i c = omega arith
@@ -38,15 +36,15 @@ loop-less c = omega arith
 
 loop-again : tie.Need-loop-again Inv-loop μ-loop
 loop-again c =
-    let l = c .before .before .before .before in
+    let l = c .before .before .before in
     let a = l .before .args in
-    (omega arith, alike-more (now (a .a)) (now (a .b)) (l .loop .i) _ _ (omega arith) (omega arith) refl refl (c .if1 .left) (l .loop .inv .1))
+    (omega arith, alike-union (now (a .a)) (now (a .b)) (l .loop .i) (l .loop .union) (omega arith) (omega arith) (l .loop .inv .1))
 
-returns-2 : tie.Need-returns-2 Inv-loop μ-loop
-returns-2 c =
+returns : tie.Need-returns Inv-loop μ-loop
+returns c =
     let l = c .before in
     let a = l .before .args in
-    alike-all (now (a .a)) (now (a .b)) (l .loop .i) (omega arith) (omega arith) (l .loop .inv .1)
+    l .loop .inv .1 ∙ ap₂ same (take-all (l .loop .i) (now (a .a)) (omega arith)) (take-all (l .loop .i) (now (a .b)) (omega arith))
 
 pub equal-bytes-spec : {M : Type 1} → statement M
 equal-bytes-spec =
@@ -55,10 +53,9 @@ equal-bytes-spec =
     Inv-loop
     μ-loop
     loop-holds
-    shared-slice-read-if1
-    shared-slice-read-if1-2
-    returns
+    shared-slice-read-union
+    shared-slice-read-union-2
     add-i
     loop-less
     loop-again
-    returns-2)
+    returns)

@@ -1,78 +1,94 @@
--- `signal::decode::has_bad_code` meets its contract: no code that was passed is bad.
+-- `signal::decode::has_bad_code` meets its contract: a code of the first byte is bad where that has but one, or one of the full bytes is.
 -- Assumes nothing.
-use mathlib.Core.Path.{_≡_, sym}
-use mathlib.Core.Bool.{false}
-use Prim.Native.Nat.{_-_, _≤_}
+use mathlib.Core.Path.{_≡_, refl, sym, ap, _∙_}
+use mathlib.Core.Bool.{true, false}
+use mathlib.Core.List.{List}
+use Prim.Native.Nat.{ℕ, _-_, _*_, _%_, _≤_}
 use native.Mathlib.Omega.{arith}
 use borrow.Author.Needs.{needs}
 use denote.Ref.{now}
-use lib.ListN.{take}
+use lib.ListN.{length, drop, length-drop}
 use lib.Seq.{take-all}
+use Rattle.value.specs.declared.States.the-variants.{Nine}
+use Rattle.value.specs.Digits.{number, digits, Below}
 use Rattle.value.specs.Level.{hasNoCode}
-use Rattle.signal.specs.Parts.{codesAt}
-use Rattle.signal.proofs.Decoding.{codes-length, few-bits, bad-at, none-more, none-yet}
+use Rattle.value.proofs.Digits.{below-all}
+use Rattle.signal.specs.Parts.{Levels}
+use Rattle.signal.proofs.Decoding.{few-bits}
+use Rattle.signal.proofs.CodesOfBytes.{nine-bits, bad-whole}
 use Rattle.signal.proofs.decode.has_bad_code.Statement.{statement}
 use Rattle.signal.proofs.decode.has_bad_code.Tie as tie
 
-abbrev Inv-loop : tie.InvT-loop
-Inv-loop width states levels i₀ i = (i ≤ width) × (hasNoCode (take i (codesAt width states levels)) ≡ false)
-
-abbrev μ-loop : tie.MeasureT-loop
-μ-loop width states levels i₀ i = width - i
-
-bits-requires : tie.Need-bits-requires Inv-loop μ-loop
+bits-requires : tie.Need-bits-requires
 bits-requires c κs = search needs
 
-returns : tie.Need-returns Inv-loop μ-loop
+returns : tie.Need-returns
 returns c =
     let a = c .before .before .before .args in
     few-bits (a .width) (a .states) (now (a .levels)) (rw (c .before .bits .ensures) at (c .if1 .taken))
 
-loop-holds : tie.Need-loop-holds Inv-loop μ-loop
-loop-holds c =
-    let a = c .before .before .before .args in
-    (omega arith, none-yet (codesAt (a .width) (a .states) (now (a .levels))))
+cast-first : tie.Need-cast-first
+cast-first c = search needs
 
-code-at-requires : tie.Need-code-at-requires Inv-loop μ-loop
-code-at-requires c κs = (c .before .before .before .before .before .pre, c .loop-test .taken)
+-- the set is Nine
+nine : (c : tie.Else1) → let a = c .before .before .before .args in a .states ≡ Nine
+nine c = nine-bits (c .before .before .before .args .states) (rw (c .before .bits .ensures) at (c .if1 .left))
 
-returns-2 : tie.Need-returns-2 Inv-loop μ-loop
+within : (c : tie.Else1) → let a = c .before .before .before .args in a .width % 2 ≤ length (now (a .levels))
+within c =
+    let s = c .before .before .before in
+    let h : Levels (s .args .width) Nine (now (s .args .levels)) = rw (nine c) at (s .pre) in
+    omega (arith, h .long)
+
+below : (c : tie.Else1) → Below 256 (now (c .before .before .before .args .levels))
+below c = below-all 256 (now (c .before .before .before .args .levels)) (λ i. omega (arith, c .before .before .shared-slice-known .given i))
+
+has-bad-first-requires : tie.Need-has-bad-first-requires
+has-bad-first-requires c κs = (omega arith, within c)
+
+returns-2 : tie.Need-returns-2
 returns-2 c =
-    let l = c .before .before .before in
-    let a = l .before .before .before .before .args in
-    bad-at (codesAt (a .width) (a .states) (now (a .levels))) (l .loop .i) (rw codes-length (c .before .before .loop-test .taken)) _ (c .before .code-at .ensures) (c .if2 .taken)
+    let e = c .before .before in
+    let s = e .before .before .before in
+    let a = s .args in
+    let v = now (a .levels) in
+    bad-whole (a .width) (a .states) v (nine e) (s .pre) (below e) true _ (sym (c .if2 .taken) ∙ c .before .has-bad-first .ensures) refl
 
-add-i : tie.Need-add-i Inv-loop μ-loop
-add-i c = omega arith
+sub-has-bad-byte : tie.Need-sub-has-bad-byte
+sub-has-bad-byte c = within (c .before .before)
 
-loop-less : tie.Need-loop-less Inv-loop μ-loop
-loop-less c = omega arith
+part-has-bad-byte-start : tie.Need-part-has-bad-byte-start
+part-has-bad-byte-start c = within (c .before .before)
 
-loop-again : tie.Need-loop-again Inv-loop μ-loop
-loop-again c =
-    let l = c .before .before .before in
-    let a = l .before .before .before .before .args in
-    (omega arith, none-more (codesAt (a .width) (a .states) (now (a .levels))) (l .loop .i) (rw codes-length (c .before .before .loop-test .taken)) _ (c .before .code-at .ensures) (c .if2 .left) (l .loop .inv .1))
+part-has-bad-byte-end : tie.Need-part-has-bad-byte-end
+part-has-bad-byte-end c = search needs
 
-returns-3 : tie.Need-returns-3 Inv-loop μ-loop
+has-bad-byte-requires : tie.Need-has-bad-byte-requires
+has-bad-byte-requires c κs = search needs
+
+returns-3 : tie.Need-returns-3
 returns-3 c =
-    let l = c .before in
-    let a = l .before .before .before .before .args in
-    let t = take-all (l .loop .i) (codesAt (a .width) (a .states) (now (a .levels))) (rw codes-length (c .loop-test .left)) in
-    sym (rw t at (l .loop .inv .1))
+    let f = c .before .before in
+    let e = f .before .before in
+    let s = e .before .before .before in
+    let a = s .args in
+    let v = now (a .levels) in
+    let n = a .width % 2 in
+    let t = take-all (length v - n) (drop n v) (rw length-drop (omega arith)) in
+    bad-whole (a .width) (a .states) v (nine e) (s .pre) (below e) false _ (sym (f .if2 .left) ∙ f .before .has-bad-first .ensures)
+    (c .has-bad-byte .ensures ∙ ap (λ (r : List ℕ). hasNoCode (digits 16 (2 * length r) (number 256 r))) t)
 
 pub has-bad-code-spec : {M : Type 1} → statement M
 has-bad-code-spec =
     tie.close
     (tie.spec
-    Inv-loop
-    μ-loop
     bits-requires
     returns
-    loop-holds
-    code-at-requires
+    cast-first
+    has-bad-first-requires
     returns-2
-    add-i
-    loop-less
-    loop-again
+    sub-has-bad-byte
+    part-has-bad-byte-start
+    part-has-bad-byte-end
+    has-bad-byte-requires
     returns-3)

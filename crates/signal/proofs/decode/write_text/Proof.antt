@@ -1,84 +1,88 @@
--- `signal::decode::write_text` meets its contract: as many characters stand there as turns were taken.
+-- `signal::decode::write_text` meets its contract: the characters of the full bytes stand behind those of the first where that is not full.
 -- Assumes nothing.
-use mathlib.Core.Path.{_≡_, refl, sym, ap, _∙_}
-use mathlib.Core.List.{List}
-use Prim.Native.Nat.{ℕ, _-_, _≤_}
+use mathlib.Core.Path.{_≡_, refl}
+use Prim.Native.Nat.{ℕ, _%_}
 use native.Mathlib.Omega.{arith}
 use borrow.Author.Needs.{needs}
 use denote.Ref.{now}
-use lib.ListN.{length, take, set, length-set}
-use lib.Seq.{take-all}
-use Rattle.value.specs.Level.{textOf, letterOf}
-use Rattle.value.specs.Slice.{overlay}
-use Rattle.value.proofs.Slices.{overlay-nil}
-use Rattle.signal.specs.Parts.{codesAt}
-use Rattle.signal.proofs.Decoding.{codes-length, text-more}
+use Rattle.value.specs.Level.{lenOf}
+use Rattle.value.proofs.Digits.{below-all}
+use Rattle.signal.proofs.CodesOfBytes.{per-some, Split, split-told, text-room, text-whole}
 use Rattle.signal.proofs.decode.write_text.Statement.{statement}
 use Rattle.signal.proofs.decode.write_text.Tie as tie
 
-abbrev Inv-loop : tie.InvT-loop
-Inv-loop width states levels out₀ i₀ out i =
-    (i ≤ width) × (out ≡ overlay out₀ 0 (textOf (take i (codesAt width states levels)))) × (length out ≡ length out₀)
+bits-in-a-byte-requires : tie.Need-bits-in-a-byte-requires
+bits-in-a-byte-requires c κs = search needs
 
-abbrev μ-loop : tie.MeasureT-loop
-μ-loop width states levels out₀ i₀ out i = width - i
+rem-count : tie.Need-rem-count
+rem-count c = rw (c .bits-in-a-byte .ensures) (per-some (c .before .before .before .args .states) .0)
 
-loop-holds : tie.Need-loop-holds Inv-loop μ-loop
-loop-holds c = (omega arith, sym (overlay-nil _ 0), refl)
+-- what the first byte has, and the full bytes
+parted : (c : tie.After-bits-in-a-byte)
+    → let a = c .before .before .before .args in
+    (k : ℕ) → k ≡ lenOf (a .width % c .bits-in-a-byte .result) (a .states)
+    → Split (a .width) (a .states) (now (a .levels)) (a .width % c .bits-in-a-byte .result) k
+parted c k e =
+    let s = c .before .before .before in
+    split-told (s .args .width) (now (s .args .levels)) (s .args .states) _ k (s .pre .0) (c .bits-in-a-byte .ensures) e
 
-code-at-requires : tie.Need-code-at-requires Inv-loop μ-loop
-code-at-requires c κs = (c .before .before .before .before .pre .0, c .loop-test .taken)
+write-first-requires : tie.Need-write-first-requires
+write-first-requires c κs =
+    let h = parted (c .before) _ refl in
+    (h .small, h .within, omega (arith, h .rest, c .before .before .before .before .pre .1))
 
-num-to-bit-char-requires : tie.Need-num-to-bit-char-requires Inv-loop μ-loop
-num-to-bit-char-requires c κs = search needs
+-- the same once the first byte is read
+behind : (c : tie.After-write-first)
+    → let b = c .before .before in
+    let a = b .before .before .before .args in
+    Split (a .width) (a .states) (now (a .levels)) (a .width % b .bits-in-a-byte .result) (c .write-first .result)
+behind c = parted (c .before .before) _ (c .write-first .ensures .0)
 
-cast-out : tie.Need-cast-out Inv-loop μ-loop
-cast-out c = omega arith
+sub-write-bytes : tie.Need-sub-write-bytes
+sub-write-bytes c = behind (c .before .before) .within
 
-slice-write-out : tie.Need-slice-write-out Inv-loop μ-loop
-slice-write-out c = omega arith
+part-write-bytes-start : tie.Need-part-write-bytes-start
+part-write-bytes-start c = behind (c .before .before) .within
 
-add-i : tie.Need-add-i Inv-loop μ-loop
-add-i c = omega arith
+part-write-bytes-end : tie.Need-part-write-bytes-end
+part-write-bytes-end c = search needs
 
-loop-less : tie.Need-loop-less Inv-loop μ-loop
-loop-less c = omega arith
+cast-write-bytes : tie.Need-cast-write-bytes
+cast-write-bytes c =
+    let w = c .before .before .before .before in
+    omega (arith, behind w .rest, w .before .before .before .before .before .pre .0 .short)
 
-loop-again : tie.Need-loop-again Inv-loop μ-loop
-loop-again c =
-    let l = c .before .before .before in
-    let a = l .before .before .before .args in
-    let cs = codesAt (a .width) (a .states) (now (a .levels)) in (
-      omega arith,
-      ap (λ (o : List ℕ). set o (l .loop .i) (c .num-to-bit-char .result)) (l .loop .inv .1)
-          ∙ text-more cs (l .loop .i) (rw codes-length (c .before .before .loop-test .taken)) (now (a .out)) (c .num-to-bit-char .result)
-          (c .num-to-bit-char .ensures ∙ ap letterOf (c .before .code-at .ensures)) (omega arith),
-      rw length-set (l .loop .inv .2),
-    )
+write-bytes-requires : tie.Need-write-bytes-requires
+write-bytes-requires c κs =
+    let w = c .before .before .before .before in
+    let s = w .before .before .before .before .before in
+    let a = s .args in
+    text-room (a .width) (a .states) (now (a .levels)) (behind w) (now (a .out)) _ (s .pre .1) _ (w .write-first .ensures .0) (w .write-first .ensures .1)
 
-same-length : tie.Need-same-length Inv-loop μ-loop
-same-length c = c .before .loop .inv .2
+same-length : tie.Need-same-length
+same-length c = search needs
 
-returns : tie.Need-returns Inv-loop μ-loop
+returns : tie.Need-returns
 returns c =
-    let l = c .before in
-    let a = l .before .before .before .args in
-    let t = take-all (l .loop .i) (codesAt (a .width) (a .states) (now (a .levels))) (rw codes-length (c .loop-test .left)) in
-    l .loop .inv .1 ∙ ap (λ (cs : List ℕ). overlay (now (a .out)) 0 (textOf cs)) t
+    let w = c .before .before .before .before .before .before .before in
+    let k = w .before .before .before .before in
+    let s = k .before in
+    let a = s .args in
+    let v = now (a .levels) in
+    text-whole (a .width) (a .states) v (behind w) (now (a .out)) _ (s .pre .1) _ (w .write-first .ensures .0) (w .write-first .ensures .1)
+    (below-all 256 v (λ i. omega (arith, k .shared-slice-known .given i))) _ (c .before .before .write-bytes .ensures)
 
 pub write-text-spec : {M : Type 1} → statement M
 write-text-spec =
     tie.close
     (tie.spec
-    Inv-loop
-    μ-loop
-    loop-holds
-    code-at-requires
-    num-to-bit-char-requires
-    cast-out
-    slice-write-out
-    add-i
-    loop-less
-    loop-again
+    bits-in-a-byte-requires
+    rem-count
+    write-first-requires
+    sub-write-bytes
+    part-write-bytes-start
+    part-write-bytes-end
+    cast-write-bytes
+    write-bytes-requires
     same-length
     returns)

@@ -1,0 +1,90 @@
+-- `signal::decode::write_bytes` meets its contract: the characters of the bytes so far stand there.
+-- Assumes nothing.
+use Prim.Native.Nat.{_+_, _-_, _≤_}
+use native.Mathlib.Omega.{arith}
+use borrow.Author.Needs.{needs}
+use denote.Ref.{now}
+use lib.ListN.{length}
+use Rattle.value.proofs.Digits.{below-all}
+use Rattle.signal.proofs.CodesOfBytes.{perByte, per-some, Stored, stored-none, stored-room, stored-on, stored-end}
+use Rattle.signal.proofs.decode.write_bytes.Statement.{statement}
+use Rattle.signal.proofs.decode.write_bytes.Tie as tie
+
+abbrev Inv-loop : tie.InvT-loop
+Inv-loop states levels out₀ at per-byte i₀ k₀ out i k = Stored states levels out₀ at i k out
+
+abbrev μ-loop : tie.MeasureT-loop
+μ-loop states levels out₀ at per-byte i₀ k₀ out i k = length levels - k
+
+bits-in-a-byte-requires : tie.Need-bits-in-a-byte-requires Inv-loop μ-loop
+bits-in-a-byte-requires c κs = search needs
+
+cast-per-byte : tie.Need-cast-per-byte Inv-loop μ-loop
+cast-per-byte c = omega (arith, c .bits-in-a-byte .ensures, per-some (c .before .before .before .args .states))
+
+loop-holds : tie.Need-loop-holds Inv-loop μ-loop
+loop-holds c =
+    let s = c .before .before .before in
+    stored-none (s .args .states) (now (s .args .levels)) (now (s .args .out)) (s .args .at)
+
+-- the function's entry
+abbrev start : tie.At-loop Inv-loop μ-loop → tie.Start Inv-loop μ-loop
+start a = a .before .before .before .before
+
+room : (c : tie.In-loop Inv-loop μ-loop) → let s = start (c .before) in c .before .loop .i + perByte (s .args .states) ≤ length (now (s .args .out))
+room c =
+    let s = start (c .before) in
+    stored-room (s .args .states) (now (s .args .levels)) (now (s .args .out)) (s .args .at) (s .pre) (c .before .loop .inv) (c .loop-test .taken)
+
+shared-slice-read-write-byte : tie.Need-shared-slice-read-write-byte Inv-loop μ-loop
+shared-slice-read-write-byte c = omega arith
+
+write-byte-requires : tie.Need-write-byte-requires Inv-loop μ-loop
+write-byte-requires c κs = omega (arith, room (c .before .before), c .before .before .before .loop .inv .long)
+
+add-i : tie.Need-add-i Inv-loop μ-loop
+add-i c =
+    let i = c .before .before .before .before .before in
+    omega (arith, room i, i .before .before .bits-in-a-byte .ensures)
+
+add-k : tie.Need-add-k Inv-loop μ-loop
+add-k c = omega arith
+
+loop-less : tie.Need-loop-less Inv-loop μ-loop
+loop-less c = omega arith
+
+loop-again : tie.Need-loop-again Inv-loop μ-loop
+loop-again c =
+    let k = c .before .before .before .before in
+    let l = k .before .before in
+    let s = start l in
+    let v = now (s .args .levels) in
+    stored-on (s .args .states) v (now (s .args .out)) (s .args .at) (s .pre) (l .loop .inv) (k .before .loop-test .taken)
+    (below-all 256 v (λ i. omega (arith, k .shared-slice-known2 .given i))) _ _ (l .before .bits-in-a-byte .ensures) (c .before .before .write-byte .ensures)
+
+same-length : tie.Need-same-length Inv-loop μ-loop
+same-length c = c .before .loop .inv .long
+
+returns : tie.Need-returns Inv-loop μ-loop
+returns c =
+    let l = c .before in
+    let s = start l in
+    stored-end (s .args .states) (now (s .args .levels)) (now (s .args .out)) (s .args .at) (l .loop .inv) (c .loop-test .left)
+
+pub write-bytes-spec : {M : Type 1} → statement M
+write-bytes-spec =
+    tie.close
+    (tie.spec
+    Inv-loop
+    μ-loop
+    bits-in-a-byte-requires
+    cast-per-byte
+    loop-holds
+    shared-slice-read-write-byte
+    write-byte-requires
+    add-i
+    add-k
+    loop-less
+    loop-again
+    same-length
+    returns)
