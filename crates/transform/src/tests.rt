@@ -11,7 +11,7 @@ ghost use Rattle.fst.specs.Record.{usedSize, isBadBytes};
 ghost use Rattle.fst.specs.Refusal.{given, tried};
 ghost use Rattle.signal.specs.Decode.{entriesIn, levelsIn};
 ghost use Rattle.signal.specs.Parts.{codesAt, Levels};
-ghost use Rattle.signal.specs.Read.{widthOf, hasNoText};
+ghost use Rattle.signal.specs.Read.{hasNoText};
 ghost use Rattle.transform.specs.Piece.{endOf, piecesOf};
 ghost use Rattle.transform.specs.Derive.{inputsOf, isBadInput, inputKept, startsLate, isLate, indicesFall, isUnfit, isBeyond, markIsBad, pickIsBad, pickedOf, codeIsBad};
 ghost use Rattle.transform.specs.Tests.{failsBy, isFirst, TwoCodes, Pickable, Picking, Numbered, Readable, keptWith, keptAll, firstTests, verdictReply};
@@ -20,6 +20,7 @@ use crate::Extract;
 use crate::Input;
 use crate::InputTest;
 use crate::Inputs;
+use crate::steps::width_of;
 use fst::Description;
 use fst::Encoding;
 use fst::Refusal;
@@ -90,19 +91,6 @@ fn has_no_text(encoding: Encoding) -> bool
             width: _,
             max_states: _,
         } => false,
-    }
-}
-
-fn width_of(encoding: Encoding) -> u32
-    ensures { λ r. ⌜ r ≡ widthOf encoding ⌝ }
-{
-    match encoding {
-        Encoding::Event => 0,
-        Encoding::Real => 0,
-        Encoding::BitVector {
-            width,
-            max_states: _,
-        } => width,
     }
 }
 
