@@ -7,9 +7,6 @@ use Prim.Native.Nat.{ℕ, zero, suc, min, _+_, _-_, _*_, _≤_, _<_}
 use native.Mathlib.Numerals.{add-one}
 use native.Mathlib.Omega.{arith}
 use borrow.Author.Tests.{eq-eqb, ne-eqb}
-use denote.Laws.{Is}
-use denote.Struct.Declared.{row}
-use mir.Val.{Val}
 use lib.Dec.{eqb}
 use lib.ListN.{length, take, drop, getD, set, length-map, length-take, length-set, length-drop, drop-of-length-le}
 use lib.Seq.{length-take-le, drop-cons, getD-take, getD-drop, drop-set-lt, take-set-le, getD-set-same, take-take}
@@ -23,10 +20,8 @@ use Rattle.signal.specs.declared.NextIndex.the-variants.{Absent, At}
 use Rattle.signal.specs.Offset.{headOf}
 use Rattle.fst.specs.Record.{largestIn}
 use Rattle.transform.proofs.InputTests.{noInput}
-use Rattle.transform.proofs.steps.Position.{the-type as position-type}
 use Rattle.transform.specs.declared.Input.{Input}
 use Rattle.transform.specs.declared.Inputs.{Inputs}
-use Rattle.transform.specs.declared.steps.Position.{Position}
 use Rattle.transform.specs.Steps.{smaller}
 use Rattle.transform.specs.Derive.{inputsOf}
 use Rattle.transform.specs.Stepping.{All, Cursor, cursor, cursors, cursorsOf, Reaches, Indexable, nextIn, soonest, begunAt, advanced, setNow, largestNow, largestOver}
@@ -109,11 +104,6 @@ module _ (indices : List ℕ) (input : Input) (k : ℕ) (room : Reaches indices 
         headed (suc k) [] e = let z : _≡_ {A = ℕ} 0 1 = cc in absurd (omega arith)
         headed zero (x ∷ l) e = omega arith
         headed (suc k) (x ∷ l) e = omega (arith, headed k l e)
-
--- ---- a position in the code has its places
-
-pub begun-sized : (d : Position) (vs : List Val) → Is (row position-type) d vs → length (d .begun) ≡ 8
-begun-sized d vs p = sym (length-map (d .begun) _) ∙ p .1 .1 .0 .1 .0 .1
 
 -- ---- loops from the last input to the first
 

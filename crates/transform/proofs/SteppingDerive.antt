@@ -4,6 +4,7 @@ use mathlib.Core.Path.{_≡_, refl, sym, ap, ap₂, _∙_}
 use mathlib.Core.Bool.{Bool, true, false, not}
 use mathlib.Core.List.{List, [], _∷_, map}
 use Prim.Native.Nat.{ℕ, _≤_}
+use native.Mathlib.Nat.{mul-le-mul-right, suc-mul}
 use native.Mathlib.Omega.{arith}
 use lib.ListN.{length}
 use Rattle.value.specs.declared.States.{States}
@@ -54,11 +55,12 @@ module _ (d : DerivedBitVecSignal) (inputs : Inputs) (bytes indices outBytes out
         unfolding tried
         no-room h = sym (by-room ∙ rw (fit-told ∙ h))
 
-        pub roomy : b ≡ true → Roomy steps (entrySize (d .width) K) outBytes outIndices
+        pub roomy : b ≡ true → Roomy steps (entrySize (d .width) K) (entrySize (d .width) K) outBytes × (length steps ≤ length outIndices)
         unfolding laidOut
         roomy h =
             let f = fits-room ((derivedKept d ks) .description) (lentOut outBytes outIndices) (fit-told ∙ h) in
-            rw k (record { stored = omega (arith, f .bytes); indexed = omega (arith, f .indices) })
+            let z = entrySize (d .width) (largestAmong ks) in
+            rw k (λ n l. omega (arith, f .bytes, mul-le-mul-right z l, suc-mul n z), omega (arith, f .indices))
 
         pub all-stored : b ≡ true → (count : ℕ) → count ≡ length steps
             → (newBytes newIndices : List ℕ) → newBytes ≡ overlay outBytes 0 (entriesOf (d .width) K steps) → newIndices ≡ overlay outIndices 0 (map indexOf steps)

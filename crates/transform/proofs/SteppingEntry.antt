@@ -24,17 +24,12 @@ use Rattle.signal.specs.Parts.{codesAt}
 use Rattle.signal.proofs.Decoding.{codes-length}
 use Rattle.transform.specs.declared.Extract.{Extract}
 use Rattle.transform.specs.declared.Inputs.{Inputs}
-use Rattle.transform.specs.declared.steps.Position.{Position}
 use Rattle.transform.specs.Piece.{endOf, extractOf, widthOf as pieceWidth}
 use Rattle.transform.specs.Derive.{pickedOf}
 use Rattle.transform.specs.Stepping.{All, setNow, Cursor, cursor, cursorsOf, widthNow, levelsNow, shownBytes, pickedNow, Showing, Under, PieceIn, Picks, Pickable, Stepped}
 use Rattle.transform.proofs.Stepping.{all-map-at, count-is, shown-at, cursor-at}
 use Rattle.transform.proofs.InputTests.{noInput}
 use Rattle.transform.proofs.SteppingLevels.{levels-length, levels-below}
-
-pub overlay-all : (out new : List ℕ) → length new ≡ length out → overlay out 0 new ≡ new
-unfolding overlay
-overlay-all out new e = rw (zero-add, e, drop-length, append-nil)
 
 -- ---- the characters that a piece picks
 
@@ -76,8 +71,8 @@ pub widths-more : (packed : List ℕ) (i : ℕ) → i < length packed → widths
 unfolding sum
 widths-more packed i h = rw (drop-cons packed i 0 h, add-one i)
 
-module _ (inputs : Inputs) (bytes : List ℕ) (p : Position) (packed : List ℕ) (room : ℕ)
-    (st : Pickable inputs bytes p packed room) (slots : length (inputs .slots) ≡ 8) (places : length (p .begun) ≡ 8)
+module _ (inputs : Inputs) (bytes p packed : List ℕ) (room : ℕ)
+    (st : Pickable inputs bytes p packed room) (slots : length (inputs .slots) ≡ 8) (places : length p ≡ 8)
     (i : ℕ) (h : i < length packed) (e : Extract) (q : e ≡ extractOf (getD packed i 0)) where
   abbrev few : inputs .count ≤ 8
   few = st .shown .few
@@ -86,19 +81,19 @@ module _ (inputs : Inputs) (bytes : List ℕ) (p : Position) (packed : List ℕ)
   named = rw q (all-map-at (PieceIn (cursorsOf inputs p)) extractOf packed (st .pieces) i 0 h)
 
   pub signal-in : e .signal < inputs .count
-  signal-in = rw (count-is inputs few slots (p .begun) places) at (named .0)
+  signal-in = rw (count-is inputs few slots p places) at (named .0)
 
   abbrev pub source : Cursor
-  source = cursor (getD (inputs .slots) (e .signal) noInput) (getD (p .begun) (e .signal) 0)
+  source = cursor (getD (inputs .slots) (e .signal) noInput) (getD p (e .signal) 0)
 
   source-wide : endOf e ≤ widthNow source
-  source-wide = rw (shown-at inputs few slots (e .signal) signal-in widthNow 0 (p .begun) places) at (named .1)
+  source-wide = rw (shown-at inputs few slots (e .signal) signal-in widthNow 0 p places) at (named .1)
 
   module _ (at : ℕ) (l : at + widths (drop i packed) ≤ room) where
     pub piece-picks : Picks bytes source e room at
     piece-picks =
         record {
-          shows = cursor-at inputs few slots (e .signal) signal-in (Showing bytes) (p .begun) places (st .shown .shown);
+          shows = cursor-at inputs few slots (e .signal) signal-in (Showing bytes) p places (st .shown .shown);
           within = source-wide;
           fits = rw q (omega (arith, widths-more packed i h));
         }
@@ -118,7 +113,7 @@ module _ (inputs : Inputs) (bytes : List ℕ) (p : Position) (packed : List ℕ)
         let g : pickedNow bytes cs (map extractOf (drop i packed)) ≡ P ++ R =
         ap (λ (x : List ℕ). pickedNow bytes cs (map extractOf x)) (drop-cons packed i 0 h)
         ∙ ap (λ (x : Extract). pickedOf x (getD (map (levelsNow bytes) cs) (x .signal) []) ++ R) (sym q)
-        ∙ ap (λ (x : List ℕ). pickedOf e x ++ R) (shown-at inputs few slots (e .signal) signal-in (levelsNow bytes) [] (p .begun) places) in
+        ∙ ap (λ (x : List ℕ). pickedOf e x ++ R) (shown-at inputs few slots (e .signal) signal-in (levelsNow bytes) [] p places) in
         ap₂ (λ (k : ℕ) (x : List ℕ). overlay x (at + e .width) (textOf (pickedNow bytes cs (map extractOf (drop k packed))))) (add-one i) f
         ∙ overlay-overlay text at (textOf P) (textOf R) (at + e .width) (rw n) (rw long (omega (arith, piece-picks .fits)))
         ∙ ap (overlay text at) (sym (map-append letterOf P R) ∙ ap textOf (sym g))
@@ -171,7 +166,7 @@ module _ (bytes : List ℕ) (S : States) where
       length-append (pickedOf e (getD (map (levelsNow bytes) cs) (e .signal) [])) (pickedNow bytes cs es)
       ∙ ap₂ (λ (a b : ℕ). a + b) (picked-length e (getD (map (levelsNow bytes) cs) (e .signal) []) (rw (shown-length cs (e .signal)) (p .0 .1))) (picked-all cs es (p .1))
 
-module _ (inputs : Inputs) (bytes : List ℕ) (p : Position) (packed : List ℕ) (S : States) (width : ℕ) (st : Stepped inputs bytes p packed S width) where
+module _ (inputs : Inputs) (bytes p packed : List ℕ) (S : States) (width : ℕ) (st : Stepped inputs bytes p packed S width) where
   abbrev picked : List ℕ
   picked = pickedNow bytes (cursorsOf inputs p) (map extractOf packed)
 
@@ -190,7 +185,7 @@ module _ (inputs : Inputs) (bytes : List ℕ) (p : Position) (packed : List ℕ)
     front-codes : codesOf (foldAll (take width new)) ≡ picked
     front-codes = ap (λ (l : List ℕ). codesOf (foldAll l)) front ∙ ap codesOf (fold-text picked (st .letters)) ∙ codes-text picked (st .letters)
 
-    front-long : length (take width new) ≡ width
+    pub front-long : length (take width new) ≡ width
     front-long = ap length front ∙ length-map picked letterOf ∙ picked-long
 
     pub writable : (room : ℕ) → room ≡ entrySize width M → Writable M S (take width new) room 0
@@ -203,7 +198,5 @@ module _ (inputs : Inputs) (bytes : List ℕ) (p : Position) (packed : List ℕ)
           fits = rw (front-long, r) (omega arith);
         }
 
-    pub step-stored : (out : List ℕ) → length out ≡ entrySize width M → overlay out 0 (entryFrom M S (take width new)) ≡ entryOf width M S picked
-    step-stored out r =
-        ap₂ (λ (n : ℕ) (cs : List ℕ). overlay out 0 (entryOf n M S cs)) front-long front-codes
-        ∙ overlay-all out (entryOf width M S picked) ((laws width (st .wide)) .sized M S picked ∙ sym r)
+    pub entry-told : entryFrom M S (take width new) ≡ entryOf width M S picked
+    entry-told = ap₂ (λ (n : ℕ) (cs : List ℕ). entryOf n M S cs) front-long front-codes

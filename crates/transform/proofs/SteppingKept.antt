@@ -1,4 +1,4 @@
--- The two walks over the steps: one counts the steps that are kept, the other stores them.
+-- The walk over the steps, which stores those that are kept.
 -- Assumes nothing.
 use mathlib.Core.Path.{_≡_, refl, sym, ap, ap₂, _∙_, subst}
 use mathlib.Core.Bool.{Bool, true, false, cond}
@@ -10,28 +10,26 @@ use native.Mathlib.Omega.{arith}
 use lib.ListN.{length, take, drop, getD, set, replicate, length-map}
 use Rattle.value.specs.declared.States.{States}
 use Rattle.value.specs.Slice.{part, overlay, same}
-use Rattle.value.proofs.Tests.{to-T}
-use Rattle.value.proofs.Slices.{same-sound, part-overlay, overlay-nil, overlay-length, overlay-overlay, overlay-store}
+use Rattle.value.specs.Level.{markOf}
+use Rattle.value.proofs.Slices.{part-overlay, overlay-nil, overlay-length, overlay-overlay, overlay-store}
 use Rattle.layout.specs.Entry.{entrySize, entryOf}
-use Rattle.fst.specs.Change.{repeats}
+use Rattle.layout.specs.Writable.{entryFrom}
 use Rattle.runs.specs.Runs.{Step, indexOf, endsLike, joined, entriesOf}
 use Rattle.layout.proofs.EntryLaws.{EntryLaws}
 use Rattle.layout.proofs.Entries.{laws}
-use Rattle.fst.proofs.LastEntry.{part-part}
 use Rattle.runs.proofs.Joined.{length-snoc}
-use Rattle.runs.proofs.Laid.{entryFor, sameEntry, entries-snoc, entries-length, repeats-ends}
-use Rattle.fst.proofs.Rooms.{size-small}
+use Rattle.runs.proofs.Laid.{entryFor, sameEntry, entries-snoc, entries-length}
 use Rattle.signal.specs.declared.NextIndex.{NextIndex}
 use Rattle.signal.specs.declared.NextIndex.the-variants.{Absent, At}
 use Rattle.transform.specs.declared.Inputs.{Inputs}
 use Rattle.transform.specs.declared.DerivedBitVecSignal.{DerivedBitVecSignal}
-use Rattle.transform.specs.declared.steps.Position.{Position}
-use Rattle.transform.specs.Piece.{piecesOf}
+use Rattle.transform.specs.Piece.{extractOf, piecesOf}
 use Rattle.transform.specs.Derive.{derivedList, largestAmong, sameStep}
 use Rattle.transform.specs.Tests.{keptAll, Derivable}
-use Rattle.transform.specs.Stepping.{cursorsOf, soonest, advanced, largestNow, pickedNow, Takeable, Taken, repeatsLast, Appendable, Appended, Roomy}
+use Rattle.transform.specs.Stepping.{cursorsOf, soonest, advanced, largestNow, pickedNow, Stepped, Takeable, Taken, repeatsLast, lastAt, Appendable, Appended, Roomy, Stored}
 use Rattle.transform.proofs.Pieces.{Sized, sound}
 use Rattle.transform.proofs.InputTests.{fit}
+use Rattle.transform.proofs.SteppingEntry.{pickable, front-long, writable, entry-told}
 use Rattle.transform.proofs.SteppingTracks.{tracks, toCome}
 use Rattle.transform.proofs.SteppingSources.{indexable, stepped, set-in, wide, narrow}
 use Rattle.transform.proofs.SteppingWalk.{M, stepAt, Walk, walk-start, walk-done, walk-on, on-begun, on-within, step-entry, dropped, added, come-fewer, walk-few}
@@ -42,27 +40,9 @@ ends-last like [] s x = refl
 ends-last like (p ∷ []) s x = refl
 ends-last like (p ∷ q ∷ l) s x = ends-last like (q ∷ l) s x
 
--- an entry that repeats the last is the last
-repeats-same : (n : ℕ) (last entry : List ℕ) → repeatsLast n last entry ≡ true → last ≡ entry
-unfolding repeatsLast
-repeats-same zero last entry h = let z : _≡_ {A = ℕ} 0 1 = cc in absurd (omega arith)
-repeats-same (suc n) last entry h = same-sound last entry (to-T (same last entry) h)
-
 repeats-more : (n : ℕ) (last entry : List ℕ) → repeatsLast (n + 1) last entry ≡ same last entry
 unfolding repeatsLast
 repeats-more n last entry = rw (add-one n)
-
--- entries at the front of a slice
-part-front : (out E : List ℕ) (a m : ℕ) → a + m ≤ length E → part a m (overlay out 0 E) ≡ part a m E
-part-front out E a m h =
-    ap (λ (n : ℕ). part n m (overlay out 0 E)) (sym (zero-add a))
-    ∙ sym (part-part (overlay out 0 E) 0 (length E) a m h)
-    ∙ ap (part a m) (part-overlay out E 0 (length E) (omega arith) refl)
-
-repeats-front : (size n : ℕ) (out E e : List ℕ) → n * size ≤ length E → repeats size n (overlay out 0 E) e ≡ repeats size n E e
-unfolding repeats
-repeats-front size zero out E e h = refl
-repeats-front size (suc n) out E e h = ap (λ (l : List ℕ). same l e) (part-front out E (n * size) size (omega (arith, suc-mul n size)))
 
 module _ (d : DerivedBitVecSignal) (inputs : Inputs) (bytes indices : List ℕ) where
   abbrev w : ℕ
@@ -71,83 +51,108 @@ module _ (d : DerivedBitVecSignal) (inputs : Inputs) (bytes indices : List ℕ) 
   abbrev N : States
   N = M d inputs bytes indices
 
+  abbrev sz : ℕ
+  sz = entrySize w N
+
   abbrev steps : List Step
   steps = derivedList (piecesOf d) (keptAll bytes indices inputs)
 
-  pub record Counting (p : Position) (next : NextIndex) (count : ℕ) (last : List ℕ) : Type 0 where
+  -- the steps so far are stored a stride apart: at the size of an entry they are a record's, at 0 the last one is there
+  pub record Writing (stride : ℕ) (outBytes outIndices p : List ℕ) (next : NextIndex) (count : ℕ) (nowBytes nowIndices : List ℕ) : Type 0 where
     pub kept : List Step
     pub left : ℕ
     pub walk : Walk d inputs bytes indices p next kept left
     pub counted : count ≡ length kept
-    pub ended : (x : Step) → endsLike (sameEntry w N) kept x ≡ repeatsLast count last (entryFor w N x)
+    pub ended : (x : Step) → endsLike (sameEntry w N) kept x ≡ repeatsLast count (lastAt sz stride count nowBytes) (entryFor w N x)
+    pub long : length nowBytes ≡ length outBytes
+    pub stored : stride ≡ sz → nowBytes ≡ overlay outBytes 0 (entriesOf w N kept)
+    pub indexed : length steps ≤ length outIndices → nowIndices ≡ overlay outIndices 0 (map indexOf kept)
 
-  pub record Writing (outBytes outIndices : List ℕ) (p : Position) (next : NextIndex) (count : ℕ) (nowBytes nowIndices : List ℕ) : Type 0 where
-    pub kept : List Step
-    pub left : ℕ
-    pub walk : Walk d inputs bytes indices p next kept left
-    pub counted : count ≡ length kept
-    pub stored : nowBytes ≡ overlay outBytes 0 (entriesOf w N kept)
-    pub indexed : nowIndices ≡ overlay outIndices 0 (map indexOf kept)
+  pub writing-done : (stride : ℕ) (outBytes outIndices p : List ℕ) (next : NextIndex) (count : ℕ) (nowBytes nowIndices : List ℕ)
+      → Writing stride outBytes outIndices p next count nowBytes nowIndices → next ≡ Absent
+      → (count ≡ length steps) × (stride ≡ sz → length steps ≤ length outIndices → Stored w N steps outBytes outIndices nowBytes nowIndices)
+  writing-done stride outBytes outIndices p next count nowBytes nowIndices C e =
+      let z = walk-done d inputs bytes indices p (C .kept) (C .left) (subst (λ (n : NextIndex). Walk d inputs bytes indices p n (C .kept) (C .left)) e (C .walk)) in (
+        C .counted ∙ ap length z,
+        λ f g.
+            record {
+              entries = C .stored f ∙ ap (λ (l : List Step). overlay outBytes 0 (entriesOf w N l)) z;
+              times = C .indexed g ∙ ap (λ (l : List Step). overlay outIndices 0 (map indexOf l)) z;
+            },
+      )
 
-  pub counting-done : (p : Position) (next : NextIndex) (count : ℕ) (last : List ℕ) → Counting p next count last → next ≡ Absent → count ≡ length steps
-  counting-done p next count last C e =
-      C .counted ∙ ap length (walk-done d inputs bytes indices p (C .kept) (C .left) (subst (λ (n : NextIndex). Walk d inputs bytes indices p n (C .kept) (C .left)) e (C .walk)))
-
-  pub writing-done : (outBytes outIndices : List ℕ) (p : Position) (next : NextIndex) (count : ℕ) (nowBytes nowIndices : List ℕ)
-      → Writing outBytes outIndices p next count nowBytes nowIndices → next ≡ Absent
-      → (nowBytes ≡ overlay outBytes 0 (entriesOf w N steps)) × (nowIndices ≡ overlay outIndices 0 (map indexOf steps)) × (count ≡ length steps)
-  writing-done outBytes outIndices p next count nowBytes nowIndices C e =
-      let z = walk-done d inputs bytes indices p (C .kept) (C .left) (subst (λ (n : NextIndex). Walk d inputs bytes indices p n (C .kept) (C .left)) e (C .walk)) in
-      (C .stored ∙ ap (λ (l : List Step). overlay outBytes 0 (entriesOf w N l)) z, C .indexed ∙ ap (λ (l : List Step). overlay outIndices 0 (map indexOf l)) z, C .counted ∙ ap length z)
-
-  -- by the code's pieces and largest set
+  -- by the code's pieces
   abbrev packed : List ℕ
   packed = take (d .«piece_count») (d .bits)
 
-  pub takeable-as : (p : Position) (i : ℕ) (ps : List ℕ) → ps ≡ packed → (K : States) → K ≡ N → Takeable inputs bytes indices p packed N w i → Takeable inputs bytes indices p ps K w i
-  takeable-as p i ps a K b t = rw (a, b) t
-
-  pub taken-as : (p : Position) (i : ℕ) (q : Position) (entry ps : List ℕ) → ps ≡ packed → (K : States) → K ≡ N
-      → Taken inputs bytes indices p ps K w i q entry → Taken inputs bytes indices p packed N w i q entry
-  taken-as p i q entry ps a K b t = rw (a, b) at t
-
-  pub roomy-as : (K : States) → K ≡ N → (outBytes outIndices : List ℕ) → Roomy steps (entrySize w K) outBytes outIndices → Roomy steps (entrySize w N) outBytes outIndices
-  roomy-as K b outBytes outIndices r = subst (λ (x : States). Roomy steps (entrySize w x) outBytes outIndices) b r
-
-  pub walk-as : (p : Position) (next : NextIndex) (i : ℕ) (kept : List Step) (left : ℕ) → next ≡ At i → Walk d inputs bytes indices p next kept left → Walk d inputs bytes indices p (At i) kept left
+  pub walk-as : (p : List ℕ) (next : NextIndex) (i : ℕ) (kept : List Step) (left : ℕ) → next ≡ At i → Walk d inputs bytes indices p next kept left → Walk d inputs bytes indices p (At i) kept left
   walk-as p next i kept left e W = subst (λ (n : NextIndex). Walk d inputs bytes indices p n kept left) e W
 
   module _ (D : Derivable d inputs bytes indices) (slots : length (inputs .slots) ≡ 8) (size : Sized d) where
-    pub counting-start : (p : Position) → p .begun ≡ replicate 8 0 → (next : NextIndex) → next ≡ soonest indices (cursorsOf inputs p) → (last : List ℕ) → Counting p next 0 last
-    unfolding endsLike repeatsLast
-    counting-start p z next e last =
-        record { kept = []; left = _; walk = walk-start d inputs bytes indices D slots size p z next e; counted = refl; ended = λ x. refl }
-
-    pub writing-start : (outBytes outIndices : List ℕ) (p : Position) → p .begun ≡ replicate 8 0 → (next : NextIndex) → next ≡ soonest indices (cursorsOf inputs p)
-        → Writing outBytes outIndices p next 0 outBytes outIndices
-    unfolding entriesOf
-    writing-start outBytes outIndices p z next e =
-        record { kept = []; left = _; walk = walk-start d inputs bytes indices D slots size p z next e; counted = refl; stored = sym (overlay-nil outBytes 0); indexed = sym (overlay-nil outIndices 0) }
+    pub writing-start : (stride : ℕ) (outBytes outIndices p : List ℕ) → p ≡ replicate 8 0 → (next : NextIndex) → next ≡ soonest indices (cursorsOf inputs p)
+        → Writing stride outBytes outIndices p next 0 outBytes outIndices
+    unfolding entriesOf endsLike repeatsLast
+    writing-start stride outBytes outIndices p z next e =
+        record {
+          kept = [];
+          left = _;
+          walk = walk-start d inputs bytes indices D slots size p z next e;
+          counted = refl;
+          ended = λ x. refl;
+          long = refl;
+          stored = λ f. sym (overlay-nil outBytes 0);
+          indexed = λ g. sym (overlay-nil outIndices 0);
+        }
 
     -- what a step asks
-    module _ (p : Position) (i : ℕ) (kept : List Step) (left : ℕ) (W : Walk d inputs bytes indices p (At i) kept left) where
-      pub takeable : Takeable inputs bytes indices p (take (d .«piece_count») (d .bits)) N w i
-      takeable =
-          record {
-            indexed = indexable d inputs bytes indices D slots size;
-            steps =
-                λ q places on.
-                let b = on-begun d inputs bytes indices D slots size p i kept left W q places on in
-                let v = on-within d inputs bytes indices D slots size p i kept left W q places on in
-                (stepped d inputs bytes indices D slots size q places b v, set-in d inputs bytes indices D slots size q places b v);
-          }
+    module _ (p : List ℕ) (i : ℕ) (kept : List Step) (left : ℕ) (W : Walk d inputs bytes indices p (At i) kept left) where
+      -- it is possible wherever the inputs then stand
+      its-step : (q : List ℕ) → length q ≡ 8 → cursorsOf inputs q ≡ map (advanced indices i) (cursorsOf inputs p)
+          → Stepped inputs bytes q packed (largestNow bytes (cursorsOf inputs q)) w × (markOf (largestNow bytes (cursorsOf inputs q)) ≤ markOf N)
+      its-step q places on =
+          let b = on-begun d inputs bytes indices D slots size p i kept left W q places on in
+          let v = on-within d inputs bytes indices D slots size p i kept left W q places on in
+          (stepped d inputs bytes indices D slots size q places b v, set-in d inputs bytes indices D slots size q places b v)
 
-      module _ (q : Position) (entry : List ℕ) (t : Taken inputs bytes indices p (take (d .«piece_count») (d .bits)) N w i q entry) where
+      pub takeable : length p ≡ 8 → (room : ℕ) → w ≤ room → (ps : List ℕ) → ps ≡ packed → Takeable inputs bytes indices p ps room i
+      takeable places room h ps a =
+          rw a
+          (record {
+            indexed = indexable d inputs bytes indices D slots size;
+            places = places;
+            steps = λ q l on. pickable inputs bytes q packed (largestNow bytes (cursorsOf inputs q)) w (its-step q l on .0) room h;
+          })
+
+      module _ (ps : List ℕ) (is : ps ≡ packed) (text q : List ℕ) (S : States) (text′ : List ℕ) (taken : Taken inputs bytes indices p ps i text q S text′) where
+        t : Taken inputs bytes indices p packed i text q S text′
+        t = rw is at taken
+
         abbrev s : Step
         s = stepAt d inputs bytes indices i (cursorsOf inputs q)
 
+        abbrev value : List ℕ
+        value = take w text′
+
+        abbrev entry : List ℕ
+        entry = entryFrom N S value
+
+        st : Stepped inputs bytes q packed S w
+        st = rw (t .set) (its-step q (t .places) (t .on) .0)
+
+        up : markOf S ≤ markOf N
+        up = rw (t .set) (its-step q (t .places) (t .on) .1)
+
+        pub value-long : length value ≡ w
+        value-long = front-long inputs bytes q packed S w st N up text text′ (t .stored)
+
         entry-is : entry ≡ entryFor w N s
-        entry-is = t .stored ∙ sym (step-entry d inputs bytes indices D slots size p i kept left W q (t .places) (t .on))
+        entry-is =
+            entry-told inputs bytes q packed S w st N up text text′ (t .stored)
+            ∙ ap (λ (x : States). entryOf w N x (pickedNow bytes (cursorsOf inputs q) (map extractOf packed))) (t .set)
+            ∙ sym (step-entry d inputs bytes indices D slots size p i kept left W q (t .places) (t .on))
+
+        entry-long : length entry ≡ sz
+        entry-long = ap length (entry-told inputs bytes q packed S w st N up text text′ (t .stored)) ∙ (laws w (wide d inputs bytes indices D slots size)) .sized N S _
 
         pub fewer : toCome (tracks bytes indices (cursorsOf inputs q)) < toCome (tracks bytes indices (cursorsOf inputs p))
         fewer = come-fewer d inputs bytes indices D slots size p i kept left W q (t .places) (t .on)
@@ -165,124 +170,105 @@ module _ (d : DerivedBitVecSignal) (inputs : Inputs) (bytes indices : List ℕ) 
         on-with : (next : NextIndex) → next ≡ soonest indices (cursorsOf inputs q) → (new : List Step) → joined sameStep kept s ≡ new → Walk d inputs bytes indices q next new (left - 1)
         on-with next e new j = subst (λ (l : List Step). Walk d inputs bytes indices q next l (left - 1)) j (on next e)
 
-        pub counting-on : (count : ℕ) (last : List ℕ) → count ≡ length kept → ((x : Step) → endsLike (sameEntry w N) kept x ≡ repeatsLast count last (entryFor w N x))
-            → (r : ℕ) → r ≡ cond (repeatsLast count last entry) count (count + 1) → (next : NextIndex) → next ≡ soonest indices (cursorsOf inputs q)
-            → Counting q next r entry
-        counting-on count last c f r g next e = go (repeatsLast count last entry) refl
-          where
-            ends : endsLike (sameEntry w N) kept s ≡ repeatsLast count last entry
-            ends = f s ∙ ap (repeatsLast count last) (sym entry-is)
-
-            go : (b : Bool) → repeatsLast count last entry ≡ b → Counting q next r entry
-            go true h =
-                record {
-                  kept = kept;
-                  left = left - 1;
-                  walk = on-with next e kept (drops (ends ∙ h));
-                  counted = g ∙ rw h c;
-                  ended = λ x. f x ∙ ap₂ (λ (n : ℕ) (l : List ℕ). repeatsLast n l (entryFor w N x)) (sym (g ∙ rw h)) (repeats-same count last entry h);
-                }
-            go false h =
-                record {
-                  kept = kept ++ (s ∷ []);
-                  left = left - 1;
-                  walk = on-with next e (kept ++ (s ∷ [])) (adds (ends ∙ h));
-                  counted = g ∙ rw (h, length-snoc) (omega arith);
-                  ended =
-                      λ x.
-                      ends-last (sameEntry w N) kept s x
-                      ∙ ap (λ (l : List ℕ). same l (entryFor w N x)) (sym entry-is)
-                      ∙ sym (repeats-more count entry (entryFor w N x))
-                      ∙ ap (λ (n : ℕ). repeatsLast n entry (entryFor w N x)) (sym (g ∙ rw h));
-                }
-
-        -- ---- the walk that stores
+        -- ---- what is stored
 
         L : EntryLaws w
         L = laws w (wide d inputs bytes indices D slots size)
 
-        abbrev sz : ℕ
-        sz = entrySize w N
+        module _ (stride : ℕ) (outBytes outIndices : List ℕ) (room : Roomy steps sz stride outBytes) (count : ℕ) (nowBytes nowIndices : List ℕ) (c : count ≡ length kept)
+            (ends : (x : Step) → endsLike (sameEntry w N) kept x ≡ repeatsLast count (lastAt sz stride count nowBytes) (entryFor w N x)) (long : length nowBytes ≡ length outBytes) where
+          abbrev again : Bool
+          again = repeatsLast count (lastAt sz stride count nowBytes) entry
 
-        module _ (outBytes outIndices : List ℕ) (room : Roomy steps sz outBytes outIndices) (count : ℕ) (nowBytes nowIndices : List ℕ)
-            (c : count ≡ length kept) (b : nowBytes ≡ overlay outBytes 0 (entriesOf w N kept)) (x : nowIndices ≡ overlay outIndices 0 (map indexOf kept)) (long : length entry ≡ sz) where
-          abbrev E : List ℕ
-          E = entriesOf w N kept
+          told : again ≡ endsLike (sameEntry w N) kept s
+          told = sym (ends s ∙ ap (repeatsLast count (lastAt sz stride count nowBytes)) (sym entry-is))
 
-          E-long : length E ≡ count * sz
-          E-long = entries-length w L N kept ∙ ap (λ (n : ℕ). n * sz) (sym c)
-
-          kept-few : length kept ≤ length steps
-          kept-few = walk-few d inputs bytes indices p (At i) kept left W
-
-          E-fits : count * sz ≤ length outBytes
-          E-fits = omega (arith, room .stored, mul-le-mul-right sz (kept-few), ap (λ (n : ℕ). n * sz) c)
-
-          pub bytes-long : length nowBytes ≡ length outBytes
-          bytes-long = ap length b ∙ overlay-length outBytes E 0 (rw E-long (omega (arith, E-fits)))
-
-          indices-short : length (map indexOf kept) ≡ count
-          indices-short = length-map kept indexOf ∙ sym c
-
-          pub indices-long : length nowIndices ≡ length outIndices
-          indices-long = ap length x ∙ overlay-length outIndices (map indexOf kept) 0 (rw indices-short (omega (arith, c, kept-few, room .indexed)))
-
-          told : repeats (length entry) count nowBytes entry ≡ endsLike (sameEntry w N) kept s
-          told =
-              ap₂ (λ (n : ℕ) (l : List ℕ). repeats n count l entry) long b
-              ∙ repeats-front sz count outBytes E entry (rw E-long (omega arith))
-              ∙ ap₂ (λ (n : ℕ) (e : List ℕ). repeats sz n E e) c entry-is
-              ∙ repeats-ends w L N kept s
+          kept-few : count ≤ length steps
+          kept-few = rw c (walk-few d inputs bytes indices p (At i) kept left W)
 
           -- a new step has its room
-          new-few : repeats (length entry) count nowBytes entry ≡ false → suc count ≤ length steps
+          new-few : again ≡ false → count < length steps
           new-few h =
               let j = adds (sym told ∙ h) in
               let g : length (joined sameStep kept s) ≤ length steps = walk-few d inputs bytes indices q _ _ _ (on (soonest indices (cursorsOf inputs q)) refl) in
               omega (arith, c, ap length j, length-snoc kept s)
 
-          pub appendable : Appendable count entry nowBytes nowIndices
+          appendable : Appendable N S value sz stride count nowBytes
           appendable =
               record {
-                small = rw long (size-small w N (narrow d inputs bytes indices D slots size));
-                few = omega (arith, W .bounded);
-                stored = rw (long, bytes-long) E-fits;
-                room =
-                    λ h.
-                    let n = new-few h in (
-                      rw (long, bytes-long) (omega (arith, room .stored, mul-le-mul-right sz n, suc-mul count sz)),
-                      rw indices-long (omega (arith, room .indexed)),
-                    );
+                written = writable inputs bytes q packed S w st N up text text′ (t .stored) sz refl;
+                sized = ap (λ (n : ℕ). entrySize n N) (sym value-long);
+                few = omega (arith, c, W .bounded);
+                last = λ h. let f = kept-few in rw long (room (count - 1) (omega arith));
+                room = λ h. rw long (room count (new-few h));
               }
 
-          pub writing-on : (r : ℕ) (newBytes newIndices : List ℕ) → Appended count entry i nowBytes nowIndices r newBytes newIndices
-              → (next : NextIndex) → next ≡ soonest indices (cursorsOf inputs q) → Writing outBytes outIndices q next r newBytes newIndices
-          writing-on r newBytes newIndices a next e = go (repeats (length entry) count nowBytes entry) refl
-            where
-              go : (y : Bool) → repeats (length entry) count nowBytes entry ≡ y → Writing outBytes outIndices q next r newBytes newIndices
-              go true h =
-                  record {
-                    kept = kept;
-                    left = left - 1;
-                    walk = on-with next e kept (drops (sym told ∙ h));
-                    counted = a .counted ∙ rw h c;
-                    stored = a .stored ∙ rw h b;
-                    indexed = a .indexed ∙ rw h x;
-                  }
-              go false h =
-                  record {
-                    kept = kept ++ (s ∷ []);
-                    left = left - 1;
-                    walk = on-with next e (kept ++ (s ∷ [])) (adds (sym told ∙ h));
-                    counted = a .counted ∙ rw (h, length-snoc) (omega arith);
-                    stored =
-                        a .stored ∙ ap (λ (y : Bool). cond y nowBytes (overlay nowBytes (count * length entry) entry)) h
-                        ∙ ap₂ (λ (l : List ℕ) (n : ℕ). overlay l (count * n) entry) b long
-                        ∙ overlay-overlay outBytes 0 E entry (count * sz) (rw (zero-add, E-long)) E-fits
-                        ∙ ap (overlay outBytes 0) (ap (λ (z : List ℕ). E ++ z) entry-is ∙ sym (entries-snoc w N kept s));
-                    indexed =
-                        a .indexed ∙ ap (λ (y : Bool). cond y nowIndices (set nowIndices count i)) h
-                        ∙ ap (λ (l : List ℕ). set l count i) x
-                        ∙ overlay-store outIndices 0 (map indexOf kept) count i (rw (zero-add, indices-short)) (omega (arith, room .indexed, new-few h))
-                        ∙ ap (overlay outIndices 0) (sym (map-append indexOf kept (s ∷ [])));
-                  }
+          module _ (K : States) (f : K ≡ N) (z : ℕ) (g : z ≡ entrySize w K) where
+            pub appendable-as : Appendable K S value z stride count nowBytes
+            appendable-as = rw (g, f) appendable
+
+            pub appended-as : (r : ℕ) (newBytes newIndices : List ℕ) → Appended (entryFrom K S value) z stride count i nowBytes nowIndices r newBytes newIndices
+                → Appended entry sz stride count i nowBytes nowIndices r newBytes newIndices
+            appended-as r newBytes newIndices a = rw (g, f) at a
+
+          module _ (b : stride ≡ sz → nowBytes ≡ overlay outBytes 0 (entriesOf w N kept)) (x : length steps ≤ length outIndices → nowIndices ≡ overlay outIndices 0 (map indexOf kept))
+              (r : ℕ) (newBytes newIndices : List ℕ) (a : Appended entry sz stride count i nowBytes nowIndices r newBytes newIndices) (next : NextIndex) (e : next ≡ soonest indices (cursorsOf inputs q)) where
+            dropped-on : again ≡ true → Writing stride outBytes outIndices q next r newBytes newIndices
+            dropped-on h =
+                let n : r ≡ count = a .counted ∙ rw h in
+                let m : newBytes ≡ nowBytes = a .stored ∙ rw h in
+                record {
+                  kept = kept;
+                  left = left - 1;
+                  walk = on-with next e kept (drops (sym told ∙ h));
+                  counted = n ∙ c;
+                  ended = λ y. rw (n, m) (ends y);
+                  long = ap length m ∙ long;
+                  stored = λ f. m ∙ b f;
+                  indexed = λ g. a .indexed ∙ rw h (x g);
+                }
+
+            added-on : again ≡ false → Writing stride outBytes outIndices q next r newBytes newIndices
+            added-on h =
+                let n : r ≡ count + 1 = a .counted ∙ rw h in
+                let m : newBytes ≡ overlay nowBytes (count * stride) entry = a .stored ∙ rw h in
+                let k : count + 1 - 1 ≡ count = omega arith in
+                let f : count * stride + sz ≤ length nowBytes = rw long (room count (new-few h)) in
+                let there : lastAt sz stride (count + 1) (overlay nowBytes (count * stride) entry) ≡ entry =
+                ap (λ (j : ℕ). part (j * stride) sz (overlay nowBytes (count * stride) entry)) k ∙ part-overlay nowBytes entry (count * stride) sz (omega arith) entry-long in
+                record {
+                  kept = kept ++ (s ∷ []);
+                  left = left - 1;
+                  walk = on-with next e (kept ++ (s ∷ [])) (adds (sym told ∙ h));
+                  counted = n ∙ rw length-snoc (omega arith);
+                  ended =
+                      λ y.
+                      rw (n, m)
+                      (ends-last (sameEntry w N) kept s y
+                      ∙ ap (λ (l : List ℕ). same l (entryFor w N y)) (sym (there ∙ entry-is))
+                      ∙ sym (repeats-more count (lastAt sz stride (count + 1) (overlay nowBytes (count * stride) entry)) (entryFor w N y)));
+                  long = ap length m ∙ overlay-length nowBytes entry (count * stride) (rw entry-long f) ∙ long;
+                  stored =
+                      λ v.
+                      let E = entriesOf w N kept in
+                      let f′ : count * sz + sz ≤ length nowBytes = rw v at f in
+                      let E-fits : count * sz ≤ length outBytes = omega (arith, long) in
+                      let E-long : length E ≡ count * sz = entries-length w L N kept ∙ ap (λ (z : ℕ). z * sz) (sym c) in
+                      m
+                      ∙ ap₂ (λ (l : List ℕ) (z : ℕ). overlay l (count * z) entry) (b v) v
+                      ∙ overlay-overlay outBytes 0 E entry (count * sz) (rw (zero-add, E-long)) E-fits
+                      ∙ ap (overlay outBytes 0) (ap (λ (z : List ℕ). E ++ z) entry-is ∙ sym (entries-snoc w N kept s));
+                  indexed =
+                      λ g.
+                      a .indexed ∙ ap (λ (y : Bool). cond y nowIndices (set nowIndices count i)) h
+                      ∙ ap (λ (l : List ℕ). set l count i) (x g)
+                      ∙ overlay-store outIndices 0 (map indexOf kept) count i (rw (zero-add, length-map kept indexOf) (sym c)) (omega (arith, new-few h))
+                      ∙ ap (overlay outIndices 0) (sym (map-append indexOf kept (s ∷ [])));
+                }
+
+            pub writing-on : Writing stride outBytes outIndices q next r newBytes newIndices
+            writing-on = go again refl
+              where
+                go : (y : Bool) → again ≡ y → Writing stride outBytes outIndices q next r newBytes newIndices
+                go true h = dropped-on h
+                go false h = added-on h

@@ -26,7 +26,6 @@ use Rattle.transform.specs.declared.Input.{Input}
 use Rattle.transform.specs.declared.Inputs.{Inputs}
 use Rattle.transform.specs.declared.Extract.{Extract}
 use Rattle.transform.specs.declared.DerivedBitVecSignal.{DerivedBitVecSignal}
-use Rattle.transform.specs.declared.steps.Position.{Position}
 use Rattle.transform.specs.Piece.{endOf, piecesOf, extractOf, isBadPiece, widthOf as pieceWidth}
 use Rattle.transform.specs.Derive.{inputsOf, inputKept, lentTo, isBadInput, isNoBitVector, isBeyond, isLate, startsLate, entryIsBad, markIsBad, pickedOf, pickIsBad, codeIsBad, largestAmong}
 use Rattle.transform.specs.Tests.{keptAll, Derivable}
@@ -205,7 +204,7 @@ module _ (d : DerivedBitVecSignal) (inputs : Inputs) (bytes indices : List ℕ) 
           let g = good-piece (d .«input_count») e (or-left (isBadPiece (d .«input_count») e) (any (isBadPiece (d .«input_count»)) es) b) in
           omega (arith, g .0)
 
-  module _ (p : Position) (places : length (p .begun) ≡ 8) where
+  module _ (p : List ℕ) (places : length p ≡ 8) where
     abbrev cs : List Cursor
     cs = cursorsOf inputs p
 
@@ -220,12 +219,12 @@ module _ (d : DerivedBitVecSignal) (inputs : Inputs) (bytes indices : List ℕ) 
         let f = few-inputs in
         let m : e .signal < min (inputs .count) 8 = omega arith in
         let n = ltb-false _ _ (sym (beyond-told inputs slots bytes indices e m) ∙ o) in
-        (rw (count-is inputs few-inputs slots (p .begun) places) s, rw (shown-at inputs few-inputs slots (e .signal) s widthNow 0 (p .begun) places) n))
+        (rw (count-is inputs few-inputs slots p places) s, rw (shown-at inputs few-inputs slots (e .signal) s widthNow 0 p places) n))
         (piecesOf d) (all-none (isBadPiece (d .«input_count»)) (piecesOf d) (parts .pieces)) (all-none (isBeyond ks) (piecesOf d) (tests .within))
 
     module _ (b : All Begun cs) (w : All Within cs) where
       from-sources : All (λ c. Source bytes indices (c .input)) cs
-      from-sources = all-inputs (Source bytes indices) (inputsOf inputs) (p .begun) sources
+      from-sources = all-inputs (Source bytes indices) (inputsOf inputs) p sources
 
       all-known : (R : Cursor → Type 0) → ((c : Cursor) → Source bytes indices (c .input) → 1 ≤ c .begun → c .begun ≤ c .input .description .count → R c) → All R cs
       all-known R f =
@@ -236,10 +235,10 @@ module _ (d : DerivedBitVecSignal) (inputs : Inputs) (bytes indices : List ℕ) 
       all-shows = all-known (Shows bytes indices) (shows bytes indices)
 
       pub all-showing : AllShowing inputs bytes p
-      all-showing = record { few = few-inputs; shown = all-known (Showing bytes) (showing bytes indices) }
+      all-showing = record { few = few-inputs; places = places; shown = all-known (Showing bytes) (showing bytes indices) }
 
       pub set-in : markOf (largestNow bytes cs) ≤ markOf (largestAmong ks)
-      set-in = largest-within bytes indices (inputsOf inputs) (p .begun) (all-known (SetWithin bytes) (set-within bytes indices))
+      set-in = largest-within bytes indices (inputsOf inputs) p (all-known (SetWithin bytes) (set-within bytes indices))
 
       -- each picked level is a letter's
       letters-of : (e : Extract) → isBadPiece (d .«input_count») e ≡ false → codeIsBad ks e ≡ false → Below 9 (pickedOf e (getD (map (levelsNow bytes) cs) (e .signal) []))
@@ -249,12 +248,12 @@ module _ (d : DerivedBitVecSignal) (inputs : Inputs) (bytes indices : List ℕ) 
           let f = few-inputs in
           let m : e .signal < min (inputs .count) 8 = omega arith in
           let i = getD (inputs .slots) (e .signal) noInput in
-          let k = getD (p .begun) (e .signal) 0 in
+          let k = getD p (e .signal) 0 in
           let c = cursor i k in
-          let h = cursor-at inputs few-inputs slots (e .signal) s (Shows bytes indices) (p .begun) places all-shows in
+          let h = cursor-at inputs few-inputs slots (e .signal) s (Shows bytes indices) p places all-shows in
           let n : k - 1 < length ((inputKept bytes indices i) .indices) = rw (r-indices bytes indices c (h .fits) (h .begun) (h .within)) (omega (arith, h .begun, h .within)) in
           let q = entries-each (inputKept bytes indices i) (pickIsBad e) (sym (code-told inputs slots bytes indices e m) ∙ y) (k - 1) n in
-          rw (shown-at inputs few-inputs slots (e .signal) s (levelsNow bytes) [] (p .begun) places)
+          rw (shown-at inputs few-inputs slots (e .signal) s (levelsNow bytes) [] p places)
           (all-below (pickedOf e (levelsNow bytes c))
           (ap (λ (v : List ℕ). hasNoCode (pickedOf e (levelsIn (i .description .encoding) v))) (sym (bytes-told bytes indices c (h .fits) (h .begun) (h .within))) ∙ q))
 

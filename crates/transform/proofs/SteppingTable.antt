@@ -221,5 +221,5 @@ module _ (d : DerivedBitVecSignal) (inputs : Inputs) (bytes indices numbers star
         coded = ap (λ (ks : List Kept). any (codeIsBad ks) (piecesOf d)) kept-as ∙ D .coded;
       }
 
-  pub walkable-as : (M : States) (entry : List ℕ) → Walkable d inputs bytes indices M entry → Walkable d its bytes indices M entry
-  walkable-as M entry W = record { derivable = derivable-as (W .derivable); largest = W .largest ∙ ap largestAmong (sym kept-as); sized = W .sized }
+  pub walkable-as : (M : States) → Walkable d inputs bytes indices M → Walkable d its bytes indices M
+  walkable-as M W = record { derivable = derivable-as (W .derivable); largest = W .largest ∙ ap largestAmong (sym kept-as) }

@@ -32,7 +32,6 @@ use Rattle.transform.specs.declared.Input.{Input}
 use Rattle.transform.specs.declared.Inputs.{Inputs}
 use Rattle.transform.specs.declared.Extract.{Extract}
 use Rattle.transform.specs.declared.DerivedBitVecSignal.{DerivedBitVecSignal}
-use Rattle.transform.specs.declared.steps.Position.{Position}
 use Rattle.transform.specs.Piece.{piecesOf}
 use Rattle.transform.specs.Steps.{Shown, shownBy, Track, unbegun, nowOf, smaller, smallest, moved, countOf, momentsFrom, momentsOf}
 use Rattle.transform.specs.Derive.{inputsOf, inputKept, lentTo, isLate, yielded, sameStep, shownIn, derivedList, largestAmong}
@@ -150,7 +149,7 @@ module _ (d : DerivedBitVecSignal) (inputs : Inputs) (bytes indices : List ℕ) 
   abbrev pub stepAt : ℕ → List Cursor → Step
   stepAt i cs = record { index = i; string = textOf (pickedNow bytes cs (piecesOf d)); set = largestNow bytes cs }
 
-  pub record Walk (p : Position) (next : NextIndex) (kept : List Step) (left : ℕ) : Type 0 where
+  pub record Walk (p : List ℕ) (next : NextIndex) (kept : List Step) (left : ℕ) : Type 0 where
     pub told : next ≡ soonest indices (cursorsOf inputs p)
     pub within : All Within (cursorsOf inputs p)
     pub starts : (k : ℕ) → next ≡ At k → All (λ c. 1 ≤ begunAt k (c .begun) (nextIn indices c)) (cursorsOf inputs p)
@@ -159,19 +158,19 @@ module _ (d : DerivedBitVecSignal) (inputs : Inputs) (bytes indices : List ℕ) 
     pub sound : Every (Sound (d .width) M) kept
     pub bounded : length kept + toCome (tracks bytes indices (cursorsOf inputs p)) ≤ 8388608
 
-  pub walk-few : (p : Position) (next : NextIndex) (kept : List Step) (left : ℕ) → Walk p next kept left → length kept ≤ length (derivedList (piecesOf d) ks)
+  pub walk-few : (p : List ℕ) (next : NextIndex) (kept : List Step) (left : ℕ) → Walk p next kept left → length kept ≤ length (derivedList (piecesOf d) ks)
   walk-few p next kept left W =
       subst (λ (l : List Step). length kept ≤ length l) (W .rest)
       (fold-grows sameStep kept (map (yielded (piecesOf d)) (momentsFrom left next (tracks bytes indices (cursorsOf inputs p)))))
 
   -- nothing comes any more
-  pub walk-done : (p : Position) (kept : List Step) (left : ℕ) → Walk p Absent kept left → kept ≡ derivedList (piecesOf d) ks
+  pub walk-done : (p : List ℕ) (kept : List Step) (left : ℕ) → Walk p Absent kept left → kept ≡ derivedList (piecesOf d) ks
   unfolding momentsFrom
   walk-done p kept zero W = W .rest
   walk-done p kept (suc left) W = W .rest
 
   module _ (D : Derivable d inputs bytes indices) (slots : length (inputs .slots) ≡ 8) (size : Sized d) where
-    pub walk-start : (p : Position) → p .begun ≡ replicate 8 0 → (next : NextIndex) → next ≡ soonest indices (cursorsOf inputs p)
+    pub walk-start : (p : List ℕ) → p ≡ replicate 8 0 → (next : NextIndex) → next ≡ soonest indices (cursorsOf inputs p)
         → Walk p next [] (toCome (tracks bytes indices (cursorsOf inputs p)))
     unfolding derivedList momentsOf nextIn keptIn
     walk-start p z next e =
@@ -207,8 +206,8 @@ module _ (d : DerivedBitVecSignal) (inputs : Inputs) (bytes indices : List ℕ) 
               rw c (omega arith);
         }
 
-    module _ (p : Position) (i : ℕ) (kept : List Step) (left : ℕ) (W : Walk p (At i) kept left)
-        (q : Position) (places : length (q .begun) ≡ 8) (on : cursorsOf inputs q ≡ map (advanced indices i) (cursorsOf inputs p)) where
+    module _ (p : List ℕ) (i : ℕ) (kept : List Step) (left : ℕ) (W : Walk p (At i) kept left)
+        (q : List ℕ) (places : length q ≡ 8) (on : cursorsOf inputs q ≡ map (advanced indices i) (cursorsOf inputs p)) where
       abbrev cs : List Cursor
       cs = cursorsOf inputs q
 
@@ -220,7 +219,7 @@ module _ (d : DerivedBitVecSignal) (inputs : Inputs) (bytes indices : List ℕ) 
           rw on
           (all-map Within (advanced indices i) (cursorsOf inputs p)
           (all-both (λ c. Reaches indices (c .input)) Within (λ c. Within (advanced indices i c)) (λ c r w. begun-within indices c r w i) (cursorsOf inputs p)
-          (all-inputs (Reaches indices) (inputsOf inputs) (p .begun) ((indexable d inputs bytes indices D slots size) .reach)) (W .within)))
+          (all-inputs (Reaches indices) (inputsOf inputs) p ((indexable d inputs bytes indices D slots size) .reach)) (W .within)))
 
       abbrev s : Step
       s = stepAt i cs

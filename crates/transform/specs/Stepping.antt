@@ -10,10 +10,10 @@ use Rattle.value.specs.declared.States.{States}
 use Rattle.value.specs.declared.States.the-variants.{Two}
 use Rattle.value.specs.Digits.{Below}
 use Rattle.value.specs.Slice.{part, overlay, same, sum}
-use Rattle.value.specs.Level.{markOf, setAt, join}
-use Rattle.layout.specs.Entry.{entrySize, entryOf}
+use Rattle.value.specs.Level.{markOf, setAt, join, textOf}
+use Rattle.layout.specs.Entry.{entrySize}
+use Rattle.layout.specs.Writable.{Writable, entryFrom}
 use Rattle.fst.specs.declared.Encoding.the-variants.{BitVector}
-use Rattle.fst.specs.Change.{repeats}
 use Rattle.fst.specs.Record.{largestIn, sizeOf}
 use Rattle.runs.specs.Runs.{Step, indexOf, entriesOf}
 use Rattle.signal.specs.declared.NextIndex.{NextIndex}
@@ -26,7 +26,6 @@ use Rattle.transform.specs.declared.Input.{Input}
 use Rattle.transform.specs.declared.Inputs.{Inputs}
 use Rattle.transform.specs.declared.Extract.{Extract}
 use Rattle.transform.specs.declared.DerivedBitVecSignal.{DerivedBitVecSignal}
-use Rattle.transform.specs.declared.steps.Position.{Position}
 use Rattle.transform.specs.Piece.{extractOf, endOf, widthOf as pieceWidth}
 use Rattle.transform.specs.Steps.{smaller}
 use Rattle.transform.specs.Derive.{inputsOf, pickedOf, largestAmong}
@@ -50,8 +49,8 @@ cursors [] ks = []
 cursors (i ∷ is) [] = []
 cursors (i ∷ is) (k ∷ ks) = cursor i k ∷ cursors is ks
 
-abbrev pub cursorsOf : Inputs → Position → List Cursor
-cursorsOf inputs p = cursors (inputsOf inputs) (p .begun)
+abbrev pub cursorsOf : Inputs → List ℕ → List Cursor
+cursorsOf inputs ks = cursors (inputsOf inputs) ks
 
 -- ---- the inputs as numbers
 
@@ -148,8 +147,9 @@ pub record Showing (bytes : List ℕ) (c : Cursor) : Type 0 where
   pub whole : Whole (c .input .description .encoding) (shownBytes bytes c)
   pub marked : hasBadMark (c .input .description .encoding) (shownBytes bytes c) ≡ false
 
-pub record AllShowing (inputs : Inputs) (bytes : List ℕ) (p : Position) : Type 0 where
+pub record AllShowing (inputs : Inputs) (bytes p : List ℕ) : Type 0 where
   pub few : inputs .count ≤ 8
+  pub places : length p ≡ 8
   pub shown : All (Showing bytes) (cursorsOf inputs p)
 
 -- ---- the characters of a step gathered, and the entry that they make
@@ -164,7 +164,7 @@ abbrev pub PieceIn : List Cursor → Extract → Type 0
 PieceIn cs e = (e .signal < length cs) × (endOf e ≤ getD (map widthNow cs) (e .signal) 0)
 
 -- each piece lies within its input's width, and there is room for the characters of all
-pub record Pickable (inputs : Inputs) (bytes : List ℕ) (p : Position) (packed : List ℕ) (room : ℕ) : Type 0 where
+pub record Pickable (inputs : Inputs) (bytes p packed : List ℕ) (room : ℕ) : Type 0 where
   pub shown : AllShowing inputs bytes p
   pub pieces : All (PieceIn (cursorsOf inputs p)) (map extractOf packed)
   pub fits : sum (map pieceWidth (map extractOf packed)) ≤ room
@@ -173,7 +173,7 @@ abbrev pub Under : List ℕ → States → Cursor → Type 0
 Under bytes S c = markOf (setNow bytes c) ≤ markOf S
 
 -- the pieces of a step and its set, of which each picked level is a letter's
-pub record Stepped (inputs : Inputs) (bytes : List ℕ) (p : Position) (packed : List ℕ) (S : States) (width : ℕ) : Type 0 where
+pub record Stepped (inputs : Inputs) (bytes p packed : List ℕ) (S : States) (width : ℕ) : Type 0 where
   pub shown : AllShowing inputs bytes p
   pub pieces : All (PieceIn (cursorsOf inputs p)) (map extractOf packed)
   pub under : All (Under bytes S) (cursorsOf inputs p)
@@ -185,46 +185,50 @@ pub record Stepped (inputs : Inputs) (bytes : List ℕ) (p : Position) (packed :
 -- ---- a step taken, and kept unless it repeats the last
 
 -- what taking the step at an index asks, wherever the inputs then stand
-pub record Takeable (inputs : Inputs) (bytes indices : List ℕ) (p : Position) (packed : List ℕ) (M : States) (width index : ℕ) : Type 0 where
+pub record Takeable (inputs : Inputs) (bytes indices p packed : List ℕ) (room index : ℕ) : Type 0 where
   pub indexed : Indexable inputs indices
-  pub steps : (q : Position) → length (q .begun) ≡ 8 → cursorsOf inputs q ≡ map (advanced indices index) (cursorsOf inputs p)
-      → Stepped inputs bytes q packed (largestNow bytes (cursorsOf inputs q)) width × (markOf (largestNow bytes (cursorsOf inputs q)) ≤ markOf M)
+  pub places : length p ≡ 8
+  pub steps : (q : List ℕ) → length q ≡ 8 → cursorsOf inputs q ≡ map (advanced indices index) (cursorsOf inputs p) → Pickable inputs bytes q packed room
 
--- where it then stands, and its entry
-pub record Taken (inputs : Inputs) (bytes indices : List ℕ) (p : Position) (packed : List ℕ) (M : States) (width index : ℕ) (q : Position) (entry : List ℕ) : Type 0 where
-  pub places : length (q .begun) ≡ 8
+-- where it then stands, its set and its characters
+pub record Taken (inputs : Inputs) (bytes indices p packed : List ℕ) (index : ℕ) (text q : List ℕ) (S : States) (text′ : List ℕ) : Type 0 where
+  pub places : length q ≡ 8
   pub on : cursorsOf inputs q ≡ map (advanced indices index) (cursorsOf inputs p)
-  pub stored : entry ≡ entryOf width M (largestNow bytes (cursorsOf inputs q)) (pickedNow bytes (cursorsOf inputs q) (map extractOf packed))
+  pub set : S ≡ largestNow bytes (cursorsOf inputs q)
+  pub stored : text′ ≡ overlay text 0 (textOf (pickedNow bytes (cursorsOf inputs q) (map extractOf packed)))
 
 -- does an entry repeat the last of so many
 unfoldable pub repeatsLast : ℕ → List ℕ → List ℕ → Bool
 repeatsLast zero last entry = false
 repeatsLast (suc n) last entry = same last entry
 
--- so many entries of one size are stored, and there is room for one more unless it repeats the last
-pub record Appendable (count : ℕ) (entry bytes indices : List ℕ) : Type 0 where
-  pub small : length entry ≤ 2049
-  pub few : count ≤ 8388608
-  pub stored : count * length entry ≤ length bytes
-  pub room : repeats (length entry) count bytes entry ≡ false → (count * length entry + length entry ≤ length bytes) × (count < length indices)
+-- the last of so many entries of a size that stand a stride apart
+abbrev pub lastAt : ℕ → ℕ → ℕ → List ℕ → List ℕ
+lastAt size stride count bytes = part ((count - 1) * stride) size bytes
 
-pub record Appended (count : ℕ) (entry : List ℕ) (index : ℕ) (bytes indices : List ℕ) (r : ℕ) (bytes′ indices′ : List ℕ) : Type 0 where
-  pub counted : r ≡ cond (repeats (length entry) count bytes entry) count (count + 1)
-  pub stored : bytes′ ≡ cond (repeats (length entry) count bytes entry) bytes (overlay bytes (count * length entry) entry)
-  pub indexed : indices′ ≡ cond (repeats (length entry) count bytes entry) indices (set indices count index)
+-- a string whose entry is to stand behind so many others, for which there is room unless it repeats the last
+pub record Appendable (M S : States) (value : List ℕ) (size stride count : ℕ) (bytes : List ℕ) : Type 0 where
+  pub written : Writable M S value size 0
+  pub sized : size ≡ entrySize (length value) M
+  pub few : count ≤ 8388608
+  pub last : 0 < count → (count - 1) * stride + size ≤ length bytes
+  pub room : repeatsLast count (lastAt size stride count bytes) (entryFrom M S value) ≡ false → count * stride + size ≤ length bytes
+
+pub record Appended (entry : List ℕ) (size stride count index : ℕ) (bytes indices : List ℕ) (r : ℕ) (bytes′ indices′ : List ℕ) : Type 0 where
+  pub counted : r ≡ cond (repeatsLast count (lastAt size stride count bytes) entry) count (count + 1)
+  pub stored : bytes′ ≡ cond (repeatsLast count (lastAt size stride count bytes) entry) bytes (overlay bytes (count * stride) entry)
+  pub indexed : indices′ ≡ cond (repeatsLast count (lastAt size stride count bytes) entry) indices (set indices count index)
 
 -- ---- all steps
 
--- what the two walks over the steps are given
-pub record Walkable (d : DerivedBitVecSignal) (inputs : Inputs) (bytes indices : List ℕ) (M : States) (entry : List ℕ) : Type 0 where
+-- what the walk over the steps is given
+pub record Walkable (d : DerivedBitVecSignal) (inputs : Inputs) (bytes indices : List ℕ) (M : States) : Type 0 where
   pub derivable : Derivable d inputs bytes indices
   pub largest : M ≡ largestAmong (keptAll bytes indices inputs)
-  pub sized : length entry ≡ entrySize (d .width) M
 
--- the derived list has room in the slices
-pub record Roomy (steps : List Step) (size : ℕ) (bytes indices : List ℕ) : Type 0 where
-  pub stored : length steps * size ≤ length bytes
-  pub indexed : length steps ≤ length indices
+-- each step of the derived list has room, a stride apart
+abbrev pub Roomy : List Step → ℕ → ℕ → List ℕ → Type 0
+Roomy steps size stride bytes = (n : ℕ) → n < length steps → n * stride + size ≤ length bytes
 
 -- the steps laid over the slices, and nothing else altered
 pub record Stored (width : ℕ) (M : States) (steps : List Step) (bytes indices bytes′ indices′ : List ℕ) : Type 0 where

@@ -1,6 +1,6 @@
 -- Inner: the tests of Derive before its room: what they ask, and what they leave known.
 -- Assumes nothing.
-use Prim.Native.Nat.{ℕ, _≤_, _<_}
+use Prim.Native.Nat.{ℕ, _/_, _%_, _≤_, _<_}
 use mathlib.Core.Path.{_≡_}
 use mathlib.Core.Bool.{Bool, true, false}
 use mathlib.Core.List.{List, [], _∷_, map}
@@ -47,6 +47,10 @@ abbrev pub keptWith : Description → List ℕ → List ℕ → Kept
 keptWith d used indices = record { description = d; bytes = used; indices = indices }
 
 -- ---- one piece
+
+-- both levels of a byte under the set Nine are codes
+abbrev pub TwoCodes : ℕ → Type 0
+TwoCodes b = (b / 16 < 9) × (b % 16 < 9)
 
 -- an entry whose mark is a set's, and a piece within its width
 pub record Pickable (e : Extract) (w : ℕ) (M : States) (v : List ℕ) : Type 0 where

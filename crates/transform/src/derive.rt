@@ -1,27 +1,23 @@
 // Derive, after wellen's `transform_bv_signal` and `on_change`.
 ghost use mathlib.Core.Path.{_≡_};
-ghost use mathlib.Core.Bool.{cond};
-ghost use mathlib.Core.List.{map};
-ghost use Prim.Native.Nat.{_+_, _*_, _≤_, _<_};
-ghost use lib.ListN.{length, take};
-ghost use Rattle.value.specs.Slice.{part, overlay, same};
+ghost use Prim.Native.Nat.{_-_, _*_, _≤_, _<_};
+ghost use lib.ListN.{length, set};
 ghost use Rattle.layout.specs.Entry.{entrySize};
-ghost use Rattle.fst.specs.Change.{repeats};
+ghost use Rattle.layout.specs.Writable.{Writable, Numbered, entryFrom};
 ghost use Rattle.fst.specs.Refusal.{madeOf};
 ghost use Rattle.transform.specs.Piece.{piecesOf};
 ghost use Rattle.transform.specs.Derive.{inputsOf, derivedList, Derived, derive};
 ghost use Rattle.transform.specs.Tests.{keptAll, Derivable};
 ghost use Rattle.transform.specs.Room.{Few, totalOver, roomFor};
-ghost use Rattle.transform.specs.Stepping.{All, Tabled, inputsIn, Takeable, Taken, repeatsLast, Appendable, Appended, Walkable, Roomy, Stored, largestOver};
+ghost use Rattle.transform.specs.Stepping.{All, Tabled, inputsIn, Takeable, Taken, repeatsLast, lastAt, Appendable, Appended, Walkable, Roomy, Stored, largestOver};
 use crate::DerivedBitVecSignal;
 use crate::Inputs;
-use crate::steps::Position;
 use crate::steps::advance;
 use crate::steps::largest_in;
 use crate::steps::next_index;
 use crate::steps::step_states;
 use crate::steps::table_of;
-use crate::steps::write_step;
+use crate::steps::write_pieces;
 use crate::tests::first_refusal;
 use fst::Description;
 use fst::Encoding;
@@ -30,6 +26,9 @@ use fst::Refusal;
 use fst::Verdict;
 use fst::record::MAXIMUM;
 use layout::entry::entry_size;
+use layout::number::entry_number;
+use layout::number::equals_entry;
+use layout::number::store_entry;
 use signal::NextIndex;
 use value::States;
 
@@ -61,205 +60,153 @@ fn has_room(
     n <= indices - index_start
 }
 
-// Whether the bytes from a place on are those of an entry.
-fn equals_at(bytes: &[u8], at: usize, entry: &[u8]) -> bool
-    requires { ⌜ at + length (now entry) ≤ length (now bytes) ⌝ }
-    ensures { λ r. ⌜ r ≡ same (part at (length (now (entry .entry))) (now (bytes .entry))) (now (entry .entry)) ⌝ }
-{
-    let mut j = 0;
-    while j < entry.len() {
-        if bytes[at + j] != entry[j] {
-            return false;
-        }
-        j += 1;
-    }
-    true
-}
-
-// Stores an entry from a place on.
-fn store_at(out: &mut [u8], at: usize, entry: &[u8])
-    requires { ⌜ at + length (now entry) ≤ length (now out) ⌝ }
-    ensures { λ _. ⌜ now (out .exit) ≡ overlay (now (out .entry)) at (now (entry .entry)) ⌝ }
-{
-    let mut j = 0;
-    while j < entry.len() {
-        out[at + j] = entry[j];
-        j += 1;
-    }
-}
-
-// Takes the step at an index: moves the inputs on, and stores the entry of what they then show.
+// Takes the step at an index: moves the inputs on, and stores the characters of what they then show. Returns their set.
 fn take_step(
-    width: u32,
     pieces: &[u64],
     count: u32,
     numbers: &[u32],
     starts: &[usize],
     bytes: &[u8],
     indices: &[u32],
-    mut position: Position,
-    max_states: States,
+    begun: &mut [u32; 8],
     index: u32,
     text: &mut [u8],
-    entry: &mut [u8],
-) -> Position
-    requires { ⌜ Tabled count (now numbers) (now starts) × Takeable (inputsIn count (now numbers) (now starts)) (now bytes) (now indices) position (now pieces) «max_states» width index × (width ≤ length (now text)) × (length (now entry) ≡ entrySize width «max_states») ⌝ }
-    ensures { λ r. ⌜ Taken (inputsIn count (now (numbers .entry)) (now (starts .entry))) (now (bytes .entry)) (now (indices .entry)) position (now (pieces .entry)) «max_states» width index r (now (entry .exit)) ⌝ }
+) -> States
+    requires { ⌜ Tabled count (now numbers) (now starts) × Takeable (inputsIn count (now numbers) (now starts)) (now bytes) (now indices) (now begun) (now pieces) (length (now text)) index ⌝ }
+    ensures { λ r. ⌜ Taken (inputsIn count (now (numbers .entry)) (now (starts .entry))) (now (bytes .entry)) (now (indices .entry)) (now (begun .entry)) (now (pieces .entry)) index (now (text .entry)) (now (begun .exit)) r (now (text .exit)) ⌝ }
 {
-    advance(count, numbers, starts, indices, &mut position.begun, index);
-    let states = step_states(count, numbers, starts, bytes, position);
-    write_step(
-        width,
-        pieces,
-        count,
-        numbers,
-        starts,
-        bytes,
-        position,
-        max_states,
-        states,
-        text,
-        entry,
-    );
-    position
+    advance(count, numbers, starts, indices, begun, index);
+    write_pieces(pieces, count, numbers, starts, bytes, begun, text);
+    step_states(count, numbers, starts, bytes, begun)
 }
 
-// How many steps are kept with one more, which is dropped where its entry repeats the last.
-fn kept_with(count: u32, last: &[u8], entry: &[u8]) -> u32
-    requires { ⌜ (length (now last) ≡ length (now entry)) × (count ≤ 8388608) ⌝ }
-    ensures { λ r. ⌜ r ≡ cond (repeatsLast count (now (last .entry)) (now (entry .entry))) count (count + 1) ⌝ }
-{
-    if count == 0 {
-        return 1;
-    }
-    if equals_at(last, 0, entry) {
-        count
-    } else {
-        count + 1
-    }
-}
-
-// Whether an entry repeats the last of so many that stand at the front of the bytes.
-fn repeats_last(count: u32, bytes: &[u8], entry: &[u8]) -> bool
-    requires { ⌜ (length (now entry) ≤ 2049) × (count ≤ 8388608) × (count * length (now entry) ≤ length (now bytes)) ⌝ }
-    ensures { λ r. ⌜ r ≡ repeats (length (now (entry .entry))) count (now (bytes .entry)) (now (entry .entry)) ⌝ }
+// Whether a string repeats the last of so many entries that stand a stride apart.
+fn repeats_last(
+    count: u32,
+    max_states: States,
+    states: States,
+    value: &[u8],
+    size: usize,
+    stride: usize,
+    number: u64,
+    bytes: &[u8],
+) -> bool
+    requires { ⌜ (0 < count → Writable «max_states» states (now value) (length (now bytes)) ((count - 1) * stride)) × Numbered «max_states» states (now value) size number ⌝ }
+    ensures { λ r. ⌜ r ≡ repeatsLast count (lastAt size stride count (now (bytes .entry))) (entryFrom «max_states» states (now (value .entry))) ⌝ }
 {
     if count == 0 {
         return false;
     }
-    let at = (count as usize - 1) * entry.len();
-    equals_at(bytes, at, entry)
+    let at = (count as usize - 1) * stride;
+    equals_entry(max_states, states, value, size, number, bytes, at)
 }
 
-// Stores an entry and its index behind so many others, unless it repeats the last. Returns how many there are then.
+// Stores an index in its place, where there is one.
+fn put_index(indices: &mut [u32], n: usize, index: u32)
+    ensures { λ _. ⌜ now (indices .exit) ≡ set (now (indices .entry)) n index ⌝ }
+{
+    if indices.len() <= n {
+        return;
+    }
+    indices[n] = index;
+}
+
+// Stores the entry of a string behind so many others, a stride apart, and its index, unless it repeats the last. Returns how many there
+// are then.
 fn append_step(
     count: u32,
-    entry: &[u8],
+    max_states: States,
+    states: States,
+    value: &[u8],
+    size: usize,
+    stride: usize,
     index: u32,
     out_bytes: &mut [u8],
     out_indices: &mut [u32],
 ) -> u32
-    requires { ⌜ Appendable count (now entry) (now «out_bytes») (now «out_indices») ⌝ }
-    ensures { λ r. ⌜ Appended count (now (entry .entry)) index (now («out_bytes» .entry)) (now («out_indices» .entry)) r (now («out_bytes» .exit)) (now («out_indices» .exit)) ⌝ }
+    requires { ⌜ Appendable «max_states» states (now value) size stride count (now «out_bytes») ⌝ }
+    ensures { λ r. ⌜ Appended (entryFrom «max_states» states (now (value .entry))) size stride count index (now («out_bytes» .entry)) (now («out_indices» .entry)) r (now («out_bytes» .exit)) (now («out_indices» .exit)) ⌝ }
 {
-    if repeats_last(count, out_bytes, entry) {
+    let number = entry_number(max_states, states, value, size);
+    if repeats_last(
+        count,
+        max_states,
+        states,
+        value,
+        size,
+        stride,
+        number,
+        out_bytes,
+    ) {
         return count;
     }
     let n = count as usize;
-    store_at(out_bytes, n * entry.len(), entry);
-    out_indices[n] = index;
+    store_entry(
+        max_states,
+        states,
+        value,
+        size,
+        number,
+        out_bytes,
+        n * stride,
+    );
+    put_index(out_indices, n, index);
     count + 1
 }
 
-// How many steps are kept.
-fn count_steps(
-    derivation: DerivedBitVecSignal,
-    inputs: Inputs,
-    bytes: &[u8],
-    indices: &[u32],
-    max_states: States,
-    entry: &mut [u8],
-    last: &mut [u8],
-) -> u32
-    requires { ⌜ Walkable derivation inputs (now bytes) (now indices) «max_states» (now entry) × (length (now last) ≡ length (now entry)) ⌝ }
-    ensures { λ r. ⌜ r ≡ length (derivedList (piecesOf derivation) (keptAll (now (bytes .entry)) (now (indices .entry)) inputs)) ⌝ }
-{
-    let bits = derivation.bits;
-    let pieces = &bits[0..derivation.piece_count as usize];
-    let table = table_of(inputs);
-    let numbers = table.numbers;
-    let starts = table.starts;
-    let mut text = [0u8; 4096];
-    let mut position = Position { begun: [0; 8] };
-    let mut next = next_index(inputs.count, &numbers[..], &starts[..], indices, position);
-    let mut count: u32 = 0;
-    loop {
-        let NextIndex::At(index) = next else {
-            return count;
-        };
-        position = take_step(
-            derivation.width,
-            pieces,
-            inputs.count,
-            &numbers[..],
-            &starts[..],
-            bytes,
-            indices,
-            position,
-            max_states,
-            index,
-            &mut text[..],
-            entry,
-        );
-        count = kept_with(count, last, entry);
-        store_at(last, 0, entry);
-        next = next_index(inputs.count, &numbers[..], &starts[..], indices, position);
-    }
-}
-
-// Stores the steps that are kept, for which there is room. Returns how many there are.
+// Stores the steps that are kept, a stride apart, and their indices. Returns how many there are. At the stride 0 each takes the place of
+// the one before: they are only counted.
 fn write_steps(
     derivation: DerivedBitVecSignal,
     inputs: Inputs,
     bytes: &[u8],
     indices: &[u32],
     max_states: States,
-    entry: &mut [u8],
+    stride: usize,
     out_bytes: &mut [u8],
     out_indices: &mut [u32],
 ) -> u32
-    requires { ⌜ Walkable derivation inputs (now bytes) (now indices) «max_states» (now entry) × Roomy (derivedList (piecesOf derivation) (keptAll (now bytes) (now indices) inputs)) (entrySize (derivation .width) «max_states») (now «out_bytes») (now «out_indices») ⌝ }
-    ensures { λ r. ⌜ Stored (derivation .width) «max_states» (derivedList (piecesOf derivation) (keptAll (now (bytes .entry)) (now (indices .entry)) inputs)) (now («out_bytes» .entry)) (now («out_indices» .entry)) (now («out_bytes» .exit)) (now («out_indices» .exit)) × (r ≡ length (derivedList (piecesOf derivation) (keptAll (now (bytes .entry)) (now (indices .entry)) inputs))) ⌝ }
+    requires { ⌜ Walkable derivation inputs (now bytes) (now indices) «max_states» × Roomy (derivedList (piecesOf derivation) (keptAll (now bytes) (now indices) inputs)) (entrySize (derivation .width) «max_states») stride (now «out_bytes») ⌝ }
+    ensures { λ r. ⌜ (r ≡ length (derivedList (piecesOf derivation) (keptAll (now (bytes .entry)) (now (indices .entry)) inputs))) × (stride ≡ entrySize (derivation .width) «max_states» → length (derivedList (piecesOf derivation) (keptAll (now (bytes .entry)) (now (indices .entry)) inputs)) ≤ length (now («out_indices» .entry)) → Stored (derivation .width) «max_states» (derivedList (piecesOf derivation) (keptAll (now (bytes .entry)) (now (indices .entry)) inputs)) (now («out_bytes» .entry)) (now («out_indices» .entry)) (now («out_bytes» .exit)) (now («out_indices» .exit))) ⌝ }
 {
     let bits = derivation.bits;
     let pieces = &bits[0..derivation.piece_count as usize];
+    let size = entry_size(max_states, derivation.width);
     let table = table_of(inputs);
     let numbers = table.numbers;
     let starts = table.starts;
     let mut text = [0u8; 4096];
-    let mut position = Position { begun: [0; 8] };
-    let mut next = next_index(inputs.count, &numbers[..], &starts[..], indices, position);
+    let mut begun = [0u32; 8];
+    let mut next = next_index(inputs.count, &numbers, &starts, indices, &begun);
     let mut count: u32 = 0;
     loop {
         let NextIndex::At(index) = next else {
             return count;
         };
-        position = take_step(
-            derivation.width,
+        let states = take_step(
             pieces,
             inputs.count,
-            &numbers[..],
-            &starts[..],
+            &numbers,
+            &starts,
             bytes,
             indices,
-            position,
-            max_states,
+            &mut begun,
             index,
-            &mut text[..],
-            entry,
+            &mut text,
         );
-        count = append_step(count, entry, index, out_bytes, out_indices);
-        next = next_index(inputs.count, &numbers[..], &starts[..], indices, position);
+        let value = &text[..derivation.width as usize];
+        count = append_step(
+            count,
+            max_states,
+            states,
+            value,
+            size,
+            stride,
+            index,
+            out_bytes,
+            out_indices,
+        );
+        next = next_index(inputs.count, &numbers, &starts, indices, &begun);
     }
 }
 
@@ -303,70 +250,32 @@ fn steps_fit(
     bytes: &[u8],
     indices: &[u32],
     max_states: States,
-    entry: &mut [u8],
-    last: &mut [u8],
     out_bytes: usize,
     out_indices: usize,
 ) -> bool
-    requires { ⌜ Walkable derivation inputs (now bytes) (now indices) «max_states» (now entry) × (length (now last) ≡ length (now entry)) ⌝ }
+    requires { ⌜ Walkable derivation inputs (now bytes) (now indices) «max_states» ⌝ }
     ensures { λ r. ⌜ r ≡ roomFor (length (derivedList (piecesOf derivation) (keptAll (now (bytes .entry)) (now (indices .entry)) inputs))) (entrySize (derivation .width) «max_states») «out_bytes» 0 «out_indices» 0 ⌝ }
 {
     let size = entry_size(max_states, derivation.width);
     if has_room(total_count(inputs), size, out_bytes, 0, out_indices, 0) {
         return true;
     }
-    let count = count_steps(derivation, inputs, bytes, indices, max_states, entry, last);
-    has_room(count, size, out_bytes, 0, out_indices, 0)
-}
-
-// Derive by its room, with room for two entries lent. Nothing is stored before it is known that all fits.
-fn derive_with(
-    derivation: DerivedBitVecSignal,
-    inputs: Inputs,
-    bytes: &[u8],
-    indices: &[u32],
-    max_states: States,
-    entry: &mut [u8],
-    last: &mut [u8],
-    out_bytes: &mut [u8],
-    out_indices: &mut [u32],
-) -> Made
-    requires { ⌜ Walkable derivation inputs (now bytes) (now indices) «max_states» (now entry) × (length (now last) ≡ length (now entry)) ⌝ }
-    ensures { λ r. ⌜ _≡_ {A = Derived} (record { answer = madeOf r; bytes = now («out_bytes» .exit); indices = now («out_indices» .exit) }) (derive derivation inputs (now (bytes .entry)) (now (indices .entry)) (now («out_bytes» .entry)) (now («out_indices» .entry))) ⌝ }
-{
-    let width = derivation.width;
-    let byte_room = out_bytes.len();
-    let index_room = out_indices.len();
-    if steps_fit(
+    let mut last = [0u8; 2049];
+    let mut index = [0u32; 1];
+    let count = write_steps(
         derivation,
         inputs,
         bytes,
         indices,
         max_states,
-        entry,
-        last,
-        byte_room,
-        index_room,
-    ) {
-        let count = write_steps(
-            derivation,
-            inputs,
-            bytes,
-            indices,
-            max_states,
-            entry,
-            out_bytes,
-            out_indices,
-        );
-        return Made::Record(Description {
-            encoding: Encoding::BitVector { width, max_states },
-            count,
-        });
-    }
-    Made::Refused(Refusal::NoRoom)
+        0,
+        &mut last,
+        &mut index,
+    );
+    has_room(count, size, out_bytes, 0, out_indices, 0)
 }
 
-// Derive where no number before 7 refuses.
+// Derive where no number before 7 refuses. Nothing is stored before it is known that all fits.
 fn derive_all(
     derivation: DerivedBitVecSignal,
     inputs: Inputs,
@@ -379,20 +288,35 @@ fn derive_all(
     ensures { λ r. ⌜ _≡_ {A = Derived} (record { answer = madeOf r; bytes = now («out_bytes» .exit); indices = now («out_indices» .exit) }) (derive derivation inputs (now (bytes .entry)) (now (indices .entry)) (now («out_bytes» .entry)) (now («out_indices» .entry))) ⌝ }
 {
     let max_states = largest_states(inputs);
-    let size = entry_size(max_states, derivation.width);
-    let mut entry = [0u8; 2049];
-    let mut last = [0u8; 2049];
-    derive_with(
+    let width = derivation.width;
+    let byte_room = out_bytes.len();
+    let index_room = out_indices.len();
+    if steps_fit(
         derivation,
         inputs,
         bytes,
         indices,
         max_states,
-        &mut entry[..size],
-        &mut last[..size],
-        out_bytes,
-        out_indices,
-    )
+        byte_room,
+        index_room,
+    ) {
+        let size = entry_size(max_states, width);
+        let count = write_steps(
+            derivation,
+            inputs,
+            bytes,
+            indices,
+            max_states,
+            size,
+            out_bytes,
+            out_indices,
+        );
+        return Made::Record(Description {
+            encoding: Encoding::BitVector { width, max_states },
+            count,
+        });
+    }
+    Made::Refused(Refusal::NoRoom)
 }
 
 // Derive. The numbers are tried in the order 2, 14, 15, 11, 9, 10, 7.

@@ -4,8 +4,7 @@ ghost use mathlib.Core.List.{map};
 ghost use Prim.Native.Nat.{_+_, _-_, _*_, _≤_, _<_};
 ghost use lib.ListN.{length, getD};
 ghost use Rattle.value.specs.Slice.{part, overlay};
-ghost use Rattle.value.specs.Level.{markOf, setAt, textOf};
-ghost use Rattle.layout.specs.Entry.{entrySize, entryOf};
+ghost use Rattle.value.specs.Level.{setAt, textOf};
 ghost use Rattle.fst.specs.Record.{largestIn};
 ghost use Rattle.signal.specs.Decode.{markIn};
 ghost use Rattle.signal.specs.Parts.{codesAt, Levels};
@@ -14,13 +13,12 @@ ghost use Rattle.transform.specs.Derive.{inputsOf, pickedOf};
 ghost use Rattle.transform.specs.Piece.{extractOf};
 ghost use Rattle.transform.specs.Steps.{smaller};
 ghost use Rattle.transform.specs.Stepping.{Vectors, Tables, Tabled, TableOf, SizedAt, inputIn, inputsIn, entryIn, Reaches, Indexable, cursor, cursors, cursorsOf, nextIn, soonest, begunAt, advanced};
-ghost use Rattle.transform.specs.Stepping.{levelsNow, largestNow, pickedNow, AllShowing, Picks, Pickable, Stepped};
+ghost use Rattle.transform.specs.Stepping.{levelsNow, largestNow, pickedNow, AllShowing, Picks, Pickable};
 use crate::Extract;
 use crate::Input;
 use crate::Inputs;
 use fst::Description;
 use fst::Encoding;
-use layout::entry::write_entry;
 use signal::NextIndex;
 use signal::decode::code_at;
 use signal::decode::level_part;
@@ -28,11 +26,6 @@ use signal::decode::states_of;
 use signal::read::size_of;
 use value::States;
 use value::num_to_bit_char;
-
-// How many entries of each input have begun. An input shows the last of these, and the next one is the entry of that number.
-pub struct Position {
-    pub begun: [u32; 8],
-}
 
 // The inputs as numbers, eight for one field before eight for the next: how many entries, the width and the mark of the largest set of
 // each; the byte start, the index start and the size of an entry of each. They are lent where a copy of all inputs would cost more than a step.
@@ -56,7 +49,7 @@ pub fn largest_in(encoding: Encoding) -> States
 }
 
 // How many levels an entry has.
-fn width_of(encoding: Encoding) -> u32
+pub fn width_of(encoding: Encoding) -> u32
     ensures { λ r. ⌜ r ≡ widthOf encoding ⌝ }
 {
     match encoding {
@@ -145,23 +138,24 @@ fn next_of(input: Input, indices: &[u32], begun: u32) -> NextIndex
     NextIndex::Absent
 }
 
-// The smallest index among the inputs' next entries.
+// The smallest index among the inputs' next entries, of which so many have begun: an input shows the last of these, and the entry of that
+// number is its next one.
 pub fn next_index(
     count: u32,
     numbers: &[u32],
     starts: &[usize],
     indices: &[u32],
-    position: Position,
+    begun: &[u32; 8],
 ) -> NextIndex
-    requires { ⌜ Tabled count (now numbers) (now starts) × Indexable (inputsIn count (now numbers) (now starts)) (now indices) ⌝ }
-    ensures { λ r. ⌜ r ≡ soonest (now (indices .entry)) (cursorsOf (inputsIn count (now (numbers .entry)) (now (starts .entry))) position) ⌝ }
+    requires { ⌜ Tabled count (now numbers) (now starts) × Indexable (inputsIn count (now numbers) (now starts)) (now indices) × (length (now begun) ≡ 8) ⌝ }
+    ensures { λ r. ⌜ r ≡ soonest (now (indices .entry)) (cursorsOf (inputsIn count (now (numbers .entry)) (now (starts .entry))) (now (begun .entry))) ⌝ }
 {
     let mut next = NextIndex::Absent;
     let mut i = count as usize;
     while 0 < i {
         i -= 1;
         let input = input_at(numbers, starts, i);
-        next = smaller(next_of(input, indices, position.begun[i]), next);
+        next = smaller(next_of(input, indices, begun[i]), next);
     }
     next
 }
@@ -224,16 +218,16 @@ pub fn step_states(
     numbers: &[u32],
     starts: &[usize],
     bytes: &[u8],
-    position: Position,
+    begun: &[u32; 8],
 ) -> States
-    requires { ⌜ Tabled count (now numbers) (now starts) × AllShowing (inputsIn count (now numbers) (now starts)) (now bytes) position ⌝ }
-    ensures { λ r. ⌜ r ≡ largestNow (now (bytes .entry)) (cursorsOf (inputsIn count (now (numbers .entry)) (now (starts .entry))) position) ⌝ }
+    requires { ⌜ Tabled count (now numbers) (now starts) × AllShowing (inputsIn count (now numbers) (now starts)) (now bytes) (now begun) ⌝ }
+    ensures { λ r. ⌜ r ≡ largestNow (now (bytes .entry)) (cursorsOf (inputsIn count (now (numbers .entry)) (now (starts .entry))) (now (begun .entry))) ⌝ }
 {
     let mut states = States::Two;
     let mut i = count as usize;
     while 0 < i {
         i -= 1;
-        let entry = shown_entry(starts, i, bytes, position.begun[i]);
+        let entry = shown_entry(starts, i, bytes, begun[i]);
         states = States::join(states_in(numbers[16 + i], entry), states);
     }
     states
@@ -303,54 +297,25 @@ fn write_piece(
 }
 
 // Stores the characters of all pieces.
-fn write_pieces(
+pub fn write_pieces(
     pieces: &[u64],
     count: u32,
     numbers: &[u32],
     starts: &[usize],
     bytes: &[u8],
-    position: Position,
+    begun: &[u32; 8],
     text: &mut [u8],
 )
-    requires { ⌜ Tabled count (now numbers) (now starts) × Pickable (inputsIn count (now numbers) (now starts)) (now bytes) position (now pieces) (length (now text)) ⌝ }
-    ensures { λ _. ⌜ now (text .exit) ≡ overlay (now (text .entry)) 0 (textOf (pickedNow (now (bytes .entry)) (cursorsOf (inputsIn count (now (numbers .entry)) (now (starts .entry))) position) (map extractOf (now (pieces .entry))))) ⌝ }
+    requires { ⌜ Tabled count (now numbers) (now starts) × Pickable (inputsIn count (now numbers) (now starts)) (now bytes) (now begun) (now pieces) (length (now text)) ⌝ }
+    ensures { λ _. ⌜ now (text .exit) ≡ overlay (now (text .entry)) 0 (textOf (pickedNow (now (bytes .entry)) (cursorsOf (inputsIn count (now (numbers .entry)) (now (starts .entry))) (now (begun .entry))) (map extractOf (now (pieces .entry))))) ⌝ }
 {
     let mut at = 0;
     let mut i = 0;
     while i < pieces.len() {
         let extract = Extract::from_u64(pieces[i]);
         let signal = extract.signal as usize;
-        write_piece(
-            extract,
-            numbers,
-            starts,
-            bytes,
-            position.begun[signal],
-            text,
-            at,
-        );
+        write_piece(extract, numbers, starts, bytes, begun[signal], text, at);
         at += extract.width as usize;
         i += 1;
     }
-}
-
-// Stores the entry of a step in bytes that are as many as an entry takes, by its characters, for which there is room.
-pub fn write_step(
-    width: u32,
-    pieces: &[u64],
-    count: u32,
-    numbers: &[u32],
-    starts: &[usize],
-    bytes: &[u8],
-    position: Position,
-    max_states: States,
-    states: States,
-    text: &mut [u8],
-    out: &mut [u8],
-)
-    requires { ⌜ Tabled count (now numbers) (now starts) × Stepped (inputsIn count (now numbers) (now starts)) (now bytes) position (now pieces) states width × (markOf states ≤ markOf «max_states») × (width ≤ length (now text)) × (length (now out) ≡ entrySize width «max_states») ⌝ }
-    ensures { λ _. ⌜ now (out .exit) ≡ entryOf width «max_states» states (pickedNow (now (bytes .entry)) (cursorsOf (inputsIn count (now (numbers .entry)) (now (starts .entry))) position) (map extractOf (now (pieces .entry)))) ⌝ }
-{
-    write_pieces(pieces, count, numbers, starts, bytes, position, text);
-    write_entry(max_states, states, &text[..width as usize], out, 0);
 }

@@ -1,25 +1,26 @@
 // The tests of Derive before its room. Each number is tried over all inputs before the next.
-ghost use mathlib.Core.Bool.{false};
+ghost use mathlib.Core.Bool.{true, false};
 ghost use mathlib.Core.List.{List};
 ghost use mathlib.Core.Path.{_≡_};
-ghost use Prim.Native.Nat.{ℕ, _+_, _-_, _≤_, min};
-ghost use lib.ListN.{length};
+ghost use Prim.Native.Nat.{ℕ, _+_, _-_, _≤_, _<_, min};
+ghost use lib.ListN.{length, getD};
 ghost use Rattle.value.specs.Slice.{part, any};
-ghost use Rattle.value.specs.Level.{hasNoCode};
+ghost use Rattle.value.specs.Level.{bitsOf, hasNoCode};
 ghost use Rattle.fst.specs.declared.Encoding.the-variants.{BitVector};
 ghost use Rattle.fst.specs.Record.{usedSize, isBadBytes};
 ghost use Rattle.fst.specs.Refusal.{given, tried};
 ghost use Rattle.signal.specs.Decode.{entriesIn, levelsIn};
 ghost use Rattle.signal.specs.Parts.{codesAt, Levels};
-ghost use Rattle.signal.specs.Read.{widthOf, hasNoText};
+ghost use Rattle.signal.specs.Read.{hasNoText};
 ghost use Rattle.transform.specs.Piece.{endOf, piecesOf};
 ghost use Rattle.transform.specs.Derive.{inputsOf, isBadInput, inputKept, startsLate, isLate, indicesFall, isUnfit, isBeyond, markIsBad, pickIsBad, pickedOf, codeIsBad};
-ghost use Rattle.transform.specs.Tests.{failsBy, isFirst, Pickable, Picking, Numbered, Readable, keptWith, keptAll, firstTests, verdictReply};
+ghost use Rattle.transform.specs.Tests.{failsBy, isFirst, TwoCodes, Pickable, Picking, Numbered, Readable, keptWith, keptAll, firstTests, verdictReply};
 use crate::DerivedBitVecSignal;
 use crate::Extract;
 use crate::Input;
 use crate::InputTest;
 use crate::Inputs;
+use crate::steps::width_of;
 use fst::Description;
 use fst::Encoding;
 use fst::Refusal;
@@ -90,19 +91,6 @@ fn has_no_text(encoding: Encoding) -> bool
             width: _,
             max_states: _,
         } => false,
-    }
-}
-
-fn width_of(encoding: Encoding) -> u32
-    ensures { λ r. ⌜ r ≡ widthOf encoding ⌝ }
-{
-    match encoding {
-        Encoding::Event => 0,
-        Encoding::Real => 0,
-        Encoding::BitVector {
-            width,
-            max_states: _,
-        } => width,
     }
 }
 
@@ -229,6 +217,40 @@ fn any_bad_level(extract: Extract, width: u32, states: States, levels: &[u8]) ->
     false
 }
 
+// 0 where both levels of a byte are codes. It has no jump, so that a loop over it is compiled to wide instructions.
+fn beside_codes(byte: u8) -> u8
+    ensures { λ r. ⌜ (r ≡ 0 → TwoCodes byte) ⌝ }
+{
+    ((byte & 0x77) + 0x77) & byte & 0x88
+}
+
+// Whether all levels of bytes under the set Nine are codes.
+fn are_codes(levels: &[u8]) -> bool
+    ensures { λ r. ⌜ (r ≡ true → (k : ℕ) → k < length (now (levels .entry)) → TwoCodes (getD (now (levels .entry)) k 0)) ⌝ }
+{
+    let mut union: u8 = 0;
+    let mut k = 0;
+    while k < levels.len() {
+        union |= beside_codes(levels[k]);
+        k += 1;
+    }
+    union == 0
+}
+
+// `any_bad_level` under the set Nine, where the levels are tried one by one only if their bytes hold a number that is no code.
+fn has_bad_level(extract: Extract, width: u32, states: States, levels: &[u8]) -> bool
+    requires { ⌜ Levels width states (now levels) × (endOf extract ≤ width) × (4 ≤ bitsOf states) ⌝ }
+    ensures { λ r. ⌜ r ≡ hasNoCode (pickedOf extract (codesAt width states (now (levels .entry)))) ⌝ }
+{
+    let end = extract.lsb + extract.width as u32;
+    let from = levels.len() - ((end + 1) >> 1) as usize;
+    let to = levels.len() - (extract.lsb >> 1) as usize;
+    if are_codes(&levels[from..to]) {
+        return false;
+    }
+    any_bad_level(extract, width, states, levels)
+}
+
 // The same of an entry, where only the set Nine has such codes.
 fn has_bad_pick(extract: Extract, width: u32, max_states: States, entry: &[u8]) -> bool
     requires { ⌜ Pickable extract width «max_states» (now entry) ⌝ }
@@ -238,7 +260,7 @@ fn has_bad_pick(extract: Extract, width: u32, max_states: States, entry: &[u8]) 
     if states.bits() < 4 {
         return false;
     }
-    any_bad_level(extract, width, states, level_part(width, states, entry))
+    has_bad_level(extract, width, states, level_part(width, states, entry))
 }
 
 // The same of every entry of a record.
@@ -265,8 +287,8 @@ fn any_bad_pick(extract: Extract, description: Description, used: &[u8]) -> bool
     false
 }
 
-// Number 10, of inputs that are not refused before.
-fn any_bad_code(
+// Number 10, of inputs that are not refused before, piece by piece.
+fn any_bad_piece(
     derivation: DerivedBitVecSignal,
     inputs: Inputs,
     bytes: &[u8],
@@ -287,6 +309,50 @@ fn any_bad_code(
         i += 1;
     }
     false
+}
+
+// Whether every code of every input is below 9. Where an input is so wide that trying its pieces is faster, the answer is no.
+fn all_coded(derivation: DerivedBitVecSignal, inputs: Inputs, bytes: &[u8], indices: &[u32]) -> bool
+    requires { ⌜ Readable derivation inputs (now bytes) (now indices) ⌝ }
+    ensures { λ r. ⌜ (r ≡ true → any (codeIsBad (keptAll (now (bytes .entry)) (now (indices .entry)) inputs)) (piecesOf derivation) ≡ false) ⌝ }
+{
+    let count = used_slots(inputs);
+    let mut i = 0;
+    while i < count {
+        let input = inputs.slots[i];
+        let description = input.description;
+        let encoding = description.encoding;
+        let width = width_of(encoding);
+        if 64 * derivation.piece_count < width {
+            return false;
+        }
+        let whole = Extract {
+            signal: 0,
+            width: width as u16,
+            lsb: 0,
+        };
+        if any_bad_pick(whole, description, used_part(input, bytes)) {
+            return false;
+        }
+        i += 1;
+    }
+    true
+}
+
+// Number 10, of inputs that are not refused before. One look at each input spares one for each piece.
+fn any_bad_code(
+    derivation: DerivedBitVecSignal,
+    inputs: Inputs,
+    bytes: &[u8],
+    indices: &[u32],
+) -> bool
+    requires { ⌜ Readable derivation inputs (now bytes) (now indices) ⌝ }
+    ensures { λ r. ⌜ r ≡ any (codeIsBad (keptAll (now (bytes .entry)) (now (indices .entry)) inputs)) (piecesOf derivation) ⌝ }
+{
+    if all_coded(derivation, inputs, bytes, indices) {
+        return false;
+    }
+    any_bad_piece(derivation, inputs, bytes, indices)
 }
 
 // The first number before 7 that refuses a derivation of these inputs.

@@ -2,11 +2,13 @@
 -- Assumes nothing.
 use mathlib.Core.Path.{_≡_, sym, _∙_}
 use mathlib.Core.Bool.{false}
+use Prim.Native.Nat.{_+_, _*_, _≤_}
 use native.Mathlib.Omega.{arith}
 use denote.Ref.{now}
 use lib.ListN.{length}
-use Rattle.fst.specs.Change.{repeats}
-use Rattle.transform.proofs.SteppingBytes.{append-none, append-one}
+use Rattle.layout.specs.Writable.{entryFrom}
+use Rattle.transform.specs.Stepping.{repeatsLast, lastAt}
+use Rattle.transform.proofs.SteppingBytes.{writable-at, append-none, append-one}
 use borrow.Author.Needs.{needs}
 use Rattle.transform.proofs.derive.append_step.Statement.{statement}
 use Rattle.transform.proofs.derive.append_step.Tie as tie
@@ -14,33 +16,42 @@ use Rattle.transform.proofs.derive.append_step.Tie as tie
 -- the entry is new
 module _ (e : tie.Else1) where
   abbrev start : tie.Start
-  start = e .before .before .before .before .before .before
+  start = e .before .before .before .before .before .before .before
 
-  new : repeats (length (now (start .args .entry))) (start .args .count) (now (start .args .out-bytes)) (now (start .args .entry)) ≡ false
+  new : repeatsLast (start .args .count) (lastAt (start .args .size) (start .args .stride) (start .args .count) (now (start .args .out-bytes))) (entryFrom (start .args .max-states) (start .args .states) (now (start .args .value))) ≡ false
   new = sym (e .before .repeats-last .ensures) ∙ e .if1 .left
 
+  fits : start .args .count * start .args .stride + start .args .size ≤ length (now (start .args .out-bytes))
+  fits = start .pre .room new
+
+entry-number-requires : tie.Need-entry-number-requires
+entry-number-requires c κs = search needs
+
 repeats-last-requires : tie.Need-repeats-last-requires
-repeats-last-requires c κs = search needs
+repeats-last-requires c κs =
+    let n = c .before in
+    let s = n .before .before .before .before in
+    (λ h. writable-at (s .pre .written) (s .pre .sized) _ _ (s .pre .last h), n .entry-number .ensures)
 
 same-length : tie.Need-same-length
 same-length c = search needs
 
 returns : tie.Need-returns
 returns c =
-    let s = c .before .before .before .before .before .before in
-    append-none (s .args .count) (now (s .args .entry)) (s .args .index) (now (s .args .out-bytes)) (now (s .args .out-indices)) (sym (c .before .repeats-last .ensures) ∙ c .if1 .taken)
+    let s = c .before .before .before .before .before .before .before in
+    append-none _ (s .args .size) (s .args .stride) (s .args .count) (s .args .index) (now (s .args .out-bytes)) (now (s .args .out-indices)) (sym (c .before .repeats-last .ensures) ∙ c .if1 .taken)
 
-mul-store-at : tie.Need-mul-store-at
-mul-store-at c = search needs
+mul-store-entry : tie.Need-mul-store-entry
+mul-store-entry c = omega (arith, fits (c .before))
 
-store-at-requires : tie.Need-store-at-requires
-store-at-requires c κs = let e = c .before in start e .pre .room (new e) .0
+store-entry-requires : tie.Need-store-entry-requires
+store-entry-requires c κs =
+    let e = c .before in
+    let s = start e in
+    (writable-at (s .pre .written) (s .pre .sized) _ _ (fits e), e .before .before .before .entry-number .ensures)
 
-mul-out-indices : tie.Need-mul-out-indices
-mul-out-indices c = search needs
-
-slice-write-out-indices : tie.Need-slice-write-out-indices
-slice-write-out-indices c = let e = c .before .before .before .before in start e .pre .room (new e) .1
+put-index-requires : tie.Need-put-index-requires
+put-index-requires c κs = search needs
 
 add-result : tie.Need-add-result
 add-result c = search needs
@@ -53,22 +64,22 @@ same-length-3 c = search needs
 
 returns-2 : tie.Need-returns-2
 returns-2 c =
-    let w = c .before .before in
+    let w = c .before .before .before .before .before .before in
     let e = w .before .before in
     let s = start e in
-    append-one (s .args .count) (now (s .args .entry)) (s .args .index) (now (s .args .out-bytes)) (now (s .args .out-indices)) (new e) _ (w .store-at .ensures)
+    append-one _ (s .args .size) (s .args .stride) (s .args .count) (s .args .index) (now (s .args .out-bytes)) (now (s .args .out-indices)) (new e) _ _ (w .store-entry .ensures) (c .before .before .put-index .ensures)
 
 pub append-step-spec : {M : Type 1} → statement M
 append-step-spec =
     tie.close
     (tie.spec
+    entry-number-requires
     repeats-last-requires
     same-length
     returns
-    mul-store-at
-    store-at-requires
-    mul-out-indices
-    slice-write-out-indices
+    mul-store-entry
+    store-entry-requires
+    put-index-requires
     add-result
     same-length-2
     same-length-3

@@ -1,75 +1,52 @@
 -- `transform::derive::derive_all` meets its contract.
 -- Assumes nothing.
-use mathlib.Core.Path.{_≡_, refl, sym, ap, _∙_}
-use Prim.Native.Nat.{ℕ, _≤_}
-use native.Mathlib.Omega.{arith}
+use mathlib.Core.Path.{_≡_, _∙_}
+use Prim.Native.Nat.{_≤_}
 use denote.Ref.{now}
 use lib.ListN.{length}
-use Rattle.layout.specs.Entry.{entrySize}
-use Rattle.fst.proofs.Rooms.{size-small}
+use Rattle.transform.specs.Derive.{inputsOf, largestAmong}
+use Rattle.transform.specs.Tests.{keptAll}
+use Rattle.transform.specs.Stepping.{Walkable}
 use Rattle.transform.proofs.Pieces.{Sized}
 use Rattle.transform.proofs.Walks.{sized}
 use Rattle.transform.proofs.InputTests.{slotted}
-use lib.Seq.{length-take-le}
-use Rattle.transform.specs.Derive.{inputsOf}
-use Rattle.transform.proofs.SteppingSources.{few-inputs, narrow, largest-is}
+use Rattle.transform.proofs.SteppingDerive.{no-room, roomy, all-stored}
+use Rattle.transform.proofs.SteppingSources.{few-inputs, largest-is}
 use borrow.Author.Needs.{needs}
 use Rattle.transform.proofs.derive.derive_all.Statement.{statement}
 use Rattle.transform.proofs.derive.derive_all.Tie as tie
 
--- what is known all along
-module _ (s : tie.Start) where
-  slots : length (s .args .inputs .slots) ≡ 8
-  slots = slotted (s .args .inputs) _ (s .good .1 .0)
+-- what is known once the largest set is
+module _ (g : tie.After-largest-states) where
+  abbrev start : tie.Start
+  start = g .before .before .before .before .before
 
-  size : Sized (s .args .derivation)
-  size = sized (s .args .derivation) _ (s .good .0)
+  largest : g .largest-states .result ≡ largestAmong (keptAll (now (start .args .bytes)) (now (start .args .indices)) (start .args .inputs))
+  largest = g .largest-states .ensures ∙ largest-is (now (start .args .bytes)) (now (start .args .indices)) (inputsOf (start .args .inputs))
 
-abbrev start : tie.After-entry-size → tie.Start
-start e = e .before .before .before .before .before .before
-
--- an entry's bytes are a part of each array
-small : (e : tie.After-entry-size) → e .entry-size .result ≤ 2049
-small e =
-    let s = start e in
-    omega (
-      arith,
-      e .entry-size .ensures,
-      size-small (s .args .derivation .width) (e .before .largest-states .result)
-          (narrow (s .args .derivation) (s .args .inputs) (now (s .args .bytes)) (now (s .args .indices)) (s .pre) (slots s) (size s)),
-    )
+  walkable : Walkable (start .args .derivation) (start .args .inputs) (now (start .args .bytes)) (now (start .args .indices)) (g .largest-states .result)
+  walkable = record { derivable = start .pre; largest = largest }
 
 largest-states-requires : tie.Need-largest-states-requires
 largest-states-requires c κs =
     let s = c .before .before .before .before in
-    few-inputs (s .args .derivation) (s .args .inputs) (now (s .args .bytes)) (now (s .args .indices)) (s .pre) (slots s) (size s)
+    few-inputs (s .args .derivation) (s .args .inputs) (now (s .args .bytes)) (now (s .args .indices)) (s .pre) (slotted (s .args .inputs) _ (s .good .1 .0)) (sized (s .args .derivation) _ (s .good .0))
+
+steps-fit-requires : tie.Need-steps-fit-requires
+steps-fit-requires c κs = walkable c
 
 entry-size-requires : tie.Need-entry-size-requires
 entry-size-requires c κs = search needs
 
-array-borrow-prefix-entry : tie.Need-array-borrow-prefix-entry
-array-borrow-prefix-entry c = small c
-
-slice-aggregate-derive-with : tie.Need-slice-aggregate-derive-with
-slice-aggregate-derive-with c = sym (length-take-le _ _ (small (c .before)))
-
-array-borrow-prefix-last : tie.Need-array-borrow-prefix-last
-array-borrow-prefix-last c = small (c .before)
-
-slice-aggregate-derive-with-2 : tie.Need-slice-aggregate-derive-with-2
-slice-aggregate-derive-with-2 c = sym (length-take-le _ _ (small (c .before .before)))
-
-derive-with-requires : tie.Need-derive-with-requires
-derive-with-requires c κs =
-    let e = c .before .before .before .before in
-    let s = start e in (
-      record {
-        derivable = s .pre;
-        largest = e .before .largest-states .ensures ∙ largest-is (now (s .args .bytes)) (now (s .args .indices)) (inputsOf (s .args .inputs));
-        sized = length-take-le _ _ (small e) ∙ e .entry-size .ensures;
-      },
-      refl,
-    )
+write-steps-requires : tie.Need-write-steps-requires
+write-steps-requires c κs =
+    let z = c .before .before in
+    let t = z .before in
+    let f = t .before in
+    let g = f .before in
+    let s = start g in
+    let a = s .args in
+    (walkable g, rw (z .entry-size .ensures) (roomy (a .derivation) (a .inputs) (now (a .bytes)) (now (a .indices)) (now (a .out-bytes)) (now (a .out-indices)) (s .pre) (g .largest-states .result) (largest g) _ (f .steps-fit .ensures) (t .if1 .taken) .0))
 
 same-length : tie.Need-same-length
 same-length c = search needs
@@ -78,19 +55,34 @@ same-length-2 : tie.Need-same-length-2
 same-length-2 c = search needs
 
 returns : tie.Need-returns
-returns c = search needs
+returns c =
+    let w = c .before .before .before .before in
+    let z = w .before .before .before in
+    let t = z .before in
+    let f = t .before in
+    let g = f .before in
+    let s = start g in
+    let a = s .args in
+    let y = w .write-steps .ensures .1 (z .entry-size .ensures) (roomy (a .derivation) (a .inputs) (now (a .bytes)) (now (a .indices)) (now (a .out-bytes)) (now (a .out-indices)) (s .pre) (g .largest-states .result) (largest g) _ (f .steps-fit .ensures) (t .if1 .taken) .1) in
+    all-stored (a .derivation) (a .inputs) (now (a .bytes)) (now (a .indices)) (now (a .out-bytes)) (now (a .out-indices)) (s .pre) (g .largest-states .result) (largest g) _ (f .steps-fit .ensures) (t .if1 .taken) _ (w .write-steps .ensures .0) _ _ (y .entries) (y .times)
+
+returns-2 : tie.Need-returns-2
+returns-2 c =
+    let f = c .before in
+    let g = f .before in
+    let s = start g in
+    let a = s .args in
+    no-room (a .derivation) (a .inputs) (now (a .bytes)) (now (a .indices)) (now (a .out-bytes)) (now (a .out-indices)) (s .pre) (g .largest-states .result) (largest g) _ (f .steps-fit .ensures) (c .if1 .left)
 
 pub derive-all-spec : {M : Type 1} → statement M
 derive-all-spec =
     tie.close
     (tie.spec
     largest-states-requires
+    steps-fit-requires
     entry-size-requires
-    array-borrow-prefix-entry
-    slice-aggregate-derive-with
-    array-borrow-prefix-last
-    slice-aggregate-derive-with-2
-    derive-with-requires
+    write-steps-requires
     same-length
     same-length-2
-    returns)
+    returns
+    returns-2)

@@ -1,32 +1,45 @@
 -- `transform::derive::repeats_last` meets its contract.
 -- Assumes nothing.
-use mathlib.Core.Path.{_≡_, _∙_}
+use mathlib.Core.Path.{_≡_, sym, ap, _∙_}
+use Prim.Native.Nat.{ℕ, _-_, _*_, _<_}
 use native.Mathlib.Omega.{arith}
 use denote.Ref.{now}
 use lib.ListN.{length}
-use Rattle.transform.proofs.SteppingBytes.{none-repeats, one-repeats, before-last}
+use Rattle.value.specs.Slice.{part, same}
+use Rattle.layout.specs.Writable.{Writable, entryFrom}
+use Rattle.transform.specs.Stepping.{lastAt}
+use Rattle.transform.proofs.SteppingBytes.{none-before, one-before}
 use borrow.Author.Needs.{needs}
 use Rattle.transform.proofs.derive.repeats_last.Statement.{statement}
 use Rattle.transform.proofs.derive.repeats_last.Tie as tie
 
+-- the last entry lies in the bytes
+module _ (e : tie.Else1) where
+  abbrev start : tie.Start
+  start = e .before .before .before
+
+  there : Writable (start .args .max-states) (start .args .states) (now (start .args .value)) (length (now (start .args .bytes))) ((start .args .count - 1) * start .args .stride)
+  there = start .pre .0 (omega (arith, e .if1 .left))
+
 returns : tie.Need-returns
-returns c =
-    let s = c .before .before .before in
-    none-repeats (length (now (s .args .entry))) (s .args .count) (now (s .args .bytes)) (now (s .args .entry)) (c .if1 .taken)
+returns c = let s = c .before .before .before in none-before (s .args .count) _ _ (c .if1 .taken)
 
 sub-at : tie.Need-sub-at
 sub-at c = search needs
 
 mul-at : tie.Need-mul-at
-mul-at c = let s = c .before .before .before in omega (arith, before-last (s .args .count) (length (now (s .args .entry))) (c .if1 .left))
+mul-at c = omega (arith, there c .fits)
 
-equals-at-requires : tie.Need-equals-at-requires
-equals-at-requires c κs = let s = c .before .before .before in omega (arith, before-last (s .args .count) (length (now (s .args .entry))) (c .if1 .left))
+equals-entry-requires : tie.Need-equals-entry-requires
+equals-entry-requires c κs = (there c, start c .pre .1)
 
 returns-2 : tie.Need-returns-2
 returns-2 c =
-    let s = c .before .before .before .before in
-    c .equals-at .ensures ∙ one-repeats (length (now (s .args .entry))) (s .args .count) (now (s .args .bytes)) (now (s .args .entry)) (c .before .if1 .left)
+    let e = c .before in
+    let a = start e .args in
+    c .equals-entry .ensures
+    ∙ ap (λ (n : ℕ). same (part ((a .count - 1) * a .stride) n (now (a .bytes))) (entryFrom (a .max-states) (a .states) (now (a .value)))) (sym (start e .pre .1 .sized))
+    ∙ one-before (a .count) (lastAt (a .size) (a .stride) (a .count) (now (a .bytes))) _ (e .if1 .left)
 
 pub repeats-last-spec : {M : Type 1} → statement M
-repeats-last-spec = tie.close (tie.spec returns sub-at mul-at equals-at-requires returns-2)
+repeats-last-spec = tie.close (tie.spec returns sub-at mul-at equals-entry-requires returns-2)

@@ -1,11 +1,11 @@
 -- `transform::derive::steps_fit` meets its contract.
 -- Assumes nothing.
-use mathlib.Core.Path.{_≡_}
+use mathlib.Core.Path.{_≡_, refl}
 use Prim.Native.Nat.{ℕ, _≤_}
 use native.Mathlib.Omega.{arith}
 use borrow.Author.Needs.{needs}
 use denote.Ref.{now}
-use lib.ListN.{length}
+use lib.ListN.{length, length-replicate}
 use Rattle.layout.specs.Entry.{entrySize}
 use Rattle.fst.proofs.Rooms.{size-small}
 use Rattle.transform.proofs.Pieces.{Sized}
@@ -29,11 +29,11 @@ module _ (s : tie.Start) where
       omega (
         arith,
         size-small (s .args .derivation .width) (s .args .max-states)
-            (narrow (s .args .derivation) (s .args .inputs) (now (s .args .bytes)) (now (s .args .indices)) (s .pre .0 .derivable) slots size),
+            (narrow (s .args .derivation) (s .args .inputs) (now (s .args .bytes)) (now (s .args .indices)) (s .pre .derivable) slots size),
       )
 
 abbrev start : tie.After-entry-size → tie.Start
-start e = e .before .before .before .before .before
+start e = e .before .before .before
 
 entry-size-requires : tie.Need-entry-size-requires
 entry-size-requires c κs = search needs
@@ -42,8 +42,8 @@ total-count-requires : tie.Need-total-count-requires
 total-count-requires c κs =
     let s = start c in
     let a = s .args in (
-      few-inputs (a .derivation) (a .inputs) (now (a .bytes)) (now (a .indices)) (s .pre .0 .derivable) (slots s) (size s),
-      few-each (now (a .bytes)) (now (a .indices)) (a .derivation) (a .inputs) (s .pre .0 .derivable) (slots s) (size s),
+      few-inputs (a .derivation) (a .inputs) (now (a .bytes)) (now (a .indices)) (s .pre .derivable) (slots s) (size s),
+      few-each (now (a .bytes)) (now (a .indices)) (a .derivation) (a .inputs) (s .pre .derivable) (slots s) (size s),
     )
 
 has-room-requires : tie.Need-has-room-requires
@@ -56,28 +56,28 @@ returns c =
     let s = start (t .before) in
     let a = s .args in
     fits-together _ _ (a .out-bytes) (a .out-indices) _ _ (t .before .entry-size .ensures) _ (h .has-room .ensures) _ (t .total-count .ensures)
-    (steps-bound (now (a .bytes)) (now (a .indices)) (a .derivation) (a .inputs) (s .pre .0 .derivable) (slots s) (size s)) (c .if1 .taken)
+    (steps-bound (now (a .bytes)) (now (a .indices)) (a .derivation) (a .inputs) (s .pre .derivable) (slots s) (size s)) (c .if1 .taken)
 
-count-steps-requires : tie.Need-count-steps-requires
-count-steps-requires c κs = search needs
+slice-aggregate-write-steps : tie.Need-slice-aggregate-write-steps
+slice-aggregate-write-steps c = search needs
+
+slice-aggregate-write-steps-2 : tie.Need-slice-aggregate-write-steps-2
+slice-aggregate-write-steps-2 c = search needs
+
+write-steps-requires : tie.Need-write-steps-requires
+write-steps-requires c κs =
+    let s = start (c .before .before .before .before .before) in
+    (s .pre, λ n h. omega (arith, small s _ refl, length-replicate {A = ℕ} 2049 0))
 
 has-room-requires-2 : tie.Need-has-room-requires-2
-has-room-requires-2 c κs =
-    let e = c .before .before .before .before .before .before .before .before .before .before in
-    omega (arith, small (start e) _ (e .entry-size .ensures))
-
-same-length : tie.Need-same-length
-same-length c = search needs
-
-same-length-2 : tie.Need-same-length-2
-same-length-2 c = search needs
+has-room-requires-2 c κs = let e = c .before .before .before .before .before .before .before .before in omega (arith, small (start e) _ (e .entry-size .ensures))
 
 returns-2 : tie.Need-returns-2
 returns-2 c =
-    let n = c .before .before .before .before .before in
+    let n = c .before .before .before in
     let e = n .before .before .before .before .before .before in
     let a = start e .args in
-    fits-counted _ _ (a .out-bytes) (a .out-indices) _ _ (e .entry-size .ensures) _ (c .has-room2 .ensures) (n .count-steps .ensures)
+    fits-counted _ _ (a .out-bytes) (a .out-indices) _ _ (e .entry-size .ensures) _ (c .has-room2 .ensures) (n .write-steps .ensures .0)
 
 pub steps-fit-spec : {M : Type 1} → statement M
 steps-fit-spec =
@@ -87,8 +87,8 @@ steps-fit-spec =
     total-count-requires
     has-room-requires
     returns
-    count-steps-requires
+    slice-aggregate-write-steps
+    slice-aggregate-write-steps-2
+    write-steps-requires
     has-room-requires-2
-    same-length
-    same-length-2
     returns-2)

@@ -10,16 +10,16 @@ use Rattle.transform.specs.declared.Input.{Input}
 use Rattle.transform.specs.declared.Inputs.{Inputs}
 use Rattle.transform.specs.Stepping.{inputsIn, cursor, nextIn, Reaches, soonest}
 use Rattle.transform.proofs.InputTests.{noInput}
-use Rattle.transform.proofs.Stepping.{begun-sized, from, soonest-none, input-at, soonest-more}
+use Rattle.transform.proofs.Stepping.{from, soonest-none, input-at, soonest-more}
 use Rattle.transform.proofs.SteppingTable.{slot-is}
 use Rattle.transform.proofs.steps.next_index.Statement.{statement}
 use Rattle.transform.proofs.steps.next_index.Tie as tie
 
 abbrev Inv-loop : tie.InvT-loop
-Inv-loop count numbers starts indices position next₀ i₀ next i = (i ≤ count) × (next ≡ soonest indices (from (inputsIn count numbers starts) i (position .begun)))
+Inv-loop count numbers starts indices begun next₀ i₀ next i = (i ≤ count) × (next ≡ soonest indices (from (inputsIn count numbers starts) i begun))
 
 abbrev μ-loop : tie.MeasureT-loop
-μ-loop count numbers starts indices position next₀ i₀ next i = i
+μ-loop count numbers starts indices begun next₀ i₀ next i = i
 
 -- the input at hand
 module _ (a : tie.After-input-at Inv-loop μ-loop) where
@@ -41,7 +41,7 @@ module _ (a : tie.After-input-at Inv-loop μ-loop) where
 loop-holds : tie.Need-loop-holds Inv-loop μ-loop
 loop-holds c =
     let s = c .before .before .before in
-    (omega arith, soonest-none (inputsIn (s .args .count) (now (s .args .numbers)) (now (s .args .starts))) (s .pre .1 .few) refl (now (s .args .indices)) (s .args .t5 .begun))
+    (omega arith, soonest-none (inputsIn (s .args .count) (now (s .args .numbers)) (now (s .args .starts))) (s .pre .1 .few) refl (now (s .args .indices)) (now (s .args .begun)))
 
 sub-i : tie.Need-sub-i Inv-loop μ-loop
 sub-i c = omega arith
@@ -75,8 +75,8 @@ loop-again c =
     let s = start a in (
       omega arith,
       c .smaller .ensures
-          ∙ soonest-more (its a) (s .pre .1 .few) refl (l .loop .i - 1) (low a) (now (s .args .indices)) (s .args .t5 .begun) (begun-sized (s .args .t5) _ (s .good .1 .1 .1 .1 .0))
-          _ _ (n .next-of .ensures ∙ ap (λ (x : Input). nextIn (now (s .args .indices)) (cursor x (getD (s .args .t5 .begun) (l .loop .i - 1) 0))) (told a)) (l .loop .i) (omega arith) (l .loop .inv .1),
+          ∙ soonest-more (its a) (s .pre .1 .few) refl (l .loop .i - 1) (low a) (now (s .args .indices)) (now (s .args .begun)) (s .pre .2)
+          _ _ (n .next-of .ensures ∙ ap (λ (x : Input). nextIn (now (s .args .indices)) (cursor x (getD (now (s .args .begun)) (l .loop .i - 1) 0))) (told a)) (l .loop .i) (omega arith) (l .loop .inv .1),
     )
 
 returns : tie.Need-returns Inv-loop μ-loop
@@ -84,7 +84,7 @@ returns c =
     let l = c .before in
     let s = l .before .before .before .before in
     let z : l .loop .i ≡ 0 = omega arith in
-    l .loop .inv .1 ∙ ap (λ (i : ℕ). soonest (now (s .args .indices)) (from (inputsIn (s .args .count) (now (s .args .numbers)) (now (s .args .starts))) i (s .args .t5 .begun))) z
+    l .loop .inv .1 ∙ ap (λ (i : ℕ). soonest (now (s .args .indices)) (from (inputsIn (s .args .count) (now (s .args .numbers)) (now (s .args .starts))) i (now (s .args .begun)))) z
 
 pub next-index-spec : {M : Type 1} → statement M
 next-index-spec =

@@ -10,16 +10,16 @@ use Rattle.transform.specs.declared.Input.{Input}
 use Rattle.transform.specs.declared.Inputs.{Inputs}
 use Rattle.transform.specs.Stepping.{inputIn, inputsIn, SizedAt, cursor, setNow, Showing, largestNow}
 use Rattle.transform.proofs.InputTests.{noInput}
-use Rattle.transform.proofs.Stepping.{begun-sized, from, largest-none, cursor-at, largest-more}
+use Rattle.transform.proofs.Stepping.{from, largest-none, cursor-at, largest-more}
 use Rattle.transform.proofs.SteppingTable.{slot-is, found-fits, found-some, found-set}
 use Rattle.transform.proofs.steps.step_states.Statement.{statement}
 use Rattle.transform.proofs.steps.step_states.Tie as tie
 
 abbrev Inv-loop : tie.InvT-loop
-Inv-loop count numbers starts bytes position states₀ i₀ states i = (i ≤ count) × (states ≡ largestNow bytes (from (inputsIn count numbers starts) i (position .begun)))
+Inv-loop count numbers starts bytes begun states₀ i₀ states i = (i ≤ count) × (states ≡ largestNow bytes (from (inputsIn count numbers starts) i begun))
 
 abbrev μ-loop : tie.MeasureT-loop
-μ-loop count numbers starts bytes position states₀ i₀ states i = i
+μ-loop count numbers starts bytes begun states₀ i₀ states i = i
 
 -- the input at hand
 module _ (b : tie.In-loop Inv-loop μ-loop) where
@@ -36,7 +36,7 @@ module _ (b : tie.In-loop Inv-loop μ-loop) where
   its = inputsIn (start .args .count) (now (start .args .numbers)) (now (start .args .starts))
 
   abbrev begun : ℕ
-  begun = getD (start .args .t5 .begun) i 0
+  begun = getD (now (start .args .begun)) i 0
 
   low : i < start .args .count
   low = omega (arith, b .loop-test .taken, turn .loop .inv .0)
@@ -53,12 +53,12 @@ module _ (b : tie.In-loop Inv-loop μ-loop) where
   shows : Showing (now (start .args .bytes)) (cursor (inputIn (now (start .args .numbers)) (now (start .args .starts)) i) begun)
   shows =
       rw told
-      (cursor-at its (start .pre .1 .few) refl i low (Showing (now (start .args .bytes))) (start .args .t5 .begun) (begun-sized (start .args .t5) _ (start .good .1 .1 .1 .1 .0)) (start .pre .1 .shown))
+      (cursor-at its (start .pre .1 .few) refl i low (Showing (now (start .args .bytes))) (now (start .args .begun)) (start .pre .1 .places) (start .pre .1 .shown))
 
 loop-holds : tie.Need-loop-holds Inv-loop μ-loop
 loop-holds c =
     let s = c .before .before .before in
-    (omega arith, largest-none (inputsIn (s .args .count) (now (s .args .numbers)) (now (s .args .starts))) (s .pre .1 .few) refl (now (s .args .bytes)) (s .args .t5 .begun))
+    (omega arith, largest-none (inputsIn (s .args .count) (now (s .args .numbers)) (now (s .args .starts))) (s .pre .1 .few) refl (now (s .args .bytes)) (now (s .args .begun)))
 
 sub-i : tie.Need-sub-i Inv-loop μ-loop
 sub-i c = omega arith
@@ -109,7 +109,7 @@ loop-again c =
     let s = start b in (
       omega arith,
       c .join .ensures
-          ∙ largest-more (its b) (s .pre .1 .few) refl (i b) (low b) (now (s .args .bytes)) (s .args .t5 .begun) (begun-sized (s .args .t5) _ (s .good .1 .1 .1 .1 .0)) _ _
+          ∙ largest-more (its b) (s .pre .1 .few) refl (i b) (low b) (now (s .args .bytes)) (now (s .args .begun)) (s .pre .1 .places) _ _
           (found-set (now (s .args .numbers)) (now (s .args .starts)) (now (s .args .bytes)) (i b) (sized b) (begun b) (shows b) _ (a .shown-entry .ensures) _ (n .states-in .ensures)
           ∙ ap (λ (x : Input). setNow (now (s .args .bytes)) (cursor x (begun b))) (told b))
           (l .loop .i) (omega arith) (l .loop .inv .1),
@@ -120,7 +120,7 @@ returns c =
     let l = c .before in
     let s = l .before .before .before .before in
     let z : l .loop .i ≡ 0 = omega arith in
-    l .loop .inv .1 ∙ ap (λ (i : ℕ). largestNow (now (s .args .bytes)) (from (inputsIn (s .args .count) (now (s .args .numbers)) (now (s .args .starts))) i (s .args .t5 .begun))) z
+    l .loop .inv .1 ∙ ap (λ (i : ℕ). largestNow (now (s .args .bytes)) (from (inputsIn (s .args .count) (now (s .args .numbers)) (now (s .args .starts))) i (now (s .args .begun)))) z
 
 pub step-states-spec : {M : Type 1} → statement M
 step-states-spec =

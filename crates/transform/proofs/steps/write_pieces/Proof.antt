@@ -15,21 +15,20 @@ use Rattle.transform.specs.Derive.{pickedOf}
 use Rattle.transform.specs.Piece.{extractOf}
 use Rattle.transform.specs.Stepping.{inputIn, inputsIn, cursor, cursorsOf, levelsNow, pickedNow, Picks}
 use Rattle.transform.proofs.InputTests.{noInput}
-use Rattle.transform.proofs.Stepping.{begun-sized}
 use Rattle.transform.proofs.SteppingTable.{slot-is}
 use Rattle.transform.proofs.SteppingEntry.{widths, signal-in, piece-picks, room-more, pieces-more, pieces-done}
 use Rattle.transform.proofs.steps.write_pieces.Statement.{statement}
 use Rattle.transform.proofs.steps.write_pieces.Tie as tie
 
 abbrev Inv-loop : tie.InvT-loop
-Inv-loop pieces count numbers starts bytes text₀ position at₀ i₀ text at i =
+Inv-loop pieces count numbers starts bytes begun text₀ at₀ i₀ text at i =
     (i ≤ length pieces)
     × (length text ≡ length text₀)
     × (at + widths (drop i pieces) ≤ length text₀)
-    × (overlay text at (textOf (pickedNow bytes (cursorsOf (inputsIn count numbers starts) position) (map extractOf (drop i pieces)))) ≡ overlay text₀ 0 (textOf (pickedNow bytes (cursorsOf (inputsIn count numbers starts) position) (map extractOf pieces))))
+    × (overlay text at (textOf (pickedNow bytes (cursorsOf (inputsIn count numbers starts) begun) (map extractOf (drop i pieces)))) ≡ overlay text₀ 0 (textOf (pickedNow bytes (cursorsOf (inputsIn count numbers starts) begun) (map extractOf pieces))))
 
 abbrev μ-loop : tie.MeasureT-loop
-μ-loop pieces count numbers starts bytes text₀ position at₀ i₀ text at i = length pieces - i
+μ-loop pieces count numbers starts bytes begun text₀ at₀ i₀ text at i = length pieces - i
 
 -- what is known of the piece at hand
 module _ (k : tie.After-from-u64 Inv-loop μ-loop) where
@@ -42,20 +41,20 @@ module _ (k : tie.After-from-u64 Inv-loop μ-loop) where
   abbrev its : Inputs
   its = inputsIn (start .args .count) (now (start .args .numbers)) (now (start .args .starts))
 
-  places : length (start .args .t6 .begun) ≡ 8
-  places = begun-sized (start .args .t6) _ (start .good .1 .1 .1 .1 .1 .0)
+  places : length (now (start .args .begun)) ≡ 8
+  places = start .pre .1 .shown .places
 
   among : k .from-u64 .result .signal < start .args .count
   among =
-      signal-in its (now (start .args .bytes)) (start .args .t6) (now (start .args .pieces)) _ (start .pre .1)
+      signal-in its (now (start .args .bytes)) (now (start .args .begun)) (now (start .args .pieces)) _ (start .pre .1)
       refl places (turn .loop .i) (k .before .before .loop-test .taken) (k .from-u64 .result) (k .from-u64 .ensures)
 
   in-eight : k .from-u64 .result .signal < 8
   in-eight = omega (arith, among, start .pre .1 .shown .few)
 
-  picks : Picks (now (start .args .bytes)) (cursor (getD (its .slots) (k .from-u64 .result .signal) noInput) (getD (start .args .t6 .begun) (k .from-u64 .result .signal) 0)) (k .from-u64 .result) (length (now (start .args .text))) (turn .loop .at)
+  picks : Picks (now (start .args .bytes)) (cursor (getD (its .slots) (k .from-u64 .result .signal) noInput) (getD (now (start .args .begun)) (k .from-u64 .result .signal) 0)) (k .from-u64 .result) (length (now (start .args .text))) (turn .loop .at)
   picks =
-      piece-picks its (now (start .args .bytes)) (start .args .t6) (now (start .args .pieces)) _ (start .pre .1)
+      piece-picks its (now (start .args .bytes)) (now (start .args .begun)) (now (start .args .pieces)) _ (start .pre .1)
       refl places (turn .loop .i) (k .before .before .loop-test .taken) (k .from-u64 .result) (k .from-u64 .ensures) (turn .loop .at) (turn .loop .inv .2)
 
   told : inputIn (now (start .args .numbers)) (now (start .args .starts)) (k .from-u64 .result .signal) ≡ getD (its .slots) (k .from-u64 .result .signal) noInput
@@ -108,13 +107,13 @@ loop-again c =
     let k = w .before .before .before .before in (
       omega arith,
       w .write-piece .kept .1 .1 .1 .1 .1 .0 ∙ turn k .loop .inv .1,
-      room-more (its k) (now (start k .args .bytes)) (start k .args .t6) (now (start k .args .pieces)) _ (start k .pre .1)
+      room-more (its k) (now (start k .args .bytes)) (now (start k .args .begun)) (now (start k .args .pieces)) _ (start k .pre .1)
           refl (places k) (turn k .loop .i) (k .before .before .loop-test .taken) (k .from-u64 .result) (k .from-u64 .ensures) (turn k .loop .at) (turn k .loop .inv .2),
-      pieces-more (its k) (now (start k .args .bytes)) (start k .args .t6) (now (start k .args .pieces)) _ (start k .pre .1)
+      pieces-more (its k) (now (start k .args .bytes)) (now (start k .args .begun)) (now (start k .args .pieces)) _ (start k .pre .1)
           refl (places k) (turn k .loop .i) (k .before .before .loop-test .taken) (k .from-u64 .result) (k .from-u64 .ensures) (turn k .loop .at) (turn k .loop .inv .2)
           (turn k .loop .text) _ (turn k .loop .inv .1)
           (w .write-piece .ensures
-          ∙ ap (λ (x : Input). overlay (turn k .loop .text) (turn k .loop .at) (textOf (pickedOf (k .from-u64 .result) (levelsNow (now (start k .args .bytes)) (cursor x (getD (start k .args .t6 .begun) (k .from-u64 .result .signal) 0))))))
+          ∙ ap (λ (x : Input). overlay (turn k .loop .text) (turn k .loop .at) (textOf (pickedOf (k .from-u64 .result) (levelsNow (now (start k .args .bytes)) (cursor x (getD (now (start k .args .begun)) (k .from-u64 .result .signal) 0))))))
           (told k))
           ∙ turn k .loop .inv .3,
     )
@@ -126,7 +125,7 @@ returns : tie.Need-returns Inv-loop μ-loop
 returns c =
     let l = c .before in
     let s = l .before .before .before .before .before .before in
-    sym (pieces-done (now (s .args .bytes)) (cursorsOf (inputsIn (s .args .count) (now (s .args .numbers)) (now (s .args .starts))) (s .args .t6)) (now (s .args .pieces)) (l .loop .at) (l .loop .i) (l .loop .text) (c .loop-test .left))
+    sym (pieces-done (now (s .args .bytes)) (cursorsOf (inputsIn (s .args .count) (now (s .args .numbers)) (now (s .args .starts))) (now (s .args .begun))) (now (s .args .pieces)) (l .loop .at) (l .loop .i) (l .loop .text) (c .loop-test .left))
     ∙ l .loop .inv .3
 
 pub write-pieces-spec : {M : Type 1} → statement M

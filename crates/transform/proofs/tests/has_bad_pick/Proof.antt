@@ -35,19 +35,19 @@ level-part-requires c κs =
     let s = b .before .before .before .before in
     pick-owned (s .args .extract) (s .args .width) (s .args .max-states) (now (s .args .entry)) (s .pre) (b .before .states-of .result) (own b) .within
 
-any-bad-level-requires : tie.Need-any-bad-level-requires
-any-bad-level-requires c κs =
+has-bad-level-requires : tie.Need-has-bad-level-requires
+has-bad-level-requires c κs =
     let b = c .before .before in
     let s = b .before .before .before .before in
     let o = pick-owned (s .args .extract) (s .args .width) (s .args .max-states) (now (s .args .entry)) (s .pre) (b .before .states-of .result) (own b) in
-    (rw (c .level-part .ensures, o .part) (o .levels), s .pre .inside)
+    (rw (c .level-part .ensures, o .part) (o .levels), s .pre .inside, rw (b .bits .ensures) at (c .before .if1 .left))
 
 returns-2 : tie.Need-returns-2
 returns-2 c =
     let p = c .before in
     let b = p .before .before in
     let s = b .before .before .before .before in
-    c .any-bad-level .ensures
+    c .has-bad-level .ensures
     ∙ pick-levels (s .args .extract) (s .args .width) (s .args .max-states) (now (s .args .entry)) (s .pre) (b .before .states-of .result) (own b) _ (p .level-part .ensures)
 
 pub has-bad-pick-spec : {M : Type 1} → statement M
@@ -59,5 +59,5 @@ has-bad-pick-spec =
     bits-requires
     returns
     level-part-requires
-    any-bad-level-requires
+    has-bad-level-requires
     returns-2)

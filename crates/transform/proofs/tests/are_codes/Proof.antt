@@ -1,0 +1,56 @@
+-- `transform::tests::are_codes` meets its contract: where the union so far is 0, the bytes so far hold codes.
+-- Assumes nothing.
+use mathlib.Core.Path.{_≡_}
+use Prim.Native.Nat.{ℕ, _-_, _≤_, _<_}
+use native.Mathlib.Omega.{arith}
+use borrow.Author.Count.{below-more}
+use borrow.Author.Needs.{needs}
+use borrow.Author.Tests.{eqb-true}
+use lib.ListN.{length, getD}
+use Rattle.transform.specs.Tests.{TwoCodes}
+use Rattle.transform.proofs.InputCodes.{or-zero}
+use Rattle.transform.proofs.tests.are_codes.Statement.{statement}
+use Rattle.transform.proofs.tests.are_codes.Tie as tie
+
+abbrev Inv-loop : tie.InvT-loop
+Inv-loop levels union₀ k₀ union k = (k ≤ length levels) × (union ≡ 0 → (j : ℕ) → j < k → TwoCodes (getD levels j 0))
+
+abbrev μ-loop : tie.MeasureT-loop
+μ-loop levels union₀ k₀ union k = length levels - k
+
+loop-holds : tie.Need-loop-holds Inv-loop μ-loop
+loop-holds c = (omega arith, λ e j h. absurd (omega arith))
+
+shared-slice-read-beside-codes : tie.Need-shared-slice-read-beside-codes Inv-loop μ-loop
+shared-slice-read-beside-codes c = omega arith
+
+beside-codes-requires : tie.Need-beside-codes-requires Inv-loop μ-loop
+beside-codes-requires c κs = search needs
+
+add-k : tie.Need-add-k Inv-loop μ-loop
+add-k c = omega arith
+
+loop-less : tie.Need-loop-less Inv-loop μ-loop
+loop-less c = omega arith
+
+loop-again : tie.Need-loop-again Inv-loop μ-loop
+loop-again c =
+    let l = c .before .before .before in
+    (omega arith, λ e. let z = or-zero (l .loop .union) (c .beside-codes .result) e in below-more _ (l .loop .k) (l .loop .inv .1 (z .0)) (c .beside-codes .ensures (z .1)))
+
+returns : tie.Need-returns Inv-loop μ-loop
+returns c t k h = let l = c .before in l .loop .inv .1 (eqb-true (l .loop .union) 0 t) k (omega arith)
+
+pub are-codes-spec : {M : Type 1} → statement M
+are-codes-spec =
+    tie.close
+    (tie.spec
+    Inv-loop
+    μ-loop
+    loop-holds
+    shared-slice-read-beside-codes
+    beside-codes-requires
+    add-k
+    loop-less
+    loop-again
+    returns)
