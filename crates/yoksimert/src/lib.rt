@@ -24,7 +24,7 @@ pub enum Decoded {
 
 // In each answer `number` is 0 for an accepted call, and else the number of the refusal.
 
-// The answer of Fresh. On a refusal the description is none: its kind is 3, and it is 0 elsewhere.
+// The answer of Fresh and of Derive. On a refusal the description is none: its kind is 3, and it is 0 elsewhere.
 #[repr(C)]
 pub struct FlatMade {
     pub number: u32,
