@@ -1,7 +1,7 @@
 -- An entry by its parts: packed levels with the mark on top of their first byte, or the mark's own byte, zeros and packed levels.
 -- Assumes nothing.
 use mathlib.Core.Path.{_≡_, refl}
-use mathlib.Core.List.{List, [], _∷_, _++_}
+use mathlib.Core.List.{List, _∷_, _++_}
 use Prim.Native.Nat.{ℕ, zero, suc, _+_, _-_, _*_, _^_, _≤_, _<_}
 use native.Mathlib.Nat.{add-comm, zero-add, zero-mul, mod-eq-of-lt, pow-le-pow-right, lt-of-lt-of-le, zero-lt-suc}
 use native.Mathlib.Omega.{arith}
@@ -9,7 +9,6 @@ use lib.Arith.{digits-div}
 use lib.ListN.{length, replicate}
 use lib.Pow.{pow-add, pow-mono}
 use Rattle.value.specs.declared.States.{States}
-use Rattle.value.specs.declared.States.the-variants.{Two, Four, Nine}
 use Rattle.value.specs.Digits.{number, digits, Below}
 use Rattle.value.specs.Level.{markOf, bitsOf, lenOf}
 use Rattle.value.proofs.Digits.{pow-pow, number-lt, digits-high, digits-zeros}
@@ -19,11 +18,6 @@ use Rattle.layout.specs.Entry.{entrySize, entryOf}
 use Rattle.layout.proofs.Sizes.{len-le}
 
 -- ---- sizes
-
-pub len-small : (w : ℕ) (S : States) → lenOf w S ≤ w
-len-small w Two = omega arith
-len-small w Four = omega arith
-len-small w Nine = omega arith
 
 -- the levels of a set that is not above the largest fit
 pub len-fits : (w : ℕ) (own M : States) → markOf own ≤ markOf M → lenOf w own ≤ entrySize w M

@@ -56,11 +56,6 @@ module _ (w : ℕ) where
       go true e = let z : w % 2 ≡ 0 = eqb-true (w % 2) 0 e in omega (arith, size-by Nine true e)
       go false e = let n : w % 2 ≡ 0 → ⊥ = eqb-false (w % 2) 0 e in omega (arith, size-by Nine false e)
 
-  pub len-bound : (M : States) → lenOf w M ≤ w
-  len-bound Two = omega arith
-  len-bound Four = omega arith
-  len-bound Nine = omega arith
-
   pub len-le : (M : States) → lenOf w M ≤ entrySize w M
   len-le M = go (hasMeta w M) refl
     where

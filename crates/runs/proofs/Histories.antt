@@ -10,7 +10,7 @@ use Rattle.value.proofs.Slices.{same-refl}
 use Rattle.fst.specs.declared.Description.{Description}
 use Rattle.fst.specs.Record.{Lent, Kept, keptIn}
 use Rattle.fst.specs.Change.{Change, text, real, withChange, refusals, stored, addChange}
-use Rattle.runs.specs.Runs.{byValue, Call, called, leftIn, leaves, after, Fed, fed, Pair, endsLike, sameString, fedOne, historyOf}
+use Rattle.runs.specs.Runs.{byValue, Call, leaves, after, Fed, fed, Pair, endsLike, sameString, fedOne, historyOf}
 use Rattle.runs.proofs.Joined.{joined-grows, joined-ends}
 use Rattle.fst.proofs.Refusals.{refused-old}
 
@@ -21,12 +21,6 @@ unfolding addChange refusals
 refused-unchanged d l i c n e =
     refused-old (refusals d l i c) tt (record { description = d; bytes = l .bytes; indices = l .indices })
     (stored l (withChange (keptIn d l) i c)) n e
-
--- so the record that it found there stays
-pub refused-leaves : (k : Kept) (c : Call) → keptIn (k .description) (c .lent) ≡ k → (n : ℕ) → (called byValue k c) .refused ≡ suc n → leaves byValue k c ≡ k
-unfolding leaves
-refused-leaves k c held n e =
-    ap (leftIn byValue (c .lent)) (refused-unchanged (k .description) (c .lent) (c .index) (c .change) n e) ∙ held
 
 -- ---- a history grows at its end, and nowhere else
 

@@ -1,4 +1,4 @@
--- A run is there: four calls over slices of different lengths, starts and other contents; one is refused, one a repeat with no room.
+-- Runs are there: four calls over slices of different lengths, starts and other contents, one refused and one a repeat with no room; and row 2.
 -- Assumes nothing.
 use mathlib.Core.Path.{_≡_, refl}
 use mathlib.Core.Bool.{Bool, true, false}
@@ -33,16 +33,21 @@ calls′ =
     ∷ call (0x42 ∷ 0 ∷ []) 0 (4 ∷ 0 ∷ []) 0 9 "h"
     ∷ []
 
+abbrev rowTwo : List Call
+rowTwo = call (9 ∷ []) 0 (5 ∷ []) 0 0 "x" ∷ call (0x42 ∷ []) 0 (0 ∷ []) 0 1 "X" ∷ []
+
 abbrev accepted : Fed → Bool
 accepted f = f .accepted
 
-pub there : Run byValue (freshKept 1) calls′
+pub there : Run byValue (freshKept 1) calls′ × Run byValue (freshKept 1) rowTwo
 unfolding Run leaves number digits part overlay same any placeIn codeOf fold setOf leastOf tried entrySize entryOf markByte unmarked levelBytes widenEntry widenAll keptIn widthStands fitsBytes fits isBad isOtherKind isOtherLength isForeign isBelowLast repeats appended changed refusals stored addChange
-there = (refl, (refl, (refl, (refl, tt))))
+there = ((refl, (refl, (refl, (refl, tt)))), (refl, (refl, tt)))
 
 pub ends : (map accepted (fed byValue (freshKept 1) calls′) ≡ true ∷ false ∷ true ∷ true ∷ [])
     × (historyOf (fed byValue (freshKept 1) calls′) ≡ record { index = 4; string = chars "x" } ∷ record { index = 9; string = chars "h" } ∷ [])
     × (after byValue (freshKept 1) calls′
     ≡ record { description = record { encoding = BitVector 1 Nine; count = 2 }; bytes = 0x42 ∷ 0x84 ∷ []; indices = 4 ∷ 9 ∷ [] })
+    -- "Row 2 gives one pair"
+    × (historyOf (fed byValue (freshKept 1) rowTwo) ≡ record { index = 0; string = chars "x" } ∷ [])
 unfolding after fed endsLike joined leaves number digits part overlay same any placeIn codeOf fold setOf leastOf tried entrySize entryOf markByte unmarked levelBytes widenEntry widenAll keptIn widthStands fitsBytes fits isBad isOtherKind isOtherLength isForeign isBelowLast repeats appended changed refusals stored addChange
-ends = (refl, refl, refl)
+ends = (refl, refl, refl, refl)

@@ -1,12 +1,11 @@
 -- The codes, the letters, the sets and their bytes, by computation over the definitions.
 -- Assumes nothing.
 use mathlib.Core.Path.{_≡_, refl}
-use mathlib.Core.List.{List, [], _∷_}
-use Prim.Native.Nat.{ℕ}
+use mathlib.Core.List.{[], _∷_}
 use Rattle.value.specs.declared.States.the-variants.{Two, Four, Nine}
 use Rattle.value.specs.Text.{chars}
-use Rattle.value.specs.Digits.{number, digits}
-use Rattle.value.specs.Answer.{levelAt, withLevel, firstByteMask}
+use Rattle.value.specs.Digits.{number}
+use Rattle.value.specs.Answer.{levelAt}
 use Rattle.value.specs.Level.{placeIn, codeOf, letterOf, fold, foldAll, codesOf, textOf, setOf, leastOf, lenOf}
 
 -- every letter of the two standards, small and capital, and bytes beside them that are foreign
@@ -30,13 +29,7 @@ sets = (refl, refl, refl, refl, refl)
 lengths : (lenOf 9 Two ≡ 2) × (lenOf 9 Four ≡ 3) × (lenOf 9 Nine ≡ 5) × (lenOf 8 Two ≡ 1) × (lenOf 8 Four ≡ 2) × (lenOf 8 Nine ≡ 4)
 lengths = (refl, refl, refl, refl, refl, refl)
 
--- a level read and put, first of eight, of four and of two in a byte; the first byte's mask where levels fill it and where they don't
-levels :
-    (levelAt 1 9 (2 ∷ 0 ∷ []) ≡ 1)
-    × (withLevel 1 9 0 (255 ∷ 255 ∷ []) ≡ 253 ∷ 255 ∷ [])
-    × (withLevel 2 3 2 (0 ∷ []) ≡ 128 ∷ [])
-    × (withLevel 4 0 8 (255 ∷ 255 ∷ []) ≡ 255 ∷ 248 ∷ [])
-    × (firstByteMask 2 3 ≡ 63)
-    × (firstByteMask 2 4 ≡ 255)
-unfolding number digits withLevel firstByteMask
-levels = (refl, refl, refl, refl, refl, refl)
+-- a level read, the first of eight, of four and of two in a byte
+levels : (levelAt 1 7 (128 ∷ []) ≡ 1) × (levelAt 2 3 (128 ∷ []) ≡ 2) × (levelAt 4 1 (128 ∷ 248 ∷ []) ≡ 15) × (levelAt 1 9 (2 ∷ 0 ∷ []) ≡ 1)
+unfolding number
+levels = (refl, refl, refl, refl)

@@ -9,19 +9,16 @@ use native.Mathlib.Numerals.{add-one}
 use native.Mathlib.Omega.{arith}
 use borrow.Author.Tests.{eqb-true, leb-false, lt-ltb, le-ltb, le-leb, lt-leb}
 use lib.Dec.{eqb, eqb→eq}
-use lib.Bits.{bitOr, bitAnd, or-lt, or-add-and, and-le-l, and-le-r}
 use lib.Pow.{pow-mono}
-use lib.ListN.{length, getD, take, length-map, List·getD-map}
+use lib.ListN.{length, getD, take}
 use lib.Seq.{take-suc}
 use Rattle.value.specs.declared.States.{States}
 use Rattle.value.specs.declared.States.the-variants.{Two, Four, Nine}
-use Rattle.value.specs.declared.CharCode.the-variants as code
 use Rattle.value.specs.declared.StatesAnswer.the-variants as answer
 use Rattle.value.specs.Slice.{any}
 use Rattle.value.specs.Level.{letters, placeIn, codeOf, letterOf, fold, foldAll, codesOf, textOf, markOf, bitsOf, isNoCode, hasNoCode, setAt, join, setOf, leastOf, lenOf}
-use Rattle.value.specs.Answer.{charCode, leastStates}
+use Rattle.value.specs.Answer.{leastStates}
 use Rattle.value.proofs.Tests.{or-left, or-right, or-both, by-le, at-below}
-use Rattle.value.proofs.Slices.{any-at}
 use Rattle.value.specs.Digits.{Below}
 
 -- ---- marks
@@ -124,15 +121,6 @@ place-inj (l ∷ ls) c d e h = go (eqb l c) (eqb l d) refl refl e h (place-inj l
     go false true p q e h ih = absurd (suc-ne-zero (placeIn ls c) e)
     go false false p q e h ih = ih (suc-inj e) (le-of-suc-le-suc h)
 
-place-le : (ls : List ℕ) (c : ℕ) → placeIn ls c ≤ length ls
-unfolding placeIn
-place-le [] c = omega arith
-place-le (l ∷ ls) c = go (eqb l c) (place-le ls c)
-  where
-    go : (x : Bool) → placeIn ls c ≤ length ls → cond x 0 (suc (placeIn ls c)) ≤ suc (length ls)
-    go true h = omega arith
-    go false h = omega arith
-
 -- what stands at the place of c is c
 at-place : (ls : List ℕ) (c d : ℕ) → placeIn ls c < length ls → getD ls (placeIn ls c) d ≡ c
 unfolding placeIn
@@ -147,11 +135,6 @@ at-place (l ∷ ls) c d h = go (eqb l c) refl h (at-place ls c d)
 pub code-inj : (c d : ℕ) → codeOf c ≡ codeOf d → codeOf c < 9 → c ≡ d
 unfolding codeOf
 code-inj c d e h = place-inj letters c d e h
-
--- 9 is the number of every foreign byte
-pub code-le : (c : ℕ) → codeOf c ≤ 9
-unfolding codeOf
-code-le c = place-le letters c
 
 pub letter-code : (c : ℕ) → codeOf c < 9 → letterOf (codeOf c) ≡ c
 unfolding codeOf letterOf
@@ -222,10 +205,6 @@ pub fold-text : (cs : List ℕ) → Below 9 cs → foldAll (textOf cs) ≡ textO
 fold-text [] b = refl
 fold-text (c ∷ cs) b = ap₂ (λ (x : ℕ) (xs : List ℕ). x ∷ xs) (fold-letter c (b .0)) (fold-text cs (b .1))
 
-pub fold-all-again : (s : List ℕ) → foldAll (foldAll s) ≡ foldAll s
-fold-all-again [] = refl
-fold-all-again (c ∷ s) = ap₂ (λ (x : ℕ) (xs : List ℕ). x ∷ xs) (fold-fold c) (fold-all-again s)
-
 -- ---- the set of a code, and the least set of codes
 
 pub set-two : (c : ℕ) → c < 2 → setOf c ≡ Two
@@ -261,53 +240,7 @@ under-by N (c ∷ cs) b h = (
 pub under : (cs : List ℕ) → Below 9 cs → Below (2 ^ bitsOf (leastOf cs)) cs
 under cs b = under-by (leastOf cs) cs b (omega arith)
 
-pub mark-least-append : (xs ys : List ℕ) → markOf (leastOf (xs ++ ys)) ≡ max (markOf (leastOf xs)) (markOf (leastOf ys))
-unfolding leastOf
-mark-least-append [] ys = omega arith
-mark-least-append (x ∷ xs) ys =
-    omega (arith, mark-join (setOf x) (leastOf (xs ++ ys)), mark-join (setOf x) (leastOf xs), mark-least-append xs ys)
-
--- one code more
-pub least-snoc : (cs : List ℕ) (c : ℕ) → leastOf (cs ++ (c ∷ [])) ≡ join (leastOf cs) (setOf c)
-unfolding leastOf
-least-snoc cs c =
-    mark-inj (leastOf (cs ++ (c ∷ []))) (join (leastOf cs) (setOf c))
-    (omega (arith, mark-least-append cs (c ∷ []), mark-join (leastOf cs) (setOf c), mark-join (setOf c) Two))
-
--- the set of the union of two codes' bits holds both
-pub set-or : (a b : ℕ) → setOf (bitOr a b) ≡ join (setOf a) (setOf b)
-set-or a b =
-    let s : bitOr a b + bitAnd a b ≡ a + b = or-add-and a b in
-    let l : bitAnd a b ≤ a = and-le-l a b in
-    let r : bitAnd a b ≤ b = and-le-r a b in
-    by-set a
-    (λ p.
-    by-set b (λ q. rw (set-two a p, set-two b q) (set-two (bitOr a b) (or-lt 1 a b p q)))
-    (λ q q′. rw (set-two a p, set-four b q q′) (set-four (bitOr a b) (omega arith) (or-lt 2 a b (omega arith) q′)))
-    (λ q. rw (set-two a p, set-nine b q) (set-nine (bitOr a b) (omega arith))))
-    (λ p p′.
-    by-set b (λ q. rw (set-four a p p′, set-two b q) (set-four (bitOr a b) (omega arith) (or-lt 2 a b p′ (omega arith))))
-    (λ q q′. rw (set-four a p p′, set-four b q q′) (set-four (bitOr a b) (omega arith) (or-lt 2 a b p′ q′)))
-    (λ q. rw (set-four a p p′, set-nine b q) (set-nine (bitOr a b) (omega arith))))
-    (λ p. rw (set-nine a p) (set-nine (bitOr a b) (omega arith)))
-
 -- ---- the characters of a string, one after the other
-
-pub char-code : (c n : ℕ) → charCode c ≡ code.Code n → (n ≡ codeOf (fold c)) × (n < 9)
-unfolding charCode
-char-code c n = pick (isNoCode (codeOf (fold c))) refl
-  where
-    pick : (t : Bool) → isNoCode (codeOf (fold c)) ≡ t → cond t code.Foreign (code.Code (codeOf (fold c))) ≡ code.Code n → (n ≡ codeOf (fold c)) × (n < 9)
-    pick true e p = let z : _≡_ {A = ℕ} 0 1 = cc in absurd (omega arith)
-    pick false e p = let q : n ≡ codeOf (fold c) = cc in (q, rw q (leb-false 9 (codeOf (fold c)) e))
-
-pub char-foreign : (c : ℕ) → charCode c ≡ code.Foreign → isNoCode (codeOf (fold c)) ≡ true
-unfolding charCode
-char-foreign c = pick (isNoCode (codeOf (fold c)))
-  where
-    pick : (t : Bool) → cond t code.Foreign (code.Code (codeOf (fold c))) ≡ code.Foreign → t ≡ true
-    pick true p = refl
-    pick false p = let z : _≡_ {A = ℕ} 0 1 = cc in absurd (omega arith)
 
 -- the codes of a string, one more
 pub codes-more : (s : List ℕ) (i : ℕ) → i < length s
@@ -317,31 +250,6 @@ codes-more s i h =
     (ap (λ (l : List ℕ). codesOf l) (map-append fold (take i s) (getD s i 0 ∷ []))
     ∙ map-append codeOf (foldAll (take i s)) (fold (getD s i 0) ∷ []))
 
-pub below-snoc : (B : ℕ) (cs : List ℕ) (c : ℕ) → Below B cs → c < B → Below B (cs ++ (c ∷ []))
-below-snoc B [] c b h = (h, tt)
-below-snoc B (x ∷ cs) c b h = (b .0, below-snoc B cs c (b .1) h)
-
--- a foreign byte at a place
-pub foreign-at : (s : List ℕ) (i : ℕ) → i < length s → isNoCode (codeOf (fold (getD s i 0))) ≡ true → leastStates s ≡ answer.Foreign
-unfolding leastStates
-foreign-at s i h e =
-    let codes = codesOf (foldAll s) in
-    let l : i < length codes = rw (length-map (foldAll s) codeOf, length-map s fold) h in
-    let g : getD codes i (codeOf (fold 0)) ≡ codeOf (fold (getD s i 0))
-    = List·getD-map codeOf (foldAll s) i (fold 0) ∙ ap codeOf (List·getD-map fold s i 0) in
-    rw (any-at isNoCode codes i (codeOf (fold 0)) l (ap (λ (n : ℕ). isNoCode n) g ∙ e))
-
 pub least-states : (s : List ℕ) → Below 9 (codesOf (foldAll s)) → leastStates s ≡ answer.Least (leastOf (codesOf (foldAll s)))
 unfolding leastStates
 least-states s b = rw (none-foreign (codesOf (foldAll s)) b)
-
--- one more character joins its code's bits to the union
-pub union-more : (s : List ℕ) (i u n : ℕ) → i < length s → charCode (getD s i 0) ≡ code.Code n → Below 9 (codesOf (foldAll (take i s)))
-    → setOf u ≡ leastOf (codesOf (foldAll (take i s)))
-    → Below 9 (codesOf (foldAll (take (i + 1) s))) × (setOf (bitOr u n) ≡ leastOf (codesOf (foldAll (take (i + 1) s))))
-union-more s i u n h p b e =
-    let q = char-code (getD s i 0) n p in
-    let cs : List ℕ = codesOf (foldAll (take i s)) in
-    let c : ℕ = codeOf (fold (getD s i 0)) in
-    let k : c < 9 = omega arith in
-    rw (codes-more s i h) (below-snoc 9 cs c b k, set-or u n ∙ ap₂ join e (ap setOf (q .0)) ∙ sym (least-snoc cs c))

@@ -3,7 +3,7 @@
 use mathlib.Core.Path.{_≡_, refl, sym, ap, ap₂, _∙_, subst}
 use mathlib.Core.Bool.{Bool, true, false, _||_}
 use mathlib.Core.List.{List, [], _∷_, _++_, append-assoc}
-use Prim.Native.Nat.{ℕ, zero, suc, _+_, _-_, _≤_, _<_}
+use Prim.Native.Nat.{ℕ, zero, suc, _+_, _≤_, _<_}
 use native.Mathlib.Nat.{add-zero}
 use native.Mathlib.Numerals.{add-one}
 use native.Mathlib.Omega.{arith}
@@ -64,10 +64,6 @@ module _ {A : Type 0} where
       let s : start ≤ length l = omega arith in
       simp (length-append, length-take-le start l s, length-drop) (omega arith)
 
-  pub overlay-before : (l new : List A) (start : ℕ) → start ≤ length l → take start (overlay l start new) ≡ take start l
-  unfolding overlay
-  overlay-before l new start h = take-at (take start l) (new ++ drop (start + length new) l) start (length-take-le start l h)
-
   pub overlay-past : (l new : List A) (start : ℕ) → start ≤ length l → drop (start + length new) (overlay l start new) ≡ drop (start + length new) l
   unfolding overlay
   overlay-past l new start h =
@@ -126,15 +122,6 @@ module _ {A : Type 0} where
   overlay-fill l start j v h =
       overlay-store l start (replicate j v) (start + j) v (rw length-replicate) h
       ∙ ap (overlay l start) (replicate-append-replicate j 1 v)
-
-  -- of two parts at one place the later one stands
-  pub overlay-again : (l : List A) (start : ℕ) (xs ys : List A) → length xs ≡ length ys → start ≤ length l
-      → overlay (overlay l start xs) start ys ≡ overlay l start ys
-  unfolding overlay
-  overlay-again l start xs ys e h =
-      let past : drop (start + length ys) (overlay l start xs) ≡ drop (start + length ys) l
-      = ap (λ (k : ℕ). drop (start + k) (overlay l start xs)) (sym e) ∙ overlay-past l xs start h ∙ ap (λ (k : ℕ). drop (start + k) l) e in
-      ap₂ (λ (u v : List A). u ++ (ys ++ v)) (overlay-before l xs start h) past
 
   -- ---- a test over all elements
 

@@ -1,15 +1,14 @@
 -- Inner: the answers of the functions on characters and levels, by document 01's codes and sets.
 -- Assumes nothing.
-use Prim.Native.Nat.{ℕ, _+_, _-_, _*_, _^_, _/_, _%_, _≤_}
+use Prim.Native.Nat.{ℕ, _+_, _*_, _^_, _/_, _%_, _≤_}
 use mathlib.Core.Bool.{Bool, cond, not}
 use mathlib.Core.List.{List}
-use lib.Dec.{eqb, leb}
-use lib.ListN.{length}
+use lib.Dec.{leb}
 use Rattle.value.specs.declared.CharCode.{CharCode}
 use Rattle.value.specs.declared.CharCode.the-variants as code
 use Rattle.value.specs.declared.StatesAnswer.{StatesAnswer}
 use Rattle.value.specs.declared.StatesAnswer.the-variants as answer
-use Rattle.value.specs.Digits.{number, digits}
+use Rattle.value.specs.Digits.{number}
 use Rattle.value.specs.declared.States.{States}
 use Rattle.value.specs.Slice.{any}
 use Rattle.value.specs.Level.{fold, foldAll, codeOf, codesOf, isNoCode, hasNoCode, codesIn, leastOf}
@@ -32,15 +31,6 @@ holdsAll s v = not (any (leb (codesIn s)) (codesOf (foldAll v)))
 -- the level of b bits that i levels follow in big-endian bytes
 abbrev pub levelAt : ℕ → ℕ → List ℕ → ℕ
 levelAt b i bytes = number 256 bytes / (2 ^ b) ^ i % 2 ^ b
-
--- big-endian bytes with another level in the place that i levels follow
-unfoldable pub withLevel : ℕ → ℕ → ℕ → List ℕ → List ℕ
-withLevel b i v bytes =
-    digits 256 (length bytes) (number 256 bytes - levelAt b i bytes * (2 ^ b) ^ i + v * (2 ^ b) ^ i)
-
--- the bits of the first byte that w levels of b bits use
-unfoldable pub firstByteMask : ℕ → ℕ → ℕ
-firstByteMask b w = let n = w * b % 8 in cond (eqb n 0) 255 (2 ^ n - 1)
 
 -- the level that i levels follow lies within n bytes
 pub record LevelIn (b i n : ℕ) : Type 0 where

@@ -1,12 +1,12 @@
 // Levels and state sets, after wellen's src/signal/value.rs.
 ghost use mathlib.Core.Path.{_≡_};
 ghost use mathlib.Core.Bool.{_||_};
-ghost use Prim.Native.Nat.{_+_, _-_, _*_, _/_, _%_, _^_, _≤_, _<_};
+ghost use Prim.Native.Nat.{_-_, _/_, _^_, _<_};
 ghost use lib.Dec.{eqb};
 ghost use lib.ListN.{length};
 ghost use Rattle.value.specs.Level.{codeOf, fold, letterOf, markOf, bitsOf, codesIn, lenOf};
 ghost use Rattle.value.specs.Level as level;
-ghost use Rattle.value.specs.Answer.{charCode, leastStates, holdsOne, holdsAll, firstByteMask, levelAt, withLevel, LevelIn};
+ghost use Rattle.value.specs.Answer.{charCode, leastStates, holdsOne, holdsAll, levelAt, LevelIn};
 
 // A state set, by how many values a level can have.
 pub enum States {
@@ -108,14 +108,6 @@ pub fn num_to_bit_char(code: u8) -> u8
     }
 }
 
-// A byte with only the bit n set.
-fn one_bit(n: u32) -> u8
-    requires { ⌜ n < 8 ⌝ }
-    ensures { λ r. ⌜ r ≡ 2 ^ n ⌝ }
-{
-    1u8 << n
-}
-
 impl States {
     // 0 for a character of the set, and another number for every other byte.
     fn beside(self, value: u8) -> u8
@@ -208,15 +200,6 @@ impl States {
         }
     }
 
-    // A mask that leaves only the bits of levels in the first byte.
-    pub fn first_byte_mask(self, width: u32) -> u8
-        requires { ⌜ width ≤ 4096 ⌝ }
-        ensures { λ r. ⌜ r ≡ firstByteMask (bitsOf self) width ⌝ }
-    {
-        let n = (width * self.bits()) & 7;
-        if n == 0 { 255 } else { one_bit(n) - 1 }
-    }
-
     // How many bytes so many levels take.
     pub fn bytes_required(self, bits: u32) -> usize
         ensures { λ r. ⌜ r ≡ lenOf bits self ⌝ }
@@ -237,17 +220,5 @@ impl States {
         let from = bit * self.bits();
         let at = data.len() - 1 - (from >> 3) as usize;
         (data[at] >> (from & 7)) & self.mask()
-    }
-
-    // Puts `value` at the level that `bit` levels follow.
-    pub fn set_bit(self, data: &mut [u8], bit: u32, value: u8)
-        requires { ⌜ LevelIn (bitsOf self) bit (length (now «data»)) × (value < 2 ^ bitsOf self) ⌝ }
-        ensures { λ _. ⌜ now («data» .exit) ≡ withLevel (bitsOf self) bit value (now («data» .entry)) ⌝ }
-    {
-        let from = bit * self.bits();
-        let at = data.len() - 1 - (from >> 3) as usize;
-        let shift_by = from & 7;
-        let others = !(self.mask() << shift_by);
-        data[at] = (data[at] & others) | (value << shift_by);
     }
 }

@@ -199,10 +199,6 @@ meta-on meta k = record { first = λ e. omega arith; later = λ h. refl }
 
 module _ (s : States) (cs : List ℕ) (meta : ℕ) (below : Below (2 ^ bitsOf s) cs) (marked : meta % 64 ≡ 0) (fits : meta < 256)
     (free : 0 < meta → length cs * bitsOf s + 2 ≤ 8 * lenOf (length cs) s) where
-  pub packed-length : length (packedWith (bitsOf s) meta cs) ≡ lenOf (length cs) s
-  unfolding packedWith
-  packed-length = digits-length 256 _ _ ∙ sym (len-bits (length cs) s)
-
   -- where meta data is set, the first byte has two bits free
   top-free : (n : ℕ) → n ≡ lenOf (length cs) s → 0 < n → 0 < meta → number (2 ^ bitsOf s) cs < 64 * 256 ^ (n - 1)
   top-free n e h m =

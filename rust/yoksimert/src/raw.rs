@@ -41,13 +41,13 @@ pub struct FlatDescription {
     pub count: u32,
 }
 
-/// The answer of Fresh.
+/// The answer of Fresh and of Derive.
 #[repr(C)]
 #[derive(Clone, Copy, PartialEq, Eq, Debug)]
 pub struct FlatMade {
     /// 0, or the refusal
     pub number: u32,
-    /// The empty record; on a refusal the kind is 3, which is none
+    /// The new record; on a refusal the kind is 3, which is none
     pub description: FlatDescription,
 }
 
