@@ -6,9 +6,9 @@ ghost use Rattle.value.specs.Slice.{part, overlay};
 ghost use Rattle.layout.specs.Entry.{entrySize, widenAll};
 ghost use Rattle.layout.specs.Expand.{markBits, levelBits, wideningOf, moved, Movable, Widenable};
 use crate::bytes::move_up;
+use crate::bytes::zero;
 use crate::entry::entry_size;
 use crate::entry::get_len_and_meta;
-use crate::entry::push_zeros;
 use value::States;
 
 const META_MASK: u8 = 192;
@@ -78,7 +78,7 @@ fn expand_entry(widening: Widening, data: &mut [u8], p: usize, q: usize)
     let level = data[first] & widening.level_bits;
     move_up(data, first, at, widening.len);
     data[at] = level;
-    push_zeros(data, q + 1, widening.to_size - 1 - widening.len);
+    zero(data, q + 1, widening.to_size - 1 - widening.len);
     data[q] = mark;
 }
 

@@ -32,17 +32,17 @@ move-up-requires c κs = search needs
 slice-write-data : tie.Need-slice-write-data
 slice-write-data c = search needs
 
-add-push-zeros : tie.Need-add-push-zeros
-add-push-zeros c = search needs
+add-zero : tie.Need-add-zero
+add-zero c = search needs
 
-sub-push-zeros : tie.Need-sub-push-zeros
-sub-push-zeros c = search needs
+sub-zero : tie.Need-sub-zero
+sub-zero c = search needs
 
-sub-push-zeros-2 : tie.Need-sub-push-zeros-2
-sub-push-zeros-2 c = search needs
+sub-zero-2 : tie.Need-sub-zero-2
+sub-zero-2 c = search needs
 
-push-zeros-requires : tie.Need-push-zeros-requires
-push-zeros-requires c κs =
+zero-requires : tie.Need-zero-requires
+zero-requires c κs =
     let s = c .before .before .before .before .before .before .before .before .before .before .before .before .before .before in
     let u = c .before .before .before .before .before .move-up in
     rw length-set (omega (arith, u .kept .0, s .pre .room, s .pre .grows .marked))
@@ -51,13 +51,13 @@ slice-write-data-2 : tie.Need-slice-write-data-2
 slice-write-data-2 c =
     let s = c .before .before .before .before .before .before .before .before .before .before .before .before .before .before .before .before .before in
     let u = c .before .before .before .before .before .before .before .before .move-up in
-    let z = c .before .before .push-zeros in
+    let z = c .before .before .zero in
     omega (arith, simp length-set at (z .kept .0), u .kept .0, s .pre .room, s .pre .grows .marked)
 
 same-length : tie.Need-same-length
 same-length c =
     let u = c .before .before .before .before .before .before .before .before .move-up in
-    let z = c .before .before .push-zeros in
+    let z = c .before .before .zero in
     simp length-set (simp length-set at (z .kept .0) ∙ u .kept .0)
 
 returns : tie.Need-returns
@@ -65,8 +65,8 @@ returns c =
     let s = c .before .before .before .before .before .before .before .before .before .before .before .before .before .before .before .before .before in
     let x = s .args in
     let u = c .before .before .before .before .before .before .before .before .move-up in
-    let z = c .before .before .push-zeros in
-    entry-moved (x .widening) (s .pre .grows) (now (x .«data»)) _ _ (x .p) (x .q) (s .pre .onward) (s .pre .room) (u .ensures) (z .ensures .1)
+    let z = c .before .before .zero in
+    entry-moved (x .widening) (s .pre .grows) (now (x .«data»)) _ _ (x .p) (x .q) (s .pre .onward) (s .pre .room) (u .ensures) (z .ensures)
 
 pub expand-entry-spec : {M : Type 1} → statement M
 expand-entry-spec =
@@ -80,10 +80,10 @@ expand-entry-spec =
     slice-read-level
     move-up-requires
     slice-write-data
-    add-push-zeros
-    sub-push-zeros
-    sub-push-zeros-2
-    push-zeros-requires
+    add-zero
+    sub-zero
+    sub-zero-2
+    zero-requires
     slice-write-data-2
     same-length
     returns)
