@@ -20,7 +20,7 @@ use Rattle.value.proofs.Slices.{part-length, part-at, overlay-nil}
 use Rattle.value.proofs.Backward.{part-cons, take-part, drop-part, part-before, overlay-front, store-front, store-first}
 use Rattle.layout.specs.declared.expand.Widening.{Widening}
 use Rattle.layout.specs.Entry.{hasMeta, entrySize, markByte, unmarked, levelBytes, widenEntry, widenAll}
-use Rattle.layout.specs.Expand.{markBits, levelBits, wideningOf, levelsMoved, moved, Grows}
+use Rattle.layout.specs.Expand.{markBits, levelBits, wideningOf, levelsMoved, moved, movedAll, Grows, Counted}
 use Rattle.layout.proofs.Sizes.{size-by, size-up, len-le, len-pos, mark-room, widen-moved}
 
 -- ---- one entry
@@ -71,12 +71,22 @@ module _ (m : Widening) (grows : Grows m) where
       ∙ store-front d (replicate z 0 ++ (x ∷ l)) q (q + 1) y refl (omega arith)
       ∙ ap₂ (λ (u : ℕ) (v : List ℕ). overlay d q (u ∷ (replicate z 0 ++ v))) f (sym (levels-part d p (omega arith)))
 
--- ---- entries from the last to the first
+  -- the same by the numbers of level bytes and zeros
+  pub entry-counted : (d d₁ d₂ : List ℕ) (p q len zeros : ℕ) → Counted m len zeros → p ≤ q → q + m .«to_size» ≤ length d
+      → d₁ ≡ overlay d (q + (zeros + 1)) (part (p + (m .«from_size» - len)) len d)
+      → d₂ ≡ overlay (set d₁ (q + (zeros + 1)) (bitAnd (getD d (p + (m .«from_size» - len)) 0) (m .«level_bits»))) (q + 1) (replicate zeros 0)
+      → set d₂ q (bitAnd (getD d p 0) (m .«mark_bits»)) ≡ overlay d q (moved m (part p (m .«from_size») d))
+  entry-counted d d₁ d₂ p q len zeros c o r e₁ e₂ =
+      let F : ℕ = m .«from_size» in
+      let L : ℕ → ℕ = λ n. bitAnd (getD d (p + (F - n)) 0) (m .«level_bits») in
+      let a : q + (zeros + 1) ≡ q + (m .«to_size» - m .len) = omega (arith, c .levels, c .between) in
+      let z : zeros ≡ m .«to_size» - 1 - m .len = omega (arith, c .levels, c .between) in
+      entry-moved d d₁ d₂ p q o r
+      (e₁ ∙ ap₂ (λ (i n : ℕ). overlay d i (part (p + (F - n)) n d)) a (c .levels))
+      (e₂ ∙ ap₂ (λ (i k : ℕ). overlay (set d₁ i (L len)) (q + 1) (replicate k 0)) a z
+      ∙ ap (λ (n : ℕ). overlay (set d₁ (q + (m .«to_size» - m .len)) (L n)) (q + 1) (replicate (m .«to_size» - 1 - m .len) 0)) (c .levels))
 
--- each of n entries moved
-unfoldable pub movedAll : Widening → ℕ → List ℕ → List ℕ
-movedAll m zero bytes = []
-movedAll m (suc n) bytes = moved m (take (m .«from_size») bytes) ++ movedAll m n (drop (m .«from_size») bytes)
+-- ---- entries from the last to the first
 
 -- n entries of which all but the first k are laid out anew
 abbrev pub expanded : Widening → List ℕ → ℕ → ℕ → ℕ → List ℕ

@@ -5,3 +5,4 @@ pub mod EntryParts
 pub mod EntryWriting
 pub mod Expanding
 pub mod Numbers
+pub mod Blocks

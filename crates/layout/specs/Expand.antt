@@ -1,10 +1,11 @@
 -- Inner: how widening moves one entry, by sizes and bits alone.
 -- Assumes nothing.
-use Prim.Native.Nat.{ℕ, _+_, _-_, _*_, _≤_, _<_}
+use mathlib.Core.Path.{_≡_}
+use Prim.Native.Nat.{ℕ, zero, suc, _+_, _-_, _*_, _≤_, _<_}
 use mathlib.Core.Bool.{Bool, cond}
-use mathlib.Core.List.{List, _∷_, _++_}
+use mathlib.Core.List.{List, [], _∷_, _++_}
 use lib.Bits.{bitAnd}
-use lib.ListN.{drop, getD, replicate}
+use lib.ListN.{take, drop, getD, replicate}
 use Rattle.value.specs.declared.States.{States}
 use Rattle.value.specs.declared.States.the-variants.{Two, Four, Nine}
 use Rattle.value.specs.Level.{markOf, lenOf}
@@ -41,6 +42,11 @@ levelsMoved m v =
 unfoldable pub moved : Widening → List ℕ → List ℕ
 moved m v = bitAnd (getD v 0 0) (m .«mark_bits») ∷ (replicate (m .«to_size» - 1 - m .len) 0 ++ levelsMoved m v)
 
+-- each of n entries moved
+unfoldable pub movedAll : Widening → ℕ → List ℕ → List ℕ
+movedAll m zero bytes = []
+movedAll m (suc n) bytes = moved m (take (m .«from_size») bytes) ++ movedAll m n (drop (m .«from_size») bytes)
+
 -- an entry has level bytes, and its new place a byte in front of them
 pub record Grows (m : Widening) : Type 0 where
   pub some : 1 ≤ m .len
@@ -53,6 +59,16 @@ pub record Movable (m : Widening) (p q length : ℕ) : Type 0 where
   pub grows : Grows m
   pub onward : p ≤ q
   pub room : q + m .«to_size» ≤ length
+
+-- n entries from a start, to be laid out from there
+pub record AllMovable (m : Widening) (start n length : ℕ) : Type 0 where
+  pub grows : Grows m
+  pub room : start + n * m .«to_size» ≤ length
+
+-- the level bytes, and the zeros between the mark and them
+pub record Counted (m : Widening) (len zeros : ℕ) : Type 0 where
+  pub levels : len ≡ m .len
+  pub between : len + zeros + 1 ≡ m .«to_size»
 
 -- entries under one set, to be laid out under another that is no smaller
 pub record Widenable (from to : States) (start entries bits length : ℕ) : Type 0 where

@@ -1,3 +1,4 @@
 pub mod Entry
 pub mod Writable
 pub mod Expand
+pub mod Blocks

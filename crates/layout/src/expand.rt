@@ -4,11 +4,11 @@ ghost use Prim.Native.Nat.{_*_};
 ghost use lib.ListN.{length};
 ghost use Rattle.value.specs.Slice.{part, overlay};
 ghost use Rattle.layout.specs.Entry.{entrySize, widenAll};
-ghost use Rattle.layout.specs.Expand.{markBits, levelBits, wideningOf, moved, Movable, Widenable};
+ghost use Rattle.layout.specs.Expand.{markBits, levelBits, wideningOf, moved, movedAll, Movable, AllMovable, Counted, Widenable};
 use crate::bytes::move_up;
+use crate::bytes::zero;
 use crate::entry::entry_size;
 use crate::entry::get_len_and_meta;
-use crate::entry::push_zeros;
 use value::States;
 
 const META_MASK: u8 = 192;
@@ -67,35 +67,106 @@ fn get_widening(from: States, to: States, bits: u32) -> Widening
     }
 }
 
-// Lays the entry at p out at q, from its last byte to its first. Where they overlap, what is written has been read.
-fn expand_entry(widening: Widening, data: &mut [u8], p: usize, q: usize)
-    requires { ⌜ Movable widening p q (length (now «data»)) ⌝ }
+// Lays the entry at p out at q: where they overlap, what is written has been read. `len` and `zeros` are what the sizes say.
+fn expand_entry(widening: Widening, data: &mut [u8], p: usize, q: usize, len: usize, zeros: usize)
+    requires { ⌜ Movable widening p q (length (now «data»)) × Counted widening len zeros ⌝ }
     ensures { λ _. ⌜ now («data» .exit) ≡ overlay (now («data» .entry)) q (moved widening (part p (widening .«from_size») (now («data» .entry)))) ⌝ }
 {
-    let first = p + (widening.from_size - widening.len);
-    let at = q + (widening.to_size - widening.len);
+    let first = p + (widening.from_size - len);
+    let at = q + (zeros + 1);
     let mark = data[p] & widening.mark_bits;
     let level = data[first] & widening.level_bits;
-    move_up(data, first, at, widening.len);
+    move_up(data, first, at, len);
     data[at] = level;
-    push_zeros(data, q + 1, widening.to_size - 1 - widening.len);
+    zero(data, q + 1, zeros);
     data[q] = mark;
 }
 
 // From the last entry to the first: no entry is written over before it is moved.
+fn expand_each(
+    widening: Widening,
+    data: &mut [u8],
+    start: usize,
+    entries: usize,
+    len: usize,
+    zeros: usize,
+)
+    requires { ⌜ AllMovable widening start entries (length (now «data»)) × Counted widening len zeros ⌝ }
+    ensures { λ _. ⌜ now («data» .exit) ≡ overlay (now («data» .entry)) start (movedAll widening entries (part start (entries * widening .«from_size») (now («data» .entry)))) ⌝ }
+{
+    let from_size = widening.from_size;
+    let to_size = len + zeros + 1;
+    let mut done = 0;
+    while done < entries {
+        done += 1;
+        let k = entries - done;
+        expand_entry(
+            widening,
+            data,
+            start + k * from_size,
+            start + k * to_size,
+            len,
+            zeros,
+        );
+    }
+}
+
+// As many zeros as level bytes: Two to Four and Four to Nine at widths that fill bytes. Literal lengths are compiled apart.
+fn expand_doubled(widening: Widening, data: &mut [u8], start: usize, entries: usize, len: usize)
+    requires { ⌜ AllMovable widening start entries (length (now «data»)) × Counted widening len len ⌝ }
+    ensures { λ _. ⌜ now («data» .exit) ≡ overlay (now («data» .entry)) start (movedAll widening entries (part start (entries * widening .«from_size») (now («data» .entry)))) ⌝ }
+{
+    match len {
+        8 => expand_each(widening, data, start, entries, 8, 8),
+        16 => expand_each(widening, data, start, entries, 16, 16),
+        32 => expand_each(widening, data, start, entries, 32, 32),
+        64 => expand_each(widening, data, start, entries, 64, 64),
+        _ => expand_each(widening, data, start, entries, len, len),
+    }
+}
+
+// Other lengths. Of these Two to Nine at widths of 64, 128 and 256 have literal ones.
+fn expand_others(
+    widening: Widening,
+    data: &mut [u8],
+    start: usize,
+    entries: usize,
+    len: usize,
+    zeros: usize,
+)
+    requires { ⌜ AllMovable widening start entries (length (now «data»)) × Counted widening len zeros ⌝ }
+    ensures { λ _. ⌜ now («data» .exit) ≡ overlay (now («data» .entry)) start (movedAll widening entries (part start (entries * widening .«from_size») (now («data» .entry)))) ⌝ }
+{
+    if zeros / 3 != len {
+        return expand_each(widening, data, start, entries, len, zeros);
+    }
+    match zeros {
+        24 => expand_each(widening, data, start, entries, 8, 24),
+        48 => expand_each(widening, data, start, entries, 16, 48),
+        96 => expand_each(widening, data, start, entries, 32, 96),
+        _ => expand_each(widening, data, start, entries, len, zeros),
+    }
+}
+
+fn expand_by_sizes(widening: Widening, data: &mut [u8], start: usize, entries: usize)
+    requires { ⌜ AllMovable widening start entries (length (now «data»)) ⌝ }
+    ensures { λ _. ⌜ now («data» .exit) ≡ overlay (now («data» .entry)) start (movedAll widening entries (part start (entries * widening .«from_size») (now («data» .entry)))) ⌝ }
+{
+    let len = widening.len;
+    let zeros = widening.to_size - 1 - len;
+    if zeros == len {
+        expand_doubled(widening, data, start, entries, len)
+    } else {
+        expand_others(widening, data, start, entries, len, zeros)
+    }
+}
+
 fn expand_all(from: States, to: States, data: &mut [u8], start: usize, entries: usize, bits: u32)
     requires { ⌜ Widenable from to start entries bits (length (now «data»)) × (entrySize bits from ≡ entrySize bits to → ⊥) ⌝ }
     ensures { λ _. ⌜ now («data» .exit) ≡ overlay (now («data» .entry)) start (widenAll bits from to entries (part start (entries * entrySize bits from) (now («data» .entry)))) ⌝ }
 {
     let widening = get_widening(from, to, bits);
-    let from_size = widening.from_size;
-    let to_size = widening.to_size;
-    let mut done = 0;
-    while done < entries {
-        done += 1;
-        let k = entries - done;
-        expand_entry(widening, data, start + k * from_size, start + k * to_size);
-    }
+    expand_by_sizes(widening, data, start, entries)
 }
 
 // Where the size stays nothing moves.

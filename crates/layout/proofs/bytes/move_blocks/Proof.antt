@@ -22,6 +22,9 @@ abbrev μ-loop : tie.MeasureT-loop
 loop-holds : tie.Need-loop-holds Inv-loop μ-loop
 loop-holds c = (omega arith, rw (sub-self, part-nil, overlay-nil), refl)
 
+sub-left : tie.Need-sub-left Inv-loop μ-loop
+sub-left c = omega arith
+
 add-read-block : tie.Need-add-read-block Inv-loop μ-loop
 add-read-block c = omega arith
 
@@ -42,15 +45,15 @@ loop-again c =
     let a = c .before .before .before .before .before .before .before in
     let x = a .before .before .args in
     let d = now (x .«data») in
-    let k = a .loop .left - 8 in
-    let e : a .loop .left ≡ k + 8 = omega arith in
+    let k = a .loop .left - 32 in
+    let e : a .loop .left ≡ k + 32 = omega arith in
     let w = c .before .before .write-block in (
       omega arith,
       w .ensures
           ∙ ap (overlay (a .loop .«data») (x .q + k)) (c .before .before .before .before .read-block .ensures)
-          ∙ ap (λ (l : List ℕ). overlay l (x .q + k) (part (x .p + k) 8 l))
+          ∙ ap (λ (l : List ℕ). overlay l (x .q + k) (part (x .p + k) 32 l))
           (a .loop .inv .1 ∙ ap (λ (i : ℕ). overlay d (x .q + i) (part (x .p + i) (x .n - i) d)) e)
-          ∙ moved-more d (x .p) (x .q) (x .n) k 8 (omega arith) (omega arith) (omega arith),
+          ∙ moved-more d (x .p) (x .q) (x .n) k 32 (omega arith) (omega arith) (omega arith),
       w .kept .0 ∙ a .loop .inv .2,
     )
 
@@ -58,7 +61,7 @@ same-length : tie.Need-same-length Inv-loop μ-loop
 same-length c = c .before .loop .inv .2
 
 returns : tie.Need-returns Inv-loop μ-loop
-returns c = (c .before .loop .inv .0, c .before .loop .inv .1)
+returns c = (c .before .loop .inv .0, omega arith, c .before .loop .inv .1)
 
 pub move-blocks-spec : {M : Type 1} → statement M
 move-blocks-spec =
@@ -67,6 +70,7 @@ move-blocks-spec =
     Inv-loop
     μ-loop
     loop-holds
+    sub-left
     add-read-block
     read-block-requires
     add-write-block

@@ -8,17 +8,17 @@ use borrow.Author.Needs.{needs}
 use denote.Ref.{now}
 use lib.ListN.{length, set, getD, length-set}
 use Rattle.value.specs.Slice.{part, overlay}
-use Rattle.value.proofs.Slices.{part-nil, part-all, overlay-nil}
+use Rattle.value.proofs.Slices.{part-nil, overlay-nil}
 use Rattle.value.proofs.Backward.{copied-more}
 use Rattle.layout.proofs.bytes.write_block.Statement.{statement}
 use Rattle.layout.proofs.bytes.write_block.Tie as tie
 
 abbrev Inv-loop : tie.InvT-loop
-Inv-loop data₀ q block i₀ «data» i =
-    (i ≤ 8) × («data» ≡ overlay data₀ q (part 0 i block)) × (length «data» ≡ length data₀)
+Inv-loop data₀ q n block i₀ «data» i =
+    (i ≤ n) × («data» ≡ overlay data₀ q (part 0 i block)) × (length «data» ≡ length data₀)
 
 abbrev μ-loop : tie.MeasureT-loop
-μ-loop data₀ q block i₀ «data» i = 8 - i
+μ-loop data₀ q n block i₀ «data» i = n - i
 
 loop-holds : tie.Need-loop-holds Inv-loop μ-loop
 loop-holds c = (zero-le, sym (rw (part-nil, overlay-nil)), refl)
@@ -38,7 +38,7 @@ add-i c = omega arith
 loop-less : tie.Need-loop-less Inv-loop μ-loop
 loop-less c = omega arith
 
-long : (c : tie.Start Inv-loop μ-loop) → length (c .args .t3) ≡ 8
+long : (c : tie.Start Inv-loop μ-loop) → length (c .args .t4) ≡ 32
 long c = search needs
 
 loop-again : tie.Need-loop-again Inv-loop μ-loop
@@ -46,7 +46,7 @@ loop-again c =
     let a = c .before in
     let x = a .before .args in
     let d = now (x .«data») in
-    let b = x .t3 in (
+    let b = x .t4 in (
       omega arith,
       ap (λ (l : List ℕ). set l (x .q + a .loop .i) (getD b (a .loop .i) 0)) (a .loop .inv .1)
           ∙ ap (λ (k : ℕ). set (overlay d (x .q) (part 0 (a .loop .i) b)) (x .q + a .loop .i) (getD b k 0)) (sym (zero-add (a .loop .i)))
@@ -60,8 +60,8 @@ same-length c = c .before .loop .inv .2
 returns : tie.Need-returns Inv-loop μ-loop
 returns c =
     let x = c .before .before .args in
-    let e : c .before .loop .i ≡ length (x .t3) = omega (arith, long (c .before .before)) in
-    c .before .loop .inv .1 ∙ ap (overlay (now (x .«data»)) (x .q)) (rw e (part-all (x .t3)))
+    let e : c .before .loop .i ≡ x .n = omega arith in
+    c .before .loop .inv .1 ∙ rw e
 
 pub write-block-spec : {M : Type 1} → statement M
 write-block-spec =

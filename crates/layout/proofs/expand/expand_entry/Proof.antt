@@ -3,7 +3,7 @@ use mathlib.Core.Path.{_∙_}
 use native.Mathlib.Omega.{arith}
 use denote.Ref.{now}
 use lib.ListN.{length-set}
-use Rattle.layout.proofs.Expanding.{entry-moved}
+use Rattle.layout.proofs.Expanding.{entry-counted}
 use borrow.Author.Needs.{needs}
 use Rattle.layout.proofs.expand.expand_entry.Statement.{statement}
 use Rattle.layout.proofs.expand.expand_entry.Tie as tie
@@ -14,11 +14,11 @@ sub-first c = search needs
 add-first : tie.Need-add-first
 add-first c = search needs
 
-sub-at : tie.Need-sub-at
-sub-at c = search needs
-
 add-at : tie.Need-add-at
 add-at c = search needs
+
+add-at-2 : tie.Need-add-at-2
+add-at-2 c = search needs
 
 slice-read-mark : tie.Need-slice-read-mark
 slice-read-mark c = search needs
@@ -32,41 +32,35 @@ move-up-requires c κs = search needs
 slice-write-data : tie.Need-slice-write-data
 slice-write-data c = search needs
 
-add-push-zeros : tie.Need-add-push-zeros
-add-push-zeros c = search needs
+add-zero : tie.Need-add-zero
+add-zero c = search needs
 
-sub-push-zeros : tie.Need-sub-push-zeros
-sub-push-zeros c = search needs
-
-sub-push-zeros-2 : tie.Need-sub-push-zeros-2
-sub-push-zeros-2 c = search needs
-
-push-zeros-requires : tie.Need-push-zeros-requires
-push-zeros-requires c κs =
-    let s = c .before .before .before .before .before .before .before .before .before .before .before .before .before .before in
-    let u = c .before .before .before .before .before .move-up in
-    rw length-set (omega (arith, u .kept .0, s .pre .room, s .pre .grows .marked))
+zero-requires : tie.Need-zero-requires
+zero-requires c κs =
+    let s = c .before .before .before .before .before .before .before .before .before .before .before in
+    let u = c .before .before .before .move-up in
+    rw length-set (omega (arith, u .kept .0, s .pre .0 .room, s .pre .1 .between))
 
 slice-write-data-2 : tie.Need-slice-write-data-2
 slice-write-data-2 c =
-    let s = c .before .before .before .before .before .before .before .before .before .before .before .before .before .before .before .before .before in
-    let u = c .before .before .before .before .before .before .before .before .move-up in
-    let z = c .before .before .push-zeros in
-    omega (arith, simp length-set at (z .kept .0), u .kept .0, s .pre .room, s .pre .grows .marked)
+    let s = c .before .before .before .before .before .before .before .before .before .before .before .before .before .before in
+    let u = c .before .before .before .before .before .before .move-up in
+    let z = c .before .before .zero in
+    omega (arith, simp length-set at (z .kept .0), u .kept .0, s .pre .0 .room, s .pre .1 .between)
 
 same-length : tie.Need-same-length
 same-length c =
-    let u = c .before .before .before .before .before .before .before .before .move-up in
-    let z = c .before .before .push-zeros in
+    let u = c .before .before .before .before .before .before .move-up in
+    let z = c .before .before .zero in
     simp length-set (simp length-set at (z .kept .0) ∙ u .kept .0)
 
 returns : tie.Need-returns
 returns c =
-    let s = c .before .before .before .before .before .before .before .before .before .before .before .before .before .before .before .before .before in
+    let s = c .before .before .before .before .before .before .before .before .before .before .before .before .before .before in
     let x = s .args in
-    let u = c .before .before .before .before .before .before .before .before .move-up in
-    let z = c .before .before .push-zeros in
-    entry-moved (x .widening) (s .pre .grows) (now (x .«data»)) _ _ (x .p) (x .q) (s .pre .onward) (s .pre .room) (u .ensures) (z .ensures .1)
+    let u = c .before .before .before .before .before .before .move-up in
+    let z = c .before .before .zero in
+    entry-counted (x .widening) (s .pre .0 .grows) (now (x .«data»)) _ _ (x .p) (x .q) (x .len) (x .zeros) (s .pre .1) (s .pre .0 .onward) (s .pre .0 .room) (u .ensures) (z .ensures)
 
 pub expand-entry-spec : {M : Type 1} → statement M
 expand-entry-spec =
@@ -74,16 +68,14 @@ expand-entry-spec =
     (tie.spec
     sub-first
     add-first
-    sub-at
     add-at
+    add-at-2
     slice-read-mark
     slice-read-level
     move-up-requires
     slice-write-data
-    add-push-zeros
-    sub-push-zeros
-    sub-push-zeros-2
-    push-zeros-requires
+    add-zero
+    zero-requires
     slice-write-data-2
     same-length
     returns)

@@ -1,0 +1,130 @@
+-- `layout::expand::expand_each` meets its contract. Assumes nothing.
+use mathlib.Core.Path.{_≡_, refl, sym, ap, _∙_}
+use mathlib.Core.List.{List}
+use Prim.Native.Nat.{ℕ, _+_, _-_, _*_, _≤_}
+use native.Mathlib.Nat.{sub-zero}
+use native.Mathlib.Omega.{arith}
+use denote.Ref.{now}
+use lib.ListN.{length}
+use Rattle.value.specs.Slice.{part, overlay}
+use Rattle.layout.specs.declared.expand.Widening.{Widening}
+use Rattle.layout.specs.Expand.{moved}
+use Rattle.layout.proofs.Expanding.{expanded, none-expanded, old-place, new-place, more-expanded, all-expanded}
+use Rattle.layout.proofs.expand.expand_each.Statement.{statement}
+use Rattle.layout.proofs.expand.expand_each.Tie as tie
+
+abbrev Inv-loop : tie.InvT-loop
+Inv-loop widening data₀ start entries len zeros from-size to-size done₀ «data» done =
+    (done ≤ entries) × («data» ≡ expanded widening data₀ start entries (entries - done)) × (length «data» ≡ length data₀)
+
+abbrev μ-loop : tie.MeasureT-loop
+μ-loop widening data₀ start entries len zeros from-size to-size done₀ «data» done = entries - done
+
+-- the function's entry, and what was lent
+abbrev begin : tie.At-loop Inv-loop μ-loop → tie.Start Inv-loop μ-loop
+begin a = a .before .before
+
+abbrev old : tie.At-loop Inv-loop μ-loop → List ℕ
+old a = now (begin a .args .«data»)
+
+add-to-size : tie.Need-add-to-size Inv-loop μ-loop
+add-to-size c = omega (arith, c .before .fits, c .before .pre .1 .between)
+
+add-to-size-2 : tie.Need-add-to-size-2 Inv-loop μ-loop
+add-to-size-2 c = omega (arith, c .before .fits, c .before .pre .1 .between)
+
+loop-holds : tie.Need-loop-holds Inv-loop μ-loop
+loop-holds c =
+    let s = c .before in
+    (omega arith, rw sub-zero (sym (none-expanded (s .args .widening) (s .pre .0 .grows) (now (s .args .«data»)) _ _ (s .pre .0 .room))), refl)
+
+add-done : tie.Need-add-done Inv-loop μ-loop
+add-done c = omega arith
+
+sub-k : tie.Need-sub-k Inv-loop μ-loop
+sub-k c = omega arith
+
+-- entry k's places lie in the slice
+places : (c : tie.After-expand-entry-arg Inv-loop μ-loop) →
+    let s = begin (c .before .before) in
+    let x = s .args in
+    let k = x .entries - (c .before .before .loop .done + 1) in
+    (x .start + k * x .widening .«from_size» ≤ x .start + k * (x .len + x .zeros + 1)) × (x .start + k * (x .len + x .zeros + 1) + x .widening .«to_size» ≤ length (old (c .before .before)))
+places c =
+    let s = begin (c .before .before) in
+    let m = s .args .widening in
+    let d = old (c .before .before) in
+    let k = s .args .entries - (c .before .before .loop .done + 1) in
+    rw (s .pre .1 .between) (old-place m (s .pre .0 .grows) d _ _ (s .pre .0 .room) k (omega arith), new-place m (s .pre .0 .grows) d _ _ (s .pre .0 .room) k (omega arith))
+
+mul-expand-entry : tie.Need-mul-expand-entry Inv-loop μ-loop
+mul-expand-entry c = let p = places c in omega arith
+
+add-expand-entry : tie.Need-add-expand-entry Inv-loop μ-loop
+add-expand-entry c = let p = places c in omega arith
+
+mul-expand-entry-2 : tie.Need-mul-expand-entry-2 Inv-loop μ-loop
+mul-expand-entry-2 c = let p = places c in omega arith
+
+add-expand-entry-2 : tie.Need-add-expand-entry-2 Inv-loop μ-loop
+add-expand-entry-2 c = let p = places c in omega arith
+
+expand-entry-requires : tie.Need-expand-entry-requires Inv-loop μ-loop
+expand-entry-requires c κs =
+    let p = places c in
+    let s = begin (c .before .before) in
+    (record { grows = s .pre .0 .grows; onward = p .0; room = omega arith }, s .pre .1)
+
+loop-less : tie.Need-loop-less Inv-loop μ-loop
+loop-less c = omega arith
+
+loop-again : tie.Need-loop-again Inv-loop μ-loop
+loop-again c =
+    let a = c .before .before .before .before .before in
+    let s = begin a in
+    let x = s .args in
+    let m = x .widening in
+    let k = x .entries - (a .loop .done + 1) in
+    let f : x .entries - a .loop .done ≡ k + 1 = omega arith in
+    let w = c .before .before .expand-entry in (
+      omega arith,
+      w .ensures
+          ∙ ap (λ (t : ℕ). overlay (a .loop .«data») (x .start + k * t) (moved m (part (x .start + k * m .«from_size») (m .«from_size») (a .loop .«data»)))) (s .pre .1 .between)
+          ∙ ap (λ (l : List ℕ). overlay l (x .start + k * m .«to_size») (moved m (part (x .start + k * m .«from_size») (m .«from_size») l)))
+          (a .loop .inv .1 ∙ ap (expanded m (old a) (x .start) (x .entries)) f)
+          ∙ more-expanded m (s .pre .0 .grows) (old a) (x .start) (x .entries) (s .pre .0 .room) k (omega arith),
+      w .kept .1 .0 ∙ a .loop .inv .2,
+    )
+
+same-length : tie.Need-same-length Inv-loop μ-loop
+same-length c = c .before .loop .inv .2
+
+returns : tie.Need-returns Inv-loop μ-loop
+returns c =
+    let a = c .before in
+    let s = begin a in
+    let x = s .args in
+    let z : x .entries - a .loop .done ≡ 0 = omega arith in
+    a .loop .inv .1 ∙ ap (expanded (x .widening) (old a) (x .start) (x .entries)) z
+    ∙ all-expanded (x .widening) (s .pre .0 .grows) (old a) (x .start) (x .entries) (s .pre .0 .room)
+
+pub expand-each-spec : {M : Type 1} → statement M
+expand-each-spec =
+    tie.close
+    (tie.spec
+    Inv-loop
+    μ-loop
+    add-to-size
+    add-to-size-2
+    loop-holds
+    add-done
+    sub-k
+    mul-expand-entry
+    add-expand-entry
+    mul-expand-entry-2
+    add-expand-entry-2
+    expand-entry-requires
+    loop-less
+    loop-again
+    same-length
+    returns)
