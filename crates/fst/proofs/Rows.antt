@@ -11,7 +11,7 @@ use Rattle.value.specs.declared.States.the-variants.{Two, Four, Nine}
 use Rattle.value.specs.Text.{chars}
 use Rattle.value.specs.Digits.{number, digits}
 use Rattle.value.specs.Slice.{part, overlay, same, any}
-use Rattle.value.specs.Level.{placeIn, codeOf, fold, setOf, leastOf}
+use Rattle.value.specs.Level.{placeIn, codeOf, fold, setOf, leastOf, joinAll}
 use Rattle.fst.specs.declared.Encoding.{Encoding}
 use Rattle.fst.specs.declared.Encoding.the-variants.{Event, Real, BitVector}
 use Rattle.fst.specs.declared.Description.{Description}
@@ -152,7 +152,7 @@ edges =
     ∷ []
 
 pub hold : AllHold rows × AllHold edges
-unfolding around lentBy Follows Holds AllHold number digits part overlay same any placeIn codeOf fold setOf leastOf tried entrySize entryOf markByte unmarked levelBytes widenEntry widenAll keptIn widthStands fitsBytes fits isBad fresh isOtherKind isOtherLength isForeign isBelowLast repeats appended changed refusals stored addChange
+unfolding around lentBy Follows Holds AllHold number digits part overlay same any placeIn codeOf fold setOf joinAll tried entrySize entryOf markByte unmarked levelBytes widenEntry widenAll keptIn widthStands fitsBytes fits isBad fresh isOtherKind isOtherLength isForeign isBelowLast repeats appended changed refusals stored addChange
 hold = (
   (
     (refl, tt),

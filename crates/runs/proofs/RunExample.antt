@@ -9,7 +9,7 @@ use Rattle.value.specs.Text.{chars}
 use Rattle.value.specs.declared.States.the-variants.{Nine}
 use Rattle.value.specs.Digits.{number, digits}
 use Rattle.value.specs.Slice.{part, overlay, same, any}
-use Rattle.value.specs.Level.{placeIn, codeOf, fold, setOf, leastOf}
+use Rattle.value.specs.Level.{placeIn, codeOf, fold, setOf, leastOf, joinAll}
 use Rattle.fst.specs.declared.Encoding.the-variants.{BitVector}
 use Rattle.fst.specs.Refusal.{tried}
 use Rattle.layout.specs.Entry.{entrySize, entryOf, markByte, unmarked, levelBytes, widenEntry, widenAll}
@@ -40,7 +40,7 @@ abbrev accepted : Fed → Bool
 accepted f = f .accepted
 
 pub there : Run byValue (freshKept 1) calls′ × Run byValue (freshKept 1) rowTwo
-unfolding Run leaves number digits part overlay same any placeIn codeOf fold setOf leastOf tried entrySize entryOf markByte unmarked levelBytes widenEntry widenAll keptIn widthStands fitsBytes fits isBad isOtherKind isOtherLength isForeign isBelowLast repeats appended changed refusals stored addChange
+unfolding Run leaves number digits part overlay same any placeIn codeOf fold setOf joinAll tried entrySize entryOf markByte unmarked levelBytes widenEntry widenAll keptIn widthStands fitsBytes fits isBad isOtherKind isOtherLength isForeign isBelowLast repeats appended changed refusals stored addChange
 there = ((refl, (refl, (refl, (refl, tt)))), (refl, (refl, tt)))
 
 pub ends : (map accepted (fed byValue (freshKept 1) calls′) ≡ true ∷ false ∷ true ∷ true ∷ [])
@@ -49,5 +49,5 @@ pub ends : (map accepted (fed byValue (freshKept 1) calls′) ≡ true ∷ false
     ≡ record { description = record { encoding = BitVector 1 Nine; count = 2 }; bytes = 0x42 ∷ 0x84 ∷ []; indices = 4 ∷ 9 ∷ [] })
     -- "Row 2 gives one pair"
     × (historyOf (fed byValue (freshKept 1) rowTwo) ≡ record { index = 0; string = chars "x" } ∷ [])
-unfolding after fed endsLike joined leaves number digits part overlay same any placeIn codeOf fold setOf leastOf tried entrySize entryOf markByte unmarked levelBytes widenEntry widenAll keptIn widthStands fitsBytes fits isBad isOtherKind isOtherLength isForeign isBelowLast repeats appended changed refusals stored addChange
+unfolding after fed endsLike joined leaves number digits part overlay same any placeIn codeOf fold setOf joinAll tried entrySize entryOf markByte unmarked levelBytes widenEntry widenAll keptIn widthStands fitsBytes fits isBad isOtherKind isOtherLength isForeign isBelowLast repeats appended changed refusals stored addChange
 ends = (refl, refl, refl, refl)

@@ -12,7 +12,7 @@ use lib.ListN.{length, length-map}
 use borrow.Author.Tests.{not-false, eqb-true, ne-eqb}
 use Rattle.value.specs.declared.States.{States}
 use Rattle.value.specs.declared.States.the-variants.{Two}
-use Rattle.value.specs.Level.{fold, foldAll, codeOf, codesOf, markOf, join, leastOf}
+use Rattle.value.specs.Level.{fold, foldAll, codeOf, codesOf, markOf, join, leastOf, joinAll}
 use Rattle.value.specs.Digits.{Below}
 use Rattle.value.proofs.Tests.{to-T}
 use Rattle.value.proofs.Slices.{same-sound, same-by}
@@ -32,15 +32,15 @@ use Rattle.runs.proofs.Laid.{entryFor, sameEntry, Sound, entry-tells, e
 -- ---- the largest set
 
 pub largest-head : (s : Step) (l : List Step) → markOf (s .set) ≤ markOf (largestOf (s ∷ l))
-unfolding largestOf
+unfolding joinAll
 largest-head s l = omega (arith, mark-join (s .set) (largestOf l))
 
 pub largest-tail : (s : Step) (l : List Step) → markOf (largestOf l) ≤ markOf (largestOf (s ∷ l))
-unfolding largestOf
+unfolding joinAll
 largest-tail s l = omega (arith, mark-join (s .set) (largestOf l))
 
 pub largest-snoc : (l : List Step) (s : Step) → largestOf (l ++ (s ∷ [])) ≡ join (largestOf l) (s .set)
-unfolding largestOf
+unfolding joinAll
 largest-snoc [] s = mark-inj (join (s .set) Two) (s .set) (omega (arith, mark-join (s .set) Two))
 largest-snoc (t ∷ l) s =
     ap (join (t .set)) (largest-snoc l s)
@@ -216,7 +216,7 @@ module _ (w : ℕ) (L : EntryLaws w) where
   from-fresh : (cs : List Call) → Run byValue (freshKept w) cs
       → let h = historyOf (fed byValue (freshKept w) cs) in
       (after byValue (freshKept w) cs ≡ historyLaidOut w h) × Every (Spelt w) h
-  unfolding historyLaidOut laidOut largestOf entriesOf
+  unfolding historyLaidOut laidOut joinAll entriesOf
   from-fresh cs r = layout-from [] tt (freshKept w) refl cs r
 
   -- after every run the record is its history laid out

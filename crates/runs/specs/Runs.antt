@@ -9,7 +9,7 @@ use lib.ListN.{length}
 use Rattle.value.specs.declared.States.{States}
 use Rattle.value.specs.declared.States.the-variants.{Two}
 use Rattle.value.specs.Slice.{same}
-use Rattle.value.specs.Level.{foldAll, codesOf, leastOf, join}
+use Rattle.value.specs.Level.{foldAll, codesOf, joinAll, leastOf}
 use Rattle.fst.specs.declared.Description.{Description}
 use Rattle.fst.specs.declared.Encoding.the-variants.{BitVector}
 use Rattle.fst.specs.Refusal.{Outcome}
@@ -136,9 +136,8 @@ abbrev pub stepOf : Pair → Step
 stepOf p = record { index = p .index; string = p .string; set = leastOf (codesOf (p .string)) }
 
 -- "the largest set is the largest of the strings' least sets, or Two with no pair"
-unfoldable pub largestOf : List Step → States
-largestOf [] = Two
-largestOf (s ∷ l) = join (s .set) (largestOf l)
+abbrev pub largestOf : List Step → States
+largestOf l = joinAll (map (λ (s : Step). s .set) l)
 
 -- "After every run the record is its history laid out"
 unfoldable pub historyLaidOut : ℕ → List Pair → Kept

@@ -12,7 +12,7 @@ use borrow.Author.Tests.{ltb-false, le-ltb}
 use lib.Dec.{eqb, ltb}
 use lib.ListN.{length, getD, length-map, length-append, List·getD-map, List·getD-eq-default}
 use Rattle.value.specs.Slice.{part, any, sum}
-use Rattle.value.specs.Level.{markOf, bitsOf, hasNoCode}
+use Rattle.value.specs.Level.{markOf, bitsOf, hasNoCode, joinAll}
 use Rattle.value.specs.Digits.{number, Below}
 use Rattle.value.proofs.Digits.{base-pos, digits-length, digits-below, below-take, below-drop}
 use Rattle.value.proofs.Tests.{or-left, or-right, or-both, by-le}
@@ -403,7 +403,7 @@ piece-picks e k (some s) h c f =
     (picks-entry e (encodingOf k) (entryAt (k .description) 0 (k .bytes) (f .at)) (getD (k .indices) (f .at) 0) h (entries-each k (pickIsBad e) c (f .at) (f .inside)))
 
 set-under : (sh : List (Option Shown)) (j : ℕ) → markOf (setShown (getD sh j none)) ≤ markOf (largestShown sh)
-unfolding largestShown
+unfolding joinAll
 set-under [] zero = omega arith
 set-under [] (suc j) = omega arith
 set-under (o ∷ sh) zero = omega (arith, mark-join (setShown o) (largestShown sh))
@@ -435,7 +435,7 @@ mark-one k s m f =
     (mark-within (encodingOf k) (entryAt (k .description) 0 (k .bytes) (f .at)) (entries-each k entryIsBad m (f .at) (f .inside)))
 
 largest-under : (ks : List Kept) (sh : List (Option Shown)) → any markIsBad ks ≡ false → Each2 NowFrom ks sh → markOf (largestShown sh) ≤ markOf (largestAmong ks)
-unfolding any largestShown largestAmong
+unfolding any joinAll
 largest-under [] [] m e = omega arith
 largest-under [] (o ∷ sh) m e = absurd e
 largest-under (k ∷ ks) [] m e = absurd e

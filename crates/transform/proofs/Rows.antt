@@ -7,7 +7,7 @@ use lib.ListN.{length, replicate}
 use Rattle.value.specs.declared.States.the-variants.{Two, Four}
 use Rattle.value.specs.Digits.{number, digits}
 use Rattle.value.specs.Slice.{part, overlay, same, any, sum}
-use Rattle.value.specs.Level.{placeIn, codeOf, letterOf, fold, setOf, leastOf}
+use Rattle.value.specs.Level.{placeIn, codeOf, letterOf, fold, setOf, leastOf, joinAll}
 use Rattle.fst.specs.declared.Encoding.the-variants.{Event, BitVector}
 use Rattle.fst.specs.declared.Description.{Description}
 use Rattle.fst.specs.Refusal.{Reply, refused, given, tried, Outcome}
@@ -77,7 +77,7 @@ twelfth =
     }
 
 twelfth-holds : Slices twelfth
-unfolding input alone source front Slices written.around written.lentBy written.Follows written.Holds written.played number digits part overlay same any sum placeIn codeOf letterOf fold setOf leastOf tried entrySize entryOf widenEntry widenAll keptIn widthStands fitsBytes fits isBad fresh isOtherKind isOtherLength isForeign isBelowLast repeats appended changed refusals stored addChange endsLike joined entriesOf laidOut entryAt entriesFrom markIn setIn levelPart levelsIn hasBadMark hasNoText falls packedOf extractOf isBadPiece isBadDerivation adjoin merging pieceAdded nameAdded derivationWith isBadRange isOverfull addPiece emptyDerivation smallest moved momentsFrom momentsOf picked largestShown derivedList largestAmong isUnfit deriveRefusals derive
+unfolding input alone source front Slices written.around written.lentBy written.Follows written.Holds written.played number digits part overlay same any sum placeIn codeOf letterOf fold setOf joinAll tried entrySize entryOf widenEntry widenAll keptIn widthStands fitsBytes fits isBad fresh isOtherKind isOtherLength isForeign isBelowLast repeats appended changed refusals stored addChange endsLike joined entriesOf laidOut entryAt entriesFrom markIn setIn levelPart levelsIn hasBadMark hasNoText falls packedOf extractOf isBadPiece isBadDerivation adjoin merging pieceAdded nameAdded derivationWith isBadRange isOverfull addPiece emptyDerivation smallest moved momentsFrom momentsOf picked derivedList isUnfit deriveRefusals derive
 twelfth-holds = ((refl, (refl, tt)), refl, refl)
 
 -- ---- the list

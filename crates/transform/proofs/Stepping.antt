@@ -13,7 +13,7 @@ use lib.Seq.{length-take-le, drop-cons, getD-take, getD-drop, drop-set-lt, take-
 use Rattle.value.specs.declared.States.{States}
 use Rattle.value.specs.declared.States.the-variants.{Two}
 use Rattle.value.specs.Slice.{part}
-use Rattle.value.specs.Level.{join}
+use Rattle.value.specs.Level.{join, joinAll}
 use Rattle.value.proofs.Slices.{part-length, part-at}
 use Rattle.signal.specs.declared.NextIndex.{NextIndex}
 use Rattle.signal.specs.declared.NextIndex.the-variants.{Absent, At}
@@ -128,11 +128,11 @@ module _ (inputs : Inputs) (few : inputs .count ≤ 8) (slots : length (inputs .
   from-end ks = ap (λ (l : List Input). cursors l (drop (inputs .count) ks)) (drop-of-length-le all {i = inputs .count} (rw all-length (omega arith)))
 
   pub over-none : Two ≡ largestOver (drop (inputs .count) all)
-  unfolding largestOver
+  unfolding joinAll
   over-none = ap largestOver (sym (drop-of-length-le all {i = inputs .count} (rw all-length (omega arith))))
 
   pub largest-none : (bytes ks : List ℕ) → Two ≡ largestNow bytes (from inputs (inputs .count) ks)
-  unfolding largestNow
+  unfolding joinAll
   largest-none bytes ks = ap (largestNow bytes) (sym (from-end ks))
 
   pub soonest-none : (indices ks : List ℕ) → Absent ≡ soonest indices (from inputs (inputs .count) ks)
@@ -164,7 +164,7 @@ module _ (inputs : Inputs) (few : inputs .count ≤ 8) (slots : length (inputs .
 
     pub over-more : (own rest : States) → own ≡ largestIn ((getD (inputs .slots) i noInput) .description .encoding)
         → (n : ℕ) → suc i ≡ n → rest ≡ largestOver (drop n all) → join own rest ≡ largestOver (drop i all)
-    unfolding largestOver
+    unfolding joinAll
     over-more own rest e n q f =
         ap₂ join e (f ∙ ap (λ (n : ℕ). largestOver (drop n all)) (sym q))
         ∙ ap largestOver
@@ -172,7 +172,7 @@ module _ (inputs : Inputs) (few : inputs .count ≤ 8) (slots : length (inputs .
 
     pub largest-more : (bytes ks : List ℕ) → length ks ≡ 8 → (own rest : States) → own ≡ setNow bytes (cursor (getD (inputs .slots) i noInput) (getD ks i 0))
         → (n : ℕ) → suc i ≡ n → rest ≡ largestNow bytes (from inputs n ks) → join own rest ≡ largestNow bytes (from inputs i ks)
-    unfolding largestNow
+    unfolding joinAll
     largest-more bytes ks m own rest e n q f =
         ap₂ join e (f ∙ ap (λ (n : ℕ). largestNow bytes (from inputs n ks)) (sym q)) ∙ ap (largestNow bytes) (sym (from-here ks m))
 

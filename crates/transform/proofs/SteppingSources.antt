@@ -11,7 +11,7 @@ use lib.ListN.{length, take, drop, getD}
 use Rattle.value.specs.declared.States.{States}
 use Rattle.value.specs.declared.States.the-variants.{Two, Four, Nine}
 use Rattle.value.specs.Slice.{part, any, sum}
-use Rattle.value.specs.Level.{markOf, bitsOf, setAt, join, hasNoCode}
+use Rattle.value.specs.Level.{markOf, bitsOf, setAt, join, hasNoCode, joinAll}
 use Rattle.value.specs.Digits.{Below}
 use Rattle.value.proofs.Levels.{mark-join, mark-small, mark-set, all-below}
 use Rattle.value.proofs.Tests.{or-left, or-right, to-T, from-T, and-left}
@@ -115,7 +115,7 @@ module _ (bytes indices : List ℕ) (c : Cursor) (s : Source bytes indices (c .i
 -- ---- the sets
 
 pub all-under : (bytes : List ℕ) (S : States) (cs : List Cursor) → markOf (largestNow bytes cs) ≤ markOf S → All (Under bytes S) cs
-unfolding largestNow
+unfolding joinAll
 all-under bytes S [] h = tt
 all-under bytes S (c ∷ cs) h =
     let j = mark-join (setNow bytes c) (largestNow bytes cs) in
@@ -126,7 +126,7 @@ SetWithin bytes c = markOf (setNow bytes c) ≤ markOf (largestIn (c .input .des
 
 pub largest-within : (bytes indices : List ℕ) (is : List Input) (ks : List ℕ) → All (SetWithin bytes) (cursors is ks)
     → markOf (largestNow bytes (cursors is ks)) ≤ markOf (largestAmong (map (inputKept bytes indices) is))
-unfolding largestNow largestAmong keptIn
+unfolding joinAll keptIn
 largest-within bytes indices [] ks h = omega arith
 largest-within bytes indices (i ∷ is) [] h = omega arith
 largest-within bytes indices (i ∷ is) (k ∷ ks) h =
@@ -136,7 +136,7 @@ largest-within bytes indices (i ∷ is) (k ∷ ks) h =
     omega (arith, h .0)
 
 pub largest-is : (bytes indices : List ℕ) (is : List Input) → largestOver is ≡ largestAmong (map (inputKept bytes indices) is)
-unfolding largestOver largestAmong keptIn
+unfolding joinAll keptIn
 largest-is bytes indices [] = refl
 largest-is bytes indices (i ∷ is) = ap (join (largestIn (i .description .encoding))) (largest-is bytes indices is)
 

@@ -15,7 +15,7 @@ use lib.ListN.{length, take, drop, getD, replicate, length-map, length-drop}
 use Rattle.value.specs.declared.States.{States}
 use Rattle.value.specs.declared.States.the-variants.{Two}
 use Rattle.value.specs.Slice.{part, sum}
-use Rattle.value.specs.Level.{join}
+use Rattle.value.specs.Level.{join, joinAll}
 use Rattle.value.proofs.Tests.{by-eq, by-le}
 use Rattle.value.proofs.Slices.{part-length}
 use Rattle.fst.specs.Record.{Kept, keptIn, sizeOf, usedSize}
@@ -181,7 +181,7 @@ module _ (bytes indices : List ℕ) where
     pub within : c .begun ≤ c .input .description .count
 
   pub largest-told : (cs : List Cursor) → All Shows cs → largestShown (map nowOf (tracks cs)) ≡ largestNow bytes cs
-  unfolding largestShown largestNow
+  unfolding joinAll
   largest-told [] s = refl
   largest-told (c ∷ cs) s = ap₂ join (set-shown c (s .0 .fits) (s .0 .begun) (s .0 .within)) (largest-told cs (s .1))
 

@@ -9,7 +9,7 @@ use lib.ListN.{length, take, getD}
 use Rattle.value.specs.declared.States.{States}
 use Rattle.value.specs.declared.States.the-variants.{Two}
 use Rattle.value.specs.Slice.{part, overlay, same, any}
-use Rattle.value.specs.Level.{markOf, join, textOf, hasNoCode}
+use Rattle.value.specs.Level.{markOf, joinAll, textOf, hasNoCode}
 use Rattle.fst.specs.declared.Encoding.{Encoding}
 use Rattle.fst.specs.declared.Encoding.the-variants.{Event, Real, BitVector}
 use Rattle.fst.specs.declared.Description.{Description}
@@ -47,9 +47,8 @@ picked [] showing = []
 picked (e ∷ es) showing = pickedOf e (codesShown (getD showing (e .signal) none)) ++ picked es showing
 
 -- "under the largest of the inputs' current own sets"
-unfoldable pub largestShown : List (Option Shown) → States
-largestShown [] = Two
-largestShown (s ∷ l) = join (setShown s) (largestShown l)
+abbrev pub largestShown : List (Option Shown) → States
+largestShown l = joinAll (map setShown l)
 
 abbrev pub yielded : List Extract → Moment → Step
 yielded es m = record { index = m .index; string = textOf (picked es (m .showing)); set = largestShown (m .showing) }
@@ -68,9 +67,8 @@ unfoldable pub derivedList : List Extract → List Kept → List Step
 derivedList es ks = foldl (joined sameStep) [] (map (yielded es) (momentsOf (map shownIn ks)))
 
 -- "The largest set is the largest of the inputs' largest sets"
-unfoldable pub largestAmong : List Kept → States
-largestAmong [] = Two
-largestAmong (k ∷ ks) = join (largestIn (k .description .encoding)) (largestAmong ks)
+abbrev pub largestAmong : List Kept → States
+largestAmong ks = joinAll (map (λ (k : Kept). largestIn (k .description .encoding)) ks)
 
 -- "After every accepted Derive the record is this list laid out"
 abbrev pub derivedKept : DerivedBitVecSignal → List Kept → Kept

@@ -7,10 +7,9 @@ use mathlib.Core.List.{List, [], _∷_, _++_, map}
 use lib.Dec.{eqb}
 use lib.ListN.{length, drop, getD, set}
 use Rattle.value.specs.declared.States.{States}
-use Rattle.value.specs.declared.States.the-variants.{Two}
 use Rattle.value.specs.Digits.{Below}
 use Rattle.value.specs.Slice.{part, overlay, same, sum}
-use Rattle.value.specs.Level.{markOf, setAt, join, textOf}
+use Rattle.value.specs.Level.{markOf, setAt, joinAll, textOf}
 use Rattle.layout.specs.Entry.{entrySize}
 use Rattle.layout.specs.Writable.{Writable, entryFrom}
 use Rattle.fst.specs.declared.Encoding.the-variants.{BitVector}
@@ -131,9 +130,8 @@ levelsNow bytes c = levelsIn (c .input .description .encoding) (shownBytes bytes
 abbrev pub widthNow : Cursor → ℕ
 widthNow c = widthOf (c .input .description .encoding)
 
-unfoldable pub largestNow : List ℕ → List Cursor → States
-largestNow bytes [] = Two
-largestNow bytes (c ∷ cs) = join (setNow bytes c) (largestNow bytes cs)
+abbrev pub largestNow : List ℕ → List Cursor → States
+largestNow bytes cs = joinAll (map (setNow bytes) cs)
 
 unfoldable pub pickedNow : List ℕ → List Cursor → List Extract → List ℕ
 pickedNow bytes cs [] = []
@@ -236,6 +234,5 @@ pub record Stored (width : ℕ) (M : States) (steps : List Step) (bytes indices 
   pub times : indices′ ≡ overlay indices 0 (map indexOf steps)
 
 -- the largest of the inputs' largest sets
-unfoldable pub largestOver : List Input → States
-largestOver [] = Two
-largestOver (i ∷ is) = join (largestIn (i .description .encoding)) (largestOver is)
+abbrev pub largestOver : List Input → States
+largestOver is = joinAll (map (λ (i : Input). largestIn (i .description .encoding)) is)

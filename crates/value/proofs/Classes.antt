@@ -15,7 +15,7 @@ use Rattle.value.specs.declared.States.the-variants.{Two, Four, Nine}
 use Rattle.value.specs.declared.CharCode.the-variants as code
 use Rattle.value.specs.declared.StatesAnswer.the-variants as answer
 use Rattle.value.specs.Slice.{any}
-use Rattle.value.specs.Level.{codeOf, fold, foldAll, codesOf, placeIn, markOf, codesIn, setOf, leastOf}
+use Rattle.value.specs.Level.{codeOf, fold, foldAll, codesOf, placeIn, markOf, codesIn, setOf, leastOf, joinAll}
 use Rattle.value.specs.Answer.{charCode, leastStates, holdsOne, holdsAll}
 use Rattle.value.proofs.Tests.{or-left, or-right, by-eq, allBelow, at-below, implies, implied, both, both-same}
 use Rattle.value.proofs.Slices.{any-snoc}
@@ -144,13 +144,13 @@ set-beyond Four c n h = rw (set-nine c h) (omega arith)
 set-beyond Nine c n h = absurd (omega arith)
 
 least-within : (N : States) (cs : List ℕ) → Below (codesIn N) cs → markOf (leastOf cs) ≤ markOf N
-unfolding leastOf
+unfolding joinAll
 least-within N [] b = omega arith
 least-within N (c ∷ cs) b =
     omega (arith, mark-join (setOf c) (leastOf cs), set-within N c (b .0), least-within N cs (b .1))
 
 least-beyond : (N : States) (cs : List ℕ) → markOf N < 2 → any (leb (codesIn N)) cs ≡ true → markOf N < markOf (leastOf cs)
-unfolding leastOf any
+unfolding joinAll any
 least-beyond N [] n e = absurd (true≢false (sym e))
 least-beyond N (c ∷ cs) n e = go (leb (codesIn N) c) refl e (least-beyond N cs n)
   where

@@ -6,7 +6,7 @@ use Rattle.value.specs.declared.States.the-variants.{Two, Four, Nine}
 use Rattle.value.specs.Text.{chars}
 use Rattle.value.specs.Digits.{number}
 use Rattle.value.specs.Answer.{levelAt}
-use Rattle.value.specs.Level.{placeIn, codeOf, letterOf, fold, foldAll, codesOf, textOf, setOf, leastOf, lenOf}
+use Rattle.value.specs.Level.{placeIn, codeOf, letterOf, fold, foldAll, codesOf, textOf, setOf, leastOf, lenOf, joinAll}
 
 -- every letter of the two standards, small and capital, and bytes beside them that are foreign
 codes :
@@ -23,7 +23,7 @@ sets :
     × (leastOf (codesOf (chars "z")) ≡ Four)
     × (leastOf (codesOf (chars "01h0x")) ≡ Nine)
     × (leastOf [] ≡ Two)
-unfolding placeIn codeOf setOf leastOf
+unfolding placeIn codeOf setOf joinAll
 sets = (refl, refl, refl, refl, refl)
 
 lengths : (lenOf 9 Two ≡ 2) × (lenOf 9 Four ≡ 3) × (lenOf 9 Nine ≡ 5) × (lenOf 8 Two ≡ 1) × (lenOf 8 Four ≡ 2) × (lenOf 8 Nine ≡ 4)

@@ -16,7 +16,7 @@ use Rattle.value.specs.declared.States.{States}
 use Rattle.value.specs.declared.States.the-variants.{Two, Four, Nine}
 use Rattle.value.specs.declared.StatesAnswer.the-variants as answer
 use Rattle.value.specs.Slice.{any}
-use Rattle.value.specs.Level.{letters, placeIn, codeOf, letterOf, fold, foldAll, codesOf, textOf, markOf, bitsOf, isNoCode, hasNoCode, setAt, join, setOf, leastOf, lenOf}
+use Rattle.value.specs.Level.{letters, placeIn, codeOf, letterOf, fold, foldAll, codesOf, textOf, markOf, bitsOf, isNoCode, hasNoCode, setAt, join, setOf, leastOf, lenOf, joinAll}
 use Rattle.value.specs.Answer.{leastStates}
 use Rattle.value.proofs.Tests.{or-left, or-right, or-both, by-le, at-below}
 use Rattle.value.specs.Digits.{Below}
@@ -230,7 +230,7 @@ set-holds c h =
 
 -- so do codes within every set that is no smaller than their least
 pub under-by : (N : States) (cs : List ℕ) → Below 9 cs → markOf (leastOf cs) ≤ markOf N → Below (2 ^ bitsOf N) cs
-unfolding leastOf
+unfolding joinAll
 under-by N [] b h = tt
 under-by N (c ∷ cs) b h = (
   lt-of-lt-of-le (set-holds c (b .0)) (pow-mono (bits-up (setOf c) N (omega (arith, mark-join (setOf c) (leastOf cs))))),

@@ -82,10 +82,14 @@ join Nine b = Nine
 unfoldable pub setOf : ℕ → States
 setOf c = cond (ltb c (codesIn Two)) Two (cond (ltb c (codesIn Four)) Four Nine)
 
+-- the largest of some sets, and Two of none
+unfoldable pub joinAll : List States → States
+joinAll [] = Two
+joinAll (s ∷ l) = join s (joinAll l)
+
 -- "A string's least set is the smallest that holds all its codes"
-unfoldable pub leastOf : List ℕ → States
-leastOf [] = Two
-leastOf (c ∷ cs) = join (setOf c) (leastOf cs)
+abbrev pub leastOf : List ℕ → States
+leastOf cs = joinAll (map setOf cs)
 
 -- "For width w a set needs L bytes: (w+7)/8, (w+3)/4 or (w+1)/2, rounded down"
 abbrev pub lenOf : ℕ → States → ℕ
