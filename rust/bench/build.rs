@@ -12,11 +12,11 @@ fn main() {
     println!("cargo::rustc-check-cfg=cfg(inner)");
     let here = std::env::var("CARGO_MANIFEST_DIR").expect("cargo sets CARGO_MANIFEST_DIR");
     let folder = Path::new(&here).join("../../target/staticlib");
-    println!(
-        "cargo::rerun-if-changed={}",
-        folder.join("libbench.a").display()
-    );
-    if folder.join("libbench.a").is_file() {
+    let archive = folder.join("libbench.a");
+    // The folder too: an archive that comes back as old as it was alters the folder alone.
+    println!("cargo::rerun-if-changed={}", folder.display());
+    println!("cargo::rerun-if-changed={}", archive.display());
+    if archive.is_file() {
         println!("cargo::rustc-cfg=inner");
         println!("cargo::rustc-link-search=native={}", folder.display());
         println!("cargo::rustc-link-lib=static=bench");

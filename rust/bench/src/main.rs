@@ -25,6 +25,7 @@ fn main() {
         }
     };
     println!("{}", timing::machine());
+    println!("strings: letters of the set without order, one of them none of a smaller set's");
     let wanted = |name| part.is_none_or(|part| part == name);
     if wanted("layout") {
         layout::pack();

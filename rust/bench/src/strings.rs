@@ -19,9 +19,11 @@ pub fn string(states: States, width: usize, seed: u64) -> Vec<u8> {
             .wrapping_add(1);
         (state >> 33) as usize % bound
     };
-    let mut string: Vec<u8> = (0..width).map(|_| letters[below(letters.len())]).collect();
-    string[below(width)] = own[below(own.len())];
-    string
+    let place = seed as usize % width;
+    (0..width)
+        .map(|at| if at == place { own } else { letters })
+        .map(|letters| letters[below(letters.len())])
+        .collect()
 }
 
 /// Some strings of a set to be put in a circle: none equals the one before it.

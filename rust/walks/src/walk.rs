@@ -90,6 +90,17 @@ impl Place {
         )
     }
 
+    /// The step of an `&` slice of which a copy is kept, so many with it.
+    fn copied(&self, step: &str, kept: usize) -> String {
+        let (name, lifetime, number) = (self.name(), self.lifetime, self.number_type());
+        let copy = format!(
+            "use1 W (‵ {name}-kept ⊛ ‵ {name}-kept) (shr-slice-copy 𝓤 H A W (named {lifetime}) κ{lifetime} {number} .twice {name} (slice {name} ∷ [])) $ split ! $ {}",
+            front([0, 2])
+        );
+        let others = 2..self.number + 2 + kept;
+        format!("{copy} {step} {}", front(std::iter::once(0).chain(others)))
+    }
+
     fn stays(&self) -> String {
         let (lifetime, number) = (self.lifetime, self.number_type());
         match self.parameter.form {
@@ -268,50 +279,50 @@ impl<'a> Walk<'a> {
     // ---- the proof
 
     fn modules(&self) -> String {
-        let Call {
-            name,
-            callee,
-            cites,
-            ..
-        } = self.call;
-        let result = self.result();
+        let (result, module) = (self.result(), self.result_module());
         let declared = "Rattle.yoksimert.specs.declared";
-        let proofs = "Rattle.yoksimert.proofs";
-        let cites = cites
-            .iter()
-            .map(|(module, names)| format!("use {module}.{{{names}}}"));
-        let module = self.result_module();
+        let cites = self.call.cites.iter();
+        let cites = cites.map(|(module, names)| format!("use {module}.{{{names}}}"));
         let fixed = [
             format!("use {declared}.FlatDescription.{{FlatDescription}}"),
             format!("use {declared}.{module}.{{{result}}}"),
         ];
-        let rest = [
-            "use denote.Struct.Laws as laws".to_string(),
-            format!("use {proofs}.FlatDescription as recorder"),
-            format!("use {proofs}.FlatDescription.Laws as recorder′"),
-            format!("use {proofs}.{module} as result"),
-            format!("use {proofs}.{module}.Laws as result′"),
-            format!("use {proofs}.recorder.{callee} as callee"),
-            format!("use {proofs}.recorder.{callee}.Symbol as callee-def"),
-            format!(
-                "use {proofs}.recorder.{callee}.Symbol.{{name as {}}}",
-                self.callee_key()
-            ),
-            format!("use {proofs}.recorder.{callee}.Met as callee-thm"),
-            format!(
-                "use {proofs}.recorder.{name}.Key.{{name as {}}}",
-                self.key()
-            ),
-            format!("use {proofs}.recorder.{name} as call"),
-            format!("use {proofs}.recorder.{name}.Statement as stated"),
-            format!("use {proofs}.recorder.{name}.Code as code"),
+        lines(
+            0,
+            fixed.into_iter().chain(cites).chain(self.named_modules()),
+        )
+    }
+
+    /// The modules that the walk cites by a name of its own.
+    fn named_modules(&self) -> Vec<String> {
+        let Call { name, callee, .. } = self.call;
+        let (key, callee_key) = (self.key(), self.callee_key());
+        let module = self.result_module();
+        let of_proofs = [
+            "FlatDescription as recorder".to_string(),
+            "FlatDescription.Laws as recorder′".to_string(),
+            format!("{module} as result"),
+            format!("{module}.Laws as result′"),
+            format!("recorder.{callee} as callee"),
+            format!("recorder.{callee}.Symbol as callee-def"),
+            format!("recorder.{callee}.Symbol.{{name as {callee_key}}}"),
+            format!("recorder.{callee}.Met as callee-thm"),
+            format!("recorder.{name}.Key.{{name as {key}}}"),
+            format!("recorder.{name} as call"),
+            format!("recorder.{name}.Statement as stated"),
+            format!("recorder.{name}.Code as code"),
         ];
-        lines(0, fixed.into_iter().chain(cites).chain(rest))
+        let of_proofs = of_proofs
+            .iter()
+            .map(|named| format!("use Rattle.yoksimert.proofs.{named}"));
+        std::iter::once("use denote.Struct.Laws as laws".to_string())
+            .chain(of_proofs)
+            .collect()
     }
 
     fn contracts(&self) -> String {
-        let recorder = "stay-ref (0 ∷ []) tt (plain (λ _. recorder.the-row))".to_string();
-        let stays = tuple(std::iter::once(recorder).chain(self.each(Place::stays)));
+        let recorder = "stay-ref (0 ∷ []) tt (plain (λ _. recorder.the-row))";
+        let stays = behind(recorder, self.each(Place::stays));
         format!(
             "
 abbrev stays : Stays (call.ended .signature .params) (call.ended .kept)
@@ -324,28 +335,13 @@ Callee {CONTEXT} = tripleOf 𝓤 H A callee.signature (callee.spec {CONTEXT})
         )
     }
 
+    /// What the walk is given, and the machine's values.
     fn given(&self) -> String {
         let (types, names, machines) = (self.value_types(), self.names(), self.machines());
         let lifetimes: Vec<_> = (0..self.lifetimes).map(|at| format!("κ{at}")).collect();
         let shares: Vec<_> = (0..self.lifetimes).map(|at| format!("q{at}")).collect();
         let all = |name: &str| product((0..self.lifetimes).map(|_| name.to_string()));
-        let tokens = (1..self.lifetimes).map(|at| format!("‵ (flft κ{at} q{at}) ⊛ "));
-        let tokens: String = tokens.collect();
         let bounds = self.each(Place::bound).join(" ");
-        let kept = self.of(Form::Slice).map(|place| {
-            let (name, row) = (place.name(), place.row(0));
-            format!(
-                "
-  abbrev {name}-kept : Fml
-  {name}-kept = {row} .own {name} (slice {name} ∷ [])
-"
-            )
-        });
-        let kept: String = kept.collect();
-        let all_kept = self.of(Form::Slice).rev();
-        let all_kept: String = all_kept
-            .map(|place| format!("‵ {}-kept ⊛ ", place.name()))
-            .collect();
         let vals = product(self.each(|_| "List Val".to_string()));
         format!(
             "
@@ -368,16 +364,6 @@ module _ {{M : Type 1}} (𝓤 : URA M) (H : Heap 𝓤) (A : Atoms 𝓤) (W : Giv
 
   abbrev qs : {}
   qs = {}
-
-  abbrev Post : Val → SProp 𝓤
-  Post = walkOf 𝓤 H A call.ended stays (call.clauses {CONTEXT}) .post ((κs, qs, tt, args, (vptr b o ∷ [], vals)), tt)
-
-  -- the tokens of the other lifetimes, and what is kept of the `&` slices
-  abbrev Tokens : Item 𝓤
-  Tokens = {tokens}‵ ftrue
-{kept}
-  abbrev Kept : Item 𝓤
-  Kept = {all_kept}‵ ftrue
 ",
             lifetimes.join(" "),
             shares.join(" "),
@@ -388,31 +374,44 @@ module _ {{M : Type 1}} (𝓤 : URA M) (H : Heap 𝓤) (A : Atoms 𝓤) (W : Giv
         )
     }
 
+    /// What is to be shown, and what is kept over the call.
+    fn kept(&self) -> String {
+        let tokens = (1..self.lifetimes).map(|at| format!("‵ (flft κ{at} q{at}) ⊛ "));
+        let tokens: String = tokens.collect();
+        let kept = self.of(Form::Slice).map(|place| {
+            let (name, row) = (place.name(), place.row(0));
+            format!(
+                "
+  abbrev {name}-kept : Fml
+  {name}-kept = {row} .own {name} (slice {name} ∷ [])
+"
+            )
+        });
+        let kept: String = kept.collect();
+        let all_kept = self.of(Form::Slice).rev();
+        let all_kept: String = all_kept
+            .map(|place| format!("‵ {}-kept ⊛ ", place.name()))
+            .collect();
+        format!(
+            "
+  abbrev Post : Val → SProp 𝓤
+  Post = walkOf 𝓤 H A call.ended stays (call.clauses {CONTEXT}) .post ((κs, qs, tt, args, (vptr b o ∷ [], vals)), tt)
+
+  -- the tokens of the other lifetimes, and what is kept of the `&` slices
+  abbrev Tokens : Item 𝓤
+  Tokens = {tokens}‵ ftrue
+{kept}
+  abbrev Kept : Item 𝓤
+  Kept = {all_kept}‵ ftrue
+"
+        )
+    }
+
     /// The caller has what the callee asks: the copy of the recorder, the slices, and a copy of each `&` slice.
     fn passed(&self) -> String {
         let (types, names) = (self.value_types(), self.names());
-        let count = self.places.len();
-        let mut steps = vec![vec!["fsplit ! $"; count].join(" move ! (1 ∷ []) $ ")];
-        let mut kept = 0;
-        for place in self.places.iter().rev() {
-            let mut step = "fjoin ! $".to_string();
-            if place.is(Form::Slice) {
-                let (name, lifetime, number) = (place.name(), place.lifetime, place.number_type());
-                let copy = format!(
-                    "use1 W (‵ {name}-kept ⊛ ‵ {name}-kept) (shr-slice-copy 𝓤 H A W (named {lifetime}) κ{lifetime} {number} .twice {name} (slice {name} ∷ [])) $ split ! $ {}",
-                    front([0, 2])
-                );
-                kept += 1;
-                let others = (2..place.number + 3 + kept - 1).collect::<Vec<_>>();
-                let last = front(std::iter::once(0).chain(others));
-                step = format!("{copy} {step} {last}");
-            }
-            if place.number > 1 {
-                step = format!("{step} {}", front([1, 0]));
-            }
-            steps.push(step);
-        }
-        let behind = if kept > 0 {
+        let kept = self.of(Form::Slice).count();
+        let moved = if kept > 0 {
             front((1..=kept).chain([0]))
         } else {
             String::new()
@@ -421,7 +420,7 @@ module _ {{M : Type 1}} (𝓤 : URA M) (H : Heap 𝓤) (A : Atoms 𝓤) (W : Giv
         let recorder = "recorder.the-row".to_string();
         let passed_rows = std::iter::once(recorder).chain(self.each(|place| place.row(1)));
         let passed_rows = list(passed_rows);
-        let steps = lines(6, steps);
+        let steps = lines(6, self.joined());
         format!(
             "
   -- the caller has what the callee asks
@@ -439,11 +438,30 @@ module _ {{M : Type 1}} (𝓤 : URA M) (H : Heap 𝓤) (A : Atoms 𝓤) (W : Giv
       qed W (Tokens ∷ ‵ Owned ∷ []) ∵ nothing ! $ {}{steps}
       owned ! recorder.the-row (Is recorder.the-row) (laws.makes recorder.the-type recorder′.the-plain 𝓤 H A) old _ is $ fjoin ! $ {}
       use2 W (raw (Callee {CONTEXT} .pre to-callee)) (qed W (Tokens ∷ ‵ (owns {passed_rows} passed (machine old ∷ [], vals)) ∷ []) ∵ join ! $ frame ! $ done !) $
-      frame ! $ {behind} done !
+      frame ! $ {moved} done !
 ",
             front([2, 1, 0]),
             front([1, 0]),
         )
+    }
+
+    /// What each parameter owns is split off, and joined again, the last parameter first.
+    fn joined(&self) -> Vec<String> {
+        let count = self.places.len();
+        let mut steps = vec![vec!["fsplit ! $"; count].join(" move ! (1 ∷ []) $ ")];
+        let mut kept = 0;
+        for place in self.places.iter().rev() {
+            let mut step = "fjoin ! $".to_string();
+            if place.is(Form::Slice) {
+                kept += 1;
+                step = place.copied(&step, kept);
+            }
+            if place.number > 1 {
+                step = format!("{step} {}", front([1, 0]));
+            }
+            steps.push(step);
+        }
+        steps
     }
 
     /// What closing the borrow asks of the new recorder.
@@ -468,7 +486,7 @@ module _ {{M : Type 1}} (𝓤 : URA M) (H : Heap 𝓤) (A : Atoms 𝓤) (W : Giv
 
     /// What is left at the end of the walk meets the contract.
     fn leaves(&self) -> String {
-        let (result, new, lasts) = (self.result(), self.new_recorder(), self.lasts());
+        let (result, lasts) = (self.result(), self.lasts());
         let Call { ensures, .. } = self.call;
         let lists = spaced(lasts.clone());
         let list_types = " → List ℕ".repeat(lasts.len());
@@ -481,33 +499,9 @@ module _ {{M : Type 1}} (𝓤 : URA M) (H : Heap 𝓤) (A : Atoms 𝓤) (W : Giv
             .of(Form::MutSlice)
             .map(|place| format!(" → length {0}′ ≡ length (now {0})", place.name()))
             .collect();
-        let finals = self.of(Form::MutSlice).rev().map(|place| {
-            let (name, number) = (place.name(), place.number_type());
-            format!("‵ (finally {number} ({name} .name) {name}′)")
-        });
-        let recorder = [
-            format!("‵ (fobs γ (recorder.the-row .coded .code ({new})))"),
-            "‵ (fbor κ0 (Body (mem recorder.the-row) b o γ))".to_string(),
-            "‵ (flft κ0 q0)".to_string(),
-            "Tokens".to_string(),
-        ];
-        let left = list(
-            recorder
-                .into_iter()
-                .chain(finals)
-                .chain(["Kept".to_string()]),
-        );
-        let of_altered = |place: &Place, text: String| {
-            if place.is(Form::MutSlice) {
-                text
-            } else {
-                "tt".to_string()
-            }
-        };
-        let exits = self.each(|place| of_altered(place, format!("{}′", place.name())));
-        let same = self.each(|place| of_altered(place, format!("{}-long", place.name())));
-        let exits = tuple(std::iter::once(new.to_string()).chain(exits));
-        let same = tuple(std::iter::once("tt".to_string()).chain(same));
+        let left = self.left();
+        let exits = self.of_altered(self.new_recorder(), "′");
+        let same = self.of_altered("tt", "-long");
         let steps = lines(6, self.given_back());
         format!(
             "
@@ -527,6 +521,35 @@ module _ {{M : Type 1}} (𝓤 : URA M) (H : Heap 𝓤) (A : Atoms 𝓤) (W : Giv
             front([2, 3]),
             front([1, 0]),
         )
+    }
+
+    /// The pieces that are left: the recorder's, the last lists and what is kept.
+    fn left(&self) -> String {
+        let new = self.new_recorder();
+        let finals = self.of(Form::MutSlice).rev().map(|place| {
+            let (name, number) = (place.name(), place.number_type());
+            format!("‵ (finally {number} ({name} .name) {name}′)")
+        });
+        let recorder = [
+            format!("‵ (fobs γ (recorder.the-row .coded .code ({new})))"),
+            "‵ (fbor κ0 (Body (mem recorder.the-row) b o γ))".to_string(),
+            "‵ (flft κ0 q0)".to_string(),
+            "Tokens".to_string(),
+        ];
+        let kept = "Kept".to_string();
+        list(recorder.into_iter().chain(finals).chain([kept]))
+    }
+
+    /// For the recorder the first word, for each `&mut` slice its name with the ending, and nothing for the others.
+    fn of_altered(&self, recorder: &str, ending: &str) -> String {
+        let each = self.each(|place| {
+            if place.is(Form::MutSlice) {
+                format!("{}{ending}", place.name())
+            } else {
+                "tt".to_string()
+            }
+        });
+        behind(recorder, each)
     }
 
     /// Each parameter as it is handed back, the last first.
@@ -557,21 +580,14 @@ module _ {{M : Type 1}} (𝓤 : URA M) (H : Heap 𝓤) (A : Atoms 𝓤) (W : Giv
         let rows = self.each(|place| place.row(0));
         let rows =
             list(std::iter::once("MutRef (named 0) κ0 recorder.the-row".to_string()).chain(rows));
-        let rooms: String = self
-            .slices()
-            .map(|place| {
-                let (name, number) = (place.name(), place.number_type());
-                format!("Room {number} (length (now {name})) → ")
-            })
-            .collect();
-        let room_names = self.slices().map(|place| format!("{}-room", place.name()));
-        let allocated = self.each_local(|local| format!("alloc1 ! (λ l{local}."));
-        let recorder = format!("pass1 ! (init ! {} refl (tt, tt)) $", self.cell(0, 1));
-        let passes = self.each(|place| {
-            let cell = self.cell(0, place.local());
-            format!("pass1 ! (init ! {cell} refl {}) $", place.typed())
+        let rooms = self.slices().map(|place| {
+            let (name, number) = (place.name(), place.number_type());
+            format!("Room {number} (length (now {name})) → ")
         });
+        let rooms: String = rooms.collect();
+        let room_names = self.slices().map(|place| format!("{}-room", place.name()));
         let steps = [
+            self.enters(),
             self.opens(),
             self.copies(),
             self.calls(),
@@ -585,15 +601,25 @@ module _ {{M : Type 1}} (𝓤 : URA M) (H : Heap 𝓤) (A : Atoms 𝓤) (W : Giv
     walk : {rooms}ent 𝓤 (onEntry 𝓤 H A call.signature κs qs args (vptr b o ∷ [], vals)) (WpFn 𝓤 H C Λ code.function {machines} Post)
     walk{} =
         qed W ((‵ (flft κ0 q0) ⊛ Tokens) ∷ ‵ (owns {rows} args (vptr b o ∷ [], vals)) ∷ []) ∵
-        enter ! C Λ code.function {machines} _ $
-        {} alloc0 ! $ params1 ! $
-        {recorder}{} pass0 ! ${steps}
+        enter ! C Λ code.function {machines} _ ${steps}
 ",
             self.callee_key(),
             spaced(room_names),
-            allocated.join(" "),
-            spaced(passes),
         )
+    }
+
+    /// The locals are made, and the parameters stored in theirs.
+    fn enters(&self) -> Vec<String> {
+        let allocated = self.each_local(|local| format!("alloc1 ! (λ l{local}."));
+        let recorder = format!("pass1 ! (init ! {} refl (tt, tt)) $", self.cell(0, 1));
+        let passes = self.each(|place| {
+            let cell = self.cell(0, place.local());
+            format!("pass1 ! (init ! {cell} refl {}) $", place.typed())
+        });
+        vec![
+            format!("{} alloc0 ! $ params1 ! $", allocated.join(" ")),
+            format!("{recorder}{} pass0 ! $", spaced(passes)),
+        ]
     }
 
     fn opens(&self) -> Vec<String> {
@@ -655,27 +681,7 @@ module _ {{M : Type 1}} (𝓤 : URA M) (H : Heap 𝓤) (A : Atoms 𝓤) (W : Giv
     }
 
     fn calls(&self) -> Vec<String> {
-        let result = self.result();
-        let slice_of = |place: &Place| {
-            let mut lent = self.lent_on();
-            let lent = lent.find(|(other, _)| other.number == place.number);
-            lent.map_or(place.local(), |(_, pointer)| pointer + 1)
-        };
-        let locals = self.places.iter().map(slice_of);
-        let loads = std::iter::once(self.copy()).chain(locals).map(|local| {
-            let cell = self.cell(Self::OPEN, local);
-            format!("(load ! (from ! (stop !)) (look ! {cell} refl))")
-        });
-        let loads = operands(loads);
-        let ends = self.each(|place| {
-            let list = if place.is(Form::MutSlice) {
-                "List ℕ"
-            } else {
-                "Unit {0}"
-            };
-            list.to_string()
-        });
-        let ends = product(std::iter::once("Unit {0}".to_string()).chain(ends));
+        let (result, loads, ends) = (self.result(), self.loads(), self.ends());
         let ensured = format!("(Ensured r{})", spaced(self.callee_lasts()));
         let lists = self.each(|place| {
             if place.is(Form::MutSlice) {
@@ -710,6 +716,28 @@ module _ {{M : Type 1}} (𝓤 : URA M) (H : Heap 𝓤) (A : Atoms 𝓤) (W : Giv
                 front([1])
             ),
         ]
+    }
+
+    /// The operands of the call: the copy of the recorder, and each parameter, a `&mut` slice as it is lent on.
+    fn loads(&self) -> String {
+        let slice_of = |place: &Place| {
+            let mut lent = self.lent_on();
+            let lent = lent.find(|(other, _)| other.number == place.number);
+            lent.map_or(place.local(), |(_, pointer)| pointer + 1)
+        };
+        let locals = self.places.iter().map(slice_of);
+        let loads = std::iter::once(self.copy()).chain(locals).map(|local| {
+            let cell = self.cell(Self::OPEN, local);
+            format!("(load ! (from ! (stop !)) (look ! {cell} refl))")
+        });
+        operands(loads)
+    }
+
+    /// The type of the last lists, in the callee's triple.
+    fn ends(&self) -> String {
+        let ends = self.places.iter().map(|place| place.is(Form::MutSlice));
+        let ends = std::iter::once(false).chain(ends);
+        product(ends.map(|altered| if altered { "List ℕ" } else { "Unit {0}" }.to_string()))
     }
 
     /// The context behind the call: what the result owns, the tokens, the last lists, what is kept, and the recorder's pieces.
@@ -789,19 +817,13 @@ module _ {{M : Type 1}} (𝓤 : URA M) (H : Heap 𝓤) (A : Atoms 𝓤) (W : Giv
         ]
     }
 
-    fn met(&self) -> String {
-        let (key, callee_key, lifetimes) = (self.key(), self.callee_key(), self.lifetimes);
-        let name = hyphens(self.call.name);
-        let one =
-            |first: &str, rest: Vec<String>| tuple(std::iter::once(first.to_string()).chain(rest));
-        let vals = one("ptr-vals", self.each(Place::vals));
-        let tells = one(
+    /// The walk from any values that the parameters may have.
+    fn walks(&self) -> String {
+        let (callee_key, lifetimes) = (self.callee_key(), self.lifetimes);
+        let vals = behind("ptr-vals", self.each(Place::vals));
+        let tells = behind(
             "mut-tells (named 0) (κs .0) recorder.the-row",
             self.each(Place::tells),
-        );
-        let goes = one(
-            &format!("goes-ref 𝓤 H A W {lifetimes} 0 tt (plain (λ _. recorder.the-row))"),
-            self.each(|place| place.goes(lifetimes)),
         );
         let of = |name: &str| spaced((0..lifetimes).map(|place| format!("({name}{})", at(place))));
         let args = self.each(|place| {
@@ -819,7 +841,24 @@ module _ {{M : Type 1}} (𝓤 : URA M) (H : Heap 𝓤) (A : Atoms 𝓤) (W : Giv
   walks C Λ fm known = walked 𝓤 H A call.ended stays (call.clauses {CONTEXT}) (WpFn 𝓤 H C Λ code.function) (λ κs. {vals})
       (λ κs. {tells})
       (λ κs qs bounds a _ are. via 𝓤 _ (fst∗ 𝓤 _ (emp 𝓤)) (walk 𝓤 H A W at-mem run{}{} (a .0 .ptr .0) (a .0 .ptr .1) (a .0 .name) (a .0 .now){} C Λ fm known{}))
+",
+            of("κs"),
+            of("qs"),
+            spaced(args),
+            spaced(rooms),
+        )
+    }
 
+    /// The call meets its contract.
+    fn met(&self) -> String {
+        let (key, callee_key, lifetimes) = (self.key(), self.callee_key(), self.lifetimes);
+        let name = hyphens(self.call.name);
+        let goes = behind(
+            &format!("goes-ref 𝓤 H A W {lifetimes} 0 tt (plain (λ _. recorder.the-row))"),
+            self.each(|place| place.goes(lifetimes)),
+        );
+        format!(
+            "
 meets : {{M : Type 1}} (𝓤 : URA M) (H : Heap 𝓤) (A : Atoms 𝓤) → Given 𝓤 H A → (at-mem : Memory → SProp 𝓤) (run : Routine → Fun 𝓤) (𝓣 : Tables 𝓤 H) → Triple 𝓤 (𝓣 .C {callee_key}) (Callee {CONTEXT})
     → Meets 𝓤 H A call.signature (WpFn 𝓤 H (𝓣 .C) (𝓣 .Λ) code.function) (call.spec {CONTEXT})
 meets 𝓤 H A W at-mem run 𝓣 known =
@@ -834,13 +873,14 @@ unfolding code.routine tablesOf
     (meets 𝓤 H (𝓖 .A) (givenOf 𝓤 H 𝓜 𝓖) (𝓜 .mem) (𝓡 .run) (tablesOf 𝓤 H 𝓜 (tables 𝓤 H 𝓜 𝓡 code.env))
     (cited 𝓤 H (Callee 𝓤 H (𝓖 .A) (𝓜 .mem) (𝓡 .run)) 𝓜 𝓡 code.env {callee_key} callee-def.routine code.calls-{} (callee-thm.met 𝓤 H 𝓜 𝓖 𝓡)))
 ",
-            of("κs"),
-            of("qs"),
-            spaced(args),
-            spaced(rooms),
             callee_key.trim_start_matches('#'),
         )
     }
+}
+
+/// A tuple of the recorder's item and the others'.
+fn behind(recorder: &str, others: Vec<String>) -> String {
+    tuple(std::iter::once(recorder.to_string()).chain(others))
 }
 
 fn hyphens(name: &str) -> String {
@@ -854,10 +894,12 @@ pub fn proof(call: &Call) -> String {
     let body = [
         walk.contracts(),
         walk.given(),
+        walk.kept(),
         walk.passed(),
         walk.stored(),
         walk.leaves(),
         walk.walk(),
+        walk.walks(),
         walk.met(),
     ]
     .concat();

@@ -92,7 +92,7 @@ impl<'a> SignalValueRef<'a> {
         }
     }
 
-    /// The entry's own set, the least that held its string.
+    /// The entry's own set: in a writer's record the least that holds its string, in a derived one the largest of its inputs' own sets.
     #[must_use]
     pub fn states(&self) -> Option<States> {
         self.as_bit_vec().map(|levels| levels.states())
