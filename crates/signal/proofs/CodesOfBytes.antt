@@ -23,7 +23,8 @@ use Rattle.value.proofs.Classes.{same-tests}
 use Rattle.value.proofs.Digits.{below-at, below-drop, pow-pow, number-append, number-lt, number-more, digits-length, digits-high}
 use Rattle.value.proofs.Slices.{any-append, any-snoc, overlay-nil, overlay-length, overlay-overlay}
 use Rattle.value.proofs.Tests.{by-eq}
-use Rattle.signal.specs.Parts.{codesAt, Levels}
+use Rattle.signal.specs.Decode.{codesAt}
+use Rattle.signal.specs.Parts.{Levels}
 
 -- ---- digits behind digits
 

@@ -38,8 +38,8 @@ use Rattle.signal.specs.declared.EqualAnswer.the-variants as answer
 use Rattle.signal.proofs.EqualAnswer.{the-type as equal-type}
 use Rattle.signal.specs.Compare.{sameValue, agree, walked, compareRecords, equalOf}
 use Rattle.signal.specs.declared.OwnStates.the-variants as own
-use Rattle.signal.specs.Decode.{Indexed, entryAt, entriesFrom, markIn, setIn, levelPart, levelsIn, hasBadMark, hasBadCode, textIn}
-use Rattle.signal.specs.Parts.{ownStates, codesAt, Whole, Inside, badNumber, Sound, pairOf}
+use Rattle.signal.specs.Decode.{Indexed, entryAt, entriesFrom, markIn, setIn, levelPart, levelsIn, hasBadMark, hasBadCode, textIn, codesAt}
+use Rattle.signal.specs.Parts.{ownStates, Whole, Inside, badNumber, Sound, pairOf}
 use Rattle.signal.proofs.Decoding.{codes-length}
 use Rattle.signal.proofs.Reading.{Owned, owned, bad-told, entry-within}
 

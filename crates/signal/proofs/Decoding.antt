@@ -21,8 +21,8 @@ use Rattle.value.proofs.Levels.{len-room, none-foreign}
 use Rattle.value.proofs.Tests.{or-both}
 use Rattle.value.proofs.Slices.{any-at, any-snoc, overlay-store}
 use Rattle.signal.specs.declared.OwnStates.the-variants as own
-use Rattle.signal.specs.Decode.{markIn}
-use Rattle.signal.specs.Parts.{ownStates, codesAt, Levels}
+use Rattle.signal.specs.Decode.{markIn, codesAt}
+use Rattle.signal.specs.Parts.{ownStates, Levels}
 
 -- the set of a mark that is neither 0 nor 1
 pub set-rest : (m : ℕ) → (m ≡ 0 → ⊥) → (m ≡ 1 → ⊥) → Nine ≡ setAt m

@@ -31,10 +31,10 @@ use Rattle.fst.proofs.LastEntry.{part-part}
 use Rattle.fst.proofs.Rooms.{stands}
 use Rattle.signal.specs.declared.OwnStates.the-variants as own
 use Rattle.signal.specs.declared.EntryAnswer.the-variants as answer
-use Rattle.signal.specs.Decode.{entryAt, markIn, setIn, levelPart, levelsIn, hasBadMark, hasBadCode}
+use Rattle.signal.specs.Decode.{entryAt, markIn, setIn, levelPart, levelsIn, hasBadMark, hasBadCode, codesAt}
 use Rattle.fst.specs.declared.Refusal.the-variants.{BadMark}
 use Rattle.signal.specs.Read.{Entry, kindOf, entryIn, readEntry, partOf, entryOf, hasNoText, readText}
-use Rattle.signal.specs.Parts.{ownStates, codesAt, Levels, Whole, Inside, answerIn, partIn, textStored}
+use Rattle.signal.specs.Parts.{ownStates, Levels, Whole, Inside, answerIn, partIn, textStored}
 
 -- ---- one entry of a bit vector
 

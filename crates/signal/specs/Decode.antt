@@ -54,11 +54,15 @@ levelPart Event v = v
 levelPart Real v = v
 levelPart (BitVector w M) v = drop (entrySize w M - lenOf w (setIn (BitVector w M) v)) v
 
--- the codes of the levels in it, first character highest
+-- the codes of w levels of a set in the bytes that hold them, first character highest
+abbrev pub codesAt : ℕ → States → List ℕ → List ℕ
+codesAt w S levels = digits (2 ^ bitsOf S) w (number 256 levels)
+
+-- the codes of an entry's levels
 unfoldable pub levelsIn : Encoding → List ℕ → List ℕ
 levelsIn Event v = []
 levelsIn Real v = []
-levelsIn (BitVector w M) v = digits (2 ^ bitsOf (setIn (BitVector w M) v)) w (number 256 (levelPart (BitVector w M) v))
+levelsIn (BitVector w M) v = codesAt w (setIn (BitVector w M) v) (levelPart (BitVector w M) v)
 
 -- "9: mark 3, or above the largest set"; 3 is above every set's
 unfoldable pub hasBadMark : Encoding → List ℕ → Bool

@@ -7,9 +7,8 @@ use mathlib.Core.List.{List, [], _∷_}
 use lib.Dec.{ltb, eqb}
 use lib.ListN.{length}
 use Rattle.value.specs.declared.States.{States}
-use Rattle.value.specs.Digits.{number, digits}
 use Rattle.value.specs.Slice.{overlay}
-use Rattle.value.specs.Level.{markOf, bitsOf, lenOf, setAt}
+use Rattle.value.specs.Level.{markOf, lenOf, setAt}
 use Rattle.fst.specs.declared.Encoding.{Encoding}
 use Rattle.fst.specs.declared.Encoding.the-variants.{BitVector}
 use Rattle.fst.specs.declared.Refusal.the-variants.{BadMark}
@@ -29,10 +28,6 @@ use Rattle.signal.specs.Compare.{sameValue}
 -- an entry's own set, or none where its mark is bad
 unfoldable pub ownStates : States → List ℕ → OwnStates
 ownStates M v = cond (ltb (markOf M) (markIn M v)) own.Bad (own.Own (setAt (markIn M v)))
-
--- the codes of w levels of a set in the bytes that hold them
-abbrev pub codesAt : ℕ → States → List ℕ → List ℕ
-codesAt w S levels = digits (2 ^ bitsOf S) w (number 256 levels)
 
 -- bytes that hold w levels of a set
 pub record Levels (w : ℕ) (S : States) (levels : List ℕ) : Type 0 where

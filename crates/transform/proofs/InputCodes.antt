@@ -24,8 +24,8 @@ use Rattle.fst.specs.declared.Encoding.{Encoding}
 use Rattle.fst.specs.declared.Encoding.the-variants.{Event, Real, BitVector}
 use Rattle.fst.specs.Record.{Kept, keptIn, usedSize, widthStands}
 use Rattle.fst.proofs.Records.{not-bad}
-use Rattle.signal.specs.Decode.{Indexed, entriesIn, levelsIn, hasBadCode}
-use Rattle.signal.specs.Parts.{codesAt, Levels}
+use Rattle.signal.specs.Decode.{Indexed, entriesIn, levelsIn, hasBadCode, codesAt}
+use Rattle.signal.specs.Parts.{Levels}
 use Rattle.signal.specs.Read.{widthOf}
 use Rattle.signal.proofs.Decoding.{level-in, level-code}
 use Rattle.transform.specs.declared.Extract.{Extract}

@@ -26,8 +26,8 @@ use Rattle.fst.specs.declared.Encoding.the-variants.{Event, Real, BitVector}
 use Rattle.fst.specs.declared.Description.{Description}
 use Rattle.fst.specs.Record.{Kept, keptIn, usedSize, isBadBytes, fitsBytes, maximum}
 use Rattle.fst.proofs.Records.{Fits, fits-room, not-bad}
-use Rattle.signal.specs.Decode.{Indexed, entryAt, entriesFrom, entriesIn, markIn, levelPart, levelsIn, hasBadMark}
-use Rattle.signal.specs.Parts.{ownStates, codesAt}
+use Rattle.signal.specs.Decode.{Indexed, entryAt, entriesFrom, entriesIn, markIn, levelPart, levelsIn, hasBadMark, codesAt}
+use Rattle.signal.specs.Parts.{ownStates}
 use Rattle.signal.specs.Read.{hasNoText, widthOf}
 use Rattle.signal.proofs.Decoding.{codes-length, few-bits}
 use Rattle.signal.proofs.Reading.{vector, Owned, owned, whole}

@@ -20,7 +20,7 @@ use Rattle.layout.specs.Entry.{entrySize, entryOf}
 use Rattle.layout.specs.Writable.{Writable, entryFrom}
 use Rattle.layout.proofs.EntryLaws.{EntryLaws}
 use Rattle.layout.proofs.Entries.{laws}
-use Rattle.signal.specs.Parts.{codesAt}
+use Rattle.signal.specs.Decode.{codesAt}
 use Rattle.signal.proofs.Decoding.{codes-length}
 use Rattle.transform.specs.declared.Extract.{Extract}
 use Rattle.transform.specs.declared.Inputs.{Inputs}

@@ -15,9 +15,9 @@ use Rattle.signal.proofs.Decoding.{codes-below}
 use Rattle.fst.specs.declared.Encoding.{Encoding}
 use Rattle.fst.specs.declared.Encoding.the-variants.{Event, Real, BitVector}
 use Rattle.signal.specs.declared.OwnStates.the-variants as own
-use Rattle.signal.specs.Decode.{markIn, setIn, levelPart, levelsIn, hasBadMark}
+use Rattle.signal.specs.Decode.{markIn, setIn, levelPart, levelsIn, hasBadMark, codesAt}
 use Rattle.signal.specs.Read.{widthOf, hasNoText}
-use Rattle.signal.specs.Parts.{ownStates, codesAt, Levels, Whole}
+use Rattle.signal.specs.Parts.{ownStates, Levels, Whole}
 use Rattle.signal.proofs.Reading.{vector, some, Owned, owned}
 
 module _ (w : ℕ) (M : States) (v : List ℕ) where

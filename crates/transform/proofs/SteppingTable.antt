@@ -16,8 +16,8 @@ use Rattle.value.proofs.Tests.{by-eq}
 use Rattle.fst.specs.declared.Encoding.{Encoding}
 use Rattle.fst.specs.declared.Encoding.the-variants.{Event, Real, BitVector}
 use Rattle.fst.specs.Record.{Kept, largestIn, sizeOf}
-use Rattle.signal.specs.Decode.{entryAt, markIn}
-use Rattle.signal.specs.Parts.{codesAt, Levels}
+use Rattle.signal.specs.Decode.{entryAt, markIn, codesAt}
+use Rattle.signal.specs.Parts.{Levels}
 use Rattle.signal.specs.Read.{widthOf, hasNoText}
 use Rattle.transform.specs.declared.Input.{Input}
 use Rattle.transform.specs.declared.Inputs.{Inputs}

@@ -4,7 +4,7 @@ use lib.ListN.{take}
 use Prim.Native.Nat.{_-_, _≤_}
 use mathlib.Core.Path.{_≡_}
 use Rattle.signal.proofs.Comparing.{alike-none, alike-not, alike-more, alike-all}
-use Rattle.signal.specs.Parts.{codesAt}
+use Rattle.signal.specs.Decode.{codesAt}
 use native.Mathlib.Omega.{arith}
 use Rattle.signal.proofs.Decoding.{codes-length}
 use denote.Ref.{now}

@@ -11,7 +11,7 @@ use lib.Seq.{take-all}
 use Rattle.value.specs.Level.{letterOf, textOf}
 use Rattle.value.specs.Slice.{part, overlay}
 use Rattle.value.proofs.Slices.{overlay-nil}
-use Rattle.signal.specs.Parts.{codesAt}
+use Rattle.signal.specs.Decode.{codesAt}
 use Rattle.transform.proofs.SteppingBytes.{stored-more}
 use Rattle.transform.proofs.SteppingEntry.{chars-length, char-at}
 use Rattle.transform.proofs.steps.write_levels.Statement.{statement}

@@ -10,7 +10,8 @@ use lib.ListN.{getD}
 use Rattle.value.specs.declared.States.{States}
 use Rattle.value.specs.Level.{textOf}
 use Rattle.value.specs.Slice.{overlay}
-use Rattle.signal.specs.Parts.{codesAt, Levels}
+use Rattle.signal.specs.Decode.{codesAt}
+use Rattle.signal.specs.Parts.{Levels}
 use Rattle.transform.specs.Stepping.{inputIn, cursor, levelsNow}
 use Rattle.transform.proofs.SteppingEntry.{picked-is}
 use Rattle.transform.proofs.SteppingTable.{found-fits, found-some, found-room, found-levels}

@@ -10,7 +10,7 @@ use denote.Ref.{now}
 use lib.ListN.{take}
 use lib.Seq.{take-all}
 use Rattle.value.specs.Level.{hasNoCode}
-use Rattle.signal.specs.Parts.{codesAt}
+use Rattle.signal.specs.Decode.{codesAt}
 use Rattle.signal.proofs.Decoding.{none-yet, bad-at, none-more}
 use Rattle.transform.specs.Derive.{pickedOf}
 use Rattle.transform.proofs.InputTests.{pick-count, pick-code}
