@@ -196,6 +196,24 @@ fn equals_bytes(states: States, codes: &[u8; 32], value: &[u8], bytes: &[u8], at
     true
 }
 
+// The same of a string of 0 and 1, eight characters to a byte: apart, so that it is compiled for eight.
+fn equals_bits(value: &[u8], bytes: &[u8], at: usize) -> bool
+    requires { ⌜ Whole States.Two (now value) (length (now bytes)) at ⌝ }
+    ensures { λ r. ⌜ r ≡ same (part at (lenOf (length (now (value .entry))) States.Two) (now (bytes .entry))) (packedFrom States.Two 0 (now (value .entry))) ⌝ }
+{
+    let mut from = 0;
+    let mut k = 0;
+    while from < value.len() {
+        let to = from + 8;
+        if bytes[at + k] != byte_of_bits(&value[from..to]) {
+            return false;
+        }
+        from = to;
+        k += 1;
+    }
+    true
+}
+
 // `write_bytes` for each set apart, so that each is compiled for its own number of bits.
 fn write_whole(states: States, value: &[u8], out: &mut [u8], at: usize) -> usize
     requires { ⌜ Whole states (now value) (length (now out)) at ⌝ }
@@ -217,7 +235,7 @@ fn equals_whole(states: States, value: &[u8], bytes: &[u8], at: usize) -> bool
 {
     let codes = value::LOW_BITS;
     match states {
-        States::Two => equals_bytes(States::Two, &codes, value, bytes, at),
+        States::Two => equals_bits(value, bytes, at),
         States::Four => equals_bytes(States::Four, &codes, value, bytes, at),
         States::Nine => equals_bytes(States::Nine, &codes, value, bytes, at),
     }
