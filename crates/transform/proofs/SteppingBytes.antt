@@ -6,6 +6,8 @@ use mathlib.Core.List.{List, [], _∷_, _++_}
 use Prim.Native.Nat.{ℕ, zero, suc, _+_, _-_, _*_, _≤_, _<_}
 use native.Mathlib.Numerals.{add-one}
 use native.Mathlib.Omega.{arith}
+use borrow.Author.Tests.{lt-ltb, le-ltb}
+use lib.Dec.{ltb}
 use lib.ListN.{length, take, getD, set}
 use lib.Seq.{take-suc, length-take-le}
 use Rattle.value.specs.declared.States.{States}
@@ -36,15 +38,26 @@ one-before zero last entry n = absurd (n refl)
 one-before (suc k) last entry n = refl
 
 -- a place past the end is none
-pub set-past : (l : List ℕ) (n v : ℕ) → length l ≤ n → l ≡ set l n v
+set-past : (l : List ℕ) (n v : ℕ) → length l ≤ n → l ≡ set l n v
 set-past [] n v h = refl
 set-past (x ∷ l) zero v h = absurd (omega arith)
 set-past (x ∷ l) (suc n) v h = ap (λ (r : List ℕ). x ∷ r) (set-past l n v (omega arith))
 
-module _ (entry : List ℕ) (size stride count index : ℕ) (bytes indices : List ℕ) where
-  pub append-none : repeatsLast count (lastAt size stride count bytes) entry ≡ true → Appended entry size stride count index bytes indices count bytes indices
-  append-none h = record { counted = rw h; stored = rw h; indexed = rw h }
+-- the index of an entry that is new
+module _ (count kept index : ℕ) (indices : List ℕ) where
+  pub put-none : kept ≤ count → indices ≡ cond (ltb count kept) (set indices count index) indices
+  put-none h = rw (le-ltb count kept h)
 
-  pub append-one : repeatsLast count (lastAt size stride count bytes) entry ≡ false → (new places : List ℕ) → new ≡ overlay bytes (count * stride) entry → places ≡ set indices count index
-      → Appended entry size stride count index bytes indices (count + 1) new places
-  append-one h new places e f = record { counted = rw h; stored = e ∙ rw h; indexed = f ∙ rw h }
+  pub put-past : count < kept → length indices ≤ count → indices ≡ cond (ltb count kept) (set indices count index) indices
+  put-past h p = set-past indices count index p ∙ rw (lt-ltb count kept h)
+
+  pub put-one : count < kept → set indices count index ≡ cond (ltb count kept) (set indices count index) indices
+  put-one h = rw (lt-ltb count kept h)
+
+module _ (entry : List ℕ) (size stride count : ℕ) (bytes : List ℕ) where
+  pub append-none : repeatsLast count (lastAt size stride count bytes) entry ≡ true → Appended entry size stride count bytes count bytes
+  append-none h = record { counted = rw h; stored = rw h }
+
+  pub append-one : repeatsLast count (lastAt size stride count bytes) entry ≡ false → (new : List ℕ) → new ≡ overlay bytes (count * stride) entry
+      → Appended entry size stride count bytes (count + 1) new
+  append-one h new e = record { counted = rw h; stored = e ∙ rw h }

@@ -1,14 +1,13 @@
 -- The characters of a step, gathered piece by piece, and the entry that they make.
 -- Assumes nothing.
 use mathlib.Core.Path.{_≡_, refl, sym, ap, ap₂, _∙_}
-use mathlib.Core.List.{List, [], _∷_, _++_, map, map-append, append-nil}
+use mathlib.Core.List.{List, [], _∷_, _++_, map, map-append}
 use Prim.Native.Nat.{ℕ, zero, suc, _+_, _-_, _*_, _^_, _≤_, _<_}
-use native.Mathlib.Nat.{zero-add}
 use native.Mathlib.Numerals.{add-one}
 use native.Mathlib.Omega.{arith}
 use lib.ListN.{length, take, drop, getD, length-map, length-append, drop-of-length-le}
 use lib.Pow.{pow-mono}
-use lib.Seq.{drop-cons, drop-length}
+use lib.Seq.{drop-cons}
 use Rattle.value.specs.declared.States.{States}
 use Rattle.value.specs.Digits.{Below}
 use Rattle.value.specs.Slice.{part, overlay, sum}
@@ -18,8 +17,6 @@ use Rattle.value.proofs.Levels.{bits-up, codes-text, fold-text}
 use Rattle.value.proofs.Slices.{part-length, part-at, part-overlay, overlay-nil, overlay-overlay}
 use Rattle.layout.specs.Entry.{entrySize, entryOf}
 use Rattle.layout.specs.Writable.{Writable, entryFrom}
-use Rattle.layout.proofs.EntryLaws.{EntryLaws}
-use Rattle.layout.proofs.Entries.{laws}
 use Rattle.signal.specs.Decode.{codesAt}
 use Rattle.signal.proofs.Decoding.{codes-length}
 use Rattle.transform.specs.declared.Extract.{Extract}

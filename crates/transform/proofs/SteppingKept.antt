@@ -2,12 +2,14 @@
 -- Assumes nothing.
 use mathlib.Core.Path.{_≡_, refl, sym, ap, ap₂, _∙_, subst}
 use mathlib.Core.Bool.{Bool, true, false, cond}
-use mathlib.Core.List.{List, [], _∷_, _++_, map, foldl, map-append}
-use Prim.Native.Nat.{ℕ, zero, suc, _+_, _-_, _*_, _≤_, _<_}
-use native.Mathlib.Nat.{mul-le-mul-right, suc-mul, zero-add}
+use mathlib.Core.List.{List, [], _∷_, _++_, map, map-append}
+use Prim.Native.Nat.{ℕ, _+_, _-_, _*_, _≤_, _<_}
+use native.Mathlib.Nat.{zero-add}
 use native.Mathlib.Numerals.{add-one}
 use native.Mathlib.Omega.{arith}
-use lib.ListN.{length, take, drop, getD, set, replicate, length-map}
+use borrow.Author.Tests.{lt-ltb, le-ltb}
+use lib.Dec.{ltb}
+use lib.ListN.{length, take, set, replicate, length-map}
 use Rattle.value.specs.declared.States.{States}
 use Rattle.value.specs.Slice.{part, overlay, same}
 use Rattle.value.specs.Level.{markOf}
@@ -24,14 +26,13 @@ use Rattle.signal.specs.declared.NextIndex.the-variants.{Absent, At}
 use Rattle.transform.specs.declared.Inputs.{Inputs}
 use Rattle.transform.specs.declared.DerivedBitVecSignal.{DerivedBitVecSignal}
 use Rattle.transform.specs.Piece.{extractOf, piecesOf}
-use Rattle.transform.specs.Derive.{derivedList, largestAmong, sameStep}
+use Rattle.transform.specs.Derive.{derivedList, sameStep}
 use Rattle.transform.specs.Tests.{keptAll, Derivable}
 use Rattle.transform.specs.Stepping.{cursorsOf, soonest, advanced, largestNow, pickedNow, Stepped, Takeable, Taken, repeatsLast, lastAt, Appendable, Appended, Roomy, Stored}
-use Rattle.transform.proofs.Pieces.{Sized, sound}
-use Rattle.transform.proofs.InputTests.{fit}
+use Rattle.transform.proofs.Pieces.{Sized}
 use Rattle.transform.proofs.SteppingEntry.{pickable, front-long, writable, entry-told}
 use Rattle.transform.proofs.SteppingTracks.{tracks, toCome}
-use Rattle.transform.proofs.SteppingSources.{indexable, stepped, set-in, wide, narrow}
+use Rattle.transform.proofs.SteppingSources.{indexable, stepped, set-in, wide}
 use Rattle.transform.proofs.SteppingWalk.{M, stepAt, Walk, walk-start, walk-done, walk-on, on-begun, on-within, step-entry, dropped, added, come-fewer, walk-few}
 
 ends-last : {A : Type 0} (like : A → A → Bool) (l : List A) (s x : A) → endsLike like (l ++ (s ∷ [])) x ≡ like s x
@@ -207,12 +208,12 @@ module _ (d : DerivedBitVecSignal) (inputs : Inputs) (bytes indices : List ℕ) 
             pub appendable-as : Appendable K S value z stride count nowBytes
             appendable-as = rw (g, f) appendable
 
-            pub appended-as : (r : ℕ) (newBytes newIndices : List ℕ) → Appended (entryFrom K S value) z stride count i nowBytes nowIndices r newBytes newIndices
-                → Appended entry sz stride count i nowBytes nowIndices r newBytes newIndices
-            appended-as r newBytes newIndices a = rw (g, f) at a
+            pub appended-as : (r : ℕ) (newBytes : List ℕ) → Appended (entryFrom K S value) z stride count nowBytes r newBytes → Appended entry sz stride count nowBytes r newBytes
+            appended-as r newBytes a = rw (g, f) at a
 
           module _ (b : stride ≡ sz → nowBytes ≡ overlay outBytes 0 (entriesOf w N kept)) (x : length steps ≤ length outIndices → nowIndices ≡ overlay outIndices 0 (map indexOf kept))
-              (r : ℕ) (newBytes newIndices : List ℕ) (a : Appended entry sz stride count i nowBytes nowIndices r newBytes newIndices) (next : NextIndex) (e : next ≡ soonest indices (cursorsOf inputs q)) where
+              (r : ℕ) (newBytes newIndices : List ℕ) (a : Appended entry sz stride count nowBytes r newBytes)
+              (y : newIndices ≡ cond (ltb count r) (set nowIndices count i) nowIndices) (next : NextIndex) (e : next ≡ soonest indices (cursorsOf inputs q)) where
             dropped-on : again ≡ true → Writing stride outBytes outIndices q next r newBytes newIndices
             dropped-on h =
                 let n : r ≡ count = a .counted ∙ rw h in
@@ -222,10 +223,10 @@ module _ (d : DerivedBitVecSignal) (inputs : Inputs) (bytes indices : List ℕ) 
                   left = left - 1;
                   walk = on-with next e kept (drops (sym told ∙ h));
                   counted = n ∙ c;
-                  ended = λ y. rw (n, m) (ends y);
+                  ended = λ o. rw (n, m) (ends o);
                   long = ap length m ∙ long;
                   stored = λ f. m ∙ b f;
-                  indexed = λ g. a .indexed ∙ rw h (x g);
+                  indexed = λ g. y ∙ rw (n, le-ltb count count (omega arith)) (x g);
                 }
 
             added-on : again ≡ false → Writing stride outBytes outIndices q next r newBytes newIndices
@@ -242,11 +243,11 @@ module _ (d : DerivedBitVecSignal) (inputs : Inputs) (bytes indices : List ℕ) 
                   walk = on-with next e (kept ++ (s ∷ [])) (adds (sym told ∙ h));
                   counted = n ∙ rw length-snoc (omega arith);
                   ended =
-                      λ y.
+                      λ o.
                       rw (n, m)
-                      (ends-last (sameEntry w N) kept s y
-                      ∙ ap (λ (l : List ℕ). same l (entryFor w N y)) (sym (there ∙ entry-is))
-                      ∙ sym (repeats-more count (lastAt sz stride (count + 1) (overlay nowBytes (count * stride) entry)) (entryFor w N y)));
+                      (ends-last (sameEntry w N) kept s o
+                      ∙ ap (λ (l : List ℕ). same l (entryFor w N o)) (sym (there ∙ entry-is))
+                      ∙ sym (repeats-more count (lastAt sz stride (count + 1) (overlay nowBytes (count * stride) entry)) (entryFor w N o)));
                   long = ap length m ∙ overlay-length nowBytes entry (count * stride) (rw entry-long f) ∙ long;
                   stored =
                       λ v.
@@ -260,7 +261,7 @@ module _ (d : DerivedBitVecSignal) (inputs : Inputs) (bytes indices : List ℕ) 
                       ∙ ap (overlay outBytes 0) (ap (λ (z : List ℕ). E ++ z) entry-is ∙ sym (entries-snoc w N kept s));
                   indexed =
                       λ g.
-                      a .indexed ∙ ap (λ (y : Bool). cond y nowIndices (set nowIndices count i)) h
+                      y ∙ ap (λ (m : ℕ). cond (ltb count m) (set nowIndices count i) nowIndices) n ∙ ap (λ (o : Bool). cond o (set nowIndices count i) nowIndices) (lt-ltb count (count + 1) (omega arith))
                       ∙ ap (λ (l : List ℕ). set l count i) (x g)
                       ∙ overlay-store outIndices 0 (map indexOf kept) count i (rw (zero-add, length-map kept indexOf) (sym c)) (omega (arith, new-few h))
                       ∙ ap (overlay outIndices 0) (sym (map-append indexOf kept (s ∷ [])));
@@ -269,6 +270,6 @@ module _ (d : DerivedBitVecSignal) (inputs : Inputs) (bytes indices : List ℕ) 
             pub writing-on : Writing stride outBytes outIndices q next r newBytes newIndices
             writing-on = go again refl
               where
-                go : (y : Bool) → again ≡ y → Writing stride outBytes outIndices q next r newBytes newIndices
+                go : (o : Bool) → again ≡ o → Writing stride outBytes outIndices q next r newBytes newIndices
                 go true h = dropped-on h
                 go false h = added-on h

@@ -2,7 +2,7 @@
 -- Assumes nothing.
 use mathlib.Core.Path.{_≡_}
 use Prim.Native.Nat.{ℕ, zero, suc, _+_, _-_, _*_, _≤_, _<_}
-use mathlib.Core.Bool.{Bool, true, false, cond}
+use mathlib.Core.Bool.{Bool, false, cond}
 use mathlib.Core.List.{List, [], _∷_, _++_, map}
 use lib.Dec.{eqb}
 use lib.ListN.{length, drop, getD, set}
@@ -212,10 +212,9 @@ pub record Appendable (M S : States) (value : List ℕ) (size stride count : ℕ
   pub last : 0 < count → (count - 1) * stride + size ≤ length bytes
   pub room : repeatsLast count (lastAt size stride count bytes) (entryFrom M S value) ≡ false → count * stride + size ≤ length bytes
 
-pub record Appended (entry : List ℕ) (size stride count index : ℕ) (bytes indices : List ℕ) (r : ℕ) (bytes′ indices′ : List ℕ) : Type 0 where
+pub record Appended (entry : List ℕ) (size stride count : ℕ) (bytes : List ℕ) (r : ℕ) (bytes′ : List ℕ) : Type 0 where
   pub counted : r ≡ cond (repeatsLast count (lastAt size stride count bytes) entry) count (count + 1)
   pub stored : bytes′ ≡ cond (repeatsLast count (lastAt size stride count bytes) entry) bytes (overlay bytes (count * stride) entry)
-  pub indexed : indices′ ≡ cond (repeatsLast count (lastAt size stride count bytes) entry) indices (set indices count index)
 
 -- ---- all steps
 

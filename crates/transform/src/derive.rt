@@ -1,10 +1,13 @@
 // Derive, after wellen's `transform_bv_signal` and `on_change`.
 ghost use mathlib.Core.Path.{_≡_};
+ghost use mathlib.Core.Bool.{cond};
 ghost use Prim.Native.Nat.{_-_, _*_, _≤_, _<_};
+ghost use lib.Dec.{ltb};
 ghost use lib.ListN.{length, set};
 ghost use Rattle.layout.specs.Entry.{entrySize};
-ghost use Rattle.layout.specs.Writable.{Writable, Numbered, entryFrom};
-ghost use Rattle.fst.specs.Refusal.{madeOf};
+ghost use Rattle.layout.specs.Writable.{Writable, entryFrom};
+ghost use Rattle.fst.specs.declared.Encoding.the-variants.{BitVector};
+ghost use Rattle.fst.specs.Refusal.{given, madeOf};
 ghost use Rattle.transform.specs.Piece.{piecesOf};
 ghost use Rattle.transform.specs.Derive.{inputsOf, derivedList, Derived, derive};
 ghost use Rattle.transform.specs.Tests.{keptAll, Derivable};
@@ -25,10 +28,9 @@ use fst::Made;
 use fst::Refusal;
 use fst::Verdict;
 use fst::record::MAXIMUM;
+use layout::entry::entry_equals;
 use layout::entry::entry_size;
-use layout::number::entry_number;
-use layout::number::equals_entry;
-use layout::number::store_entry;
+use layout::entry::write_entry;
 use signal::NextIndex;
 use value::States;
 
@@ -86,72 +88,52 @@ fn repeats_last(
     max_states: States,
     states: States,
     value: &[u8],
-    size: usize,
     stride: usize,
-    number: u64,
     bytes: &[u8],
 ) -> bool
-    requires { ⌜ (0 < count → Writable «max_states» states (now value) (length (now bytes)) ((count - 1) * stride)) × Numbered «max_states» states (now value) size number ⌝ }
-    ensures { λ r. ⌜ r ≡ repeatsLast count (lastAt size stride count (now (bytes .entry))) (entryFrom «max_states» states (now (value .entry))) ⌝ }
+    requires { ⌜ (0 < count → Writable «max_states» states (now value) (length (now bytes)) ((count - 1) * stride)) ⌝ }
+    ensures { λ r. ⌜ r ≡ repeatsLast count (lastAt (entrySize (length (now (value .entry))) «max_states») stride count (now (bytes .entry))) (entryFrom «max_states» states (now (value .entry))) ⌝ }
 {
     if count == 0 {
         return false;
     }
     let at = (count as usize - 1) * stride;
-    equals_entry(max_states, states, value, size, number, bytes, at)
+    entry_equals(max_states, states, value, bytes, at)
 }
 
-// Stores an index in its place, where there is one.
-fn put_index(indices: &mut [u32], n: usize, index: u32)
-    ensures { λ _. ⌜ now (indices .exit) ≡ set (now (indices .entry)) n index ⌝ }
-{
-    if indices.len() <= n {
-        return;
-    }
-    indices[n] = index;
-}
-
-// Stores the entry of a string behind so many others, a stride apart, and its index, unless it repeats the last. Returns how many there
-// are then.
+// Stores the entry of a string behind so many others, a stride apart, unless it repeats the last. Returns how many there are then. Not by
+// its number: the functions for that are compiled into Add a change, which is called more often, while nothing else calls them.
 fn append_step(
     count: u32,
     max_states: States,
     states: States,
     value: &[u8],
-    size: usize,
     stride: usize,
-    index: u32,
     out_bytes: &mut [u8],
-    out_indices: &mut [u32],
 ) -> u32
-    requires { ⌜ Appendable «max_states» states (now value) size stride count (now «out_bytes») ⌝ }
-    ensures { λ r. ⌜ Appended (entryFrom «max_states» states (now (value .entry))) size stride count index (now («out_bytes» .entry)) (now («out_indices» .entry)) r (now («out_bytes» .exit)) (now («out_indices» .exit)) ⌝ }
+    requires { ⌜ Appendable «max_states» states (now value) (entrySize (length (now value)) «max_states») stride count (now «out_bytes») ⌝ }
+    ensures { λ r. ⌜ Appended (entryFrom «max_states» states (now (value .entry))) (entrySize (length (now (value .entry))) «max_states») stride count (now («out_bytes» .entry)) r (now («out_bytes» .exit)) ⌝ }
 {
-    let number = entry_number(max_states, states, value, size);
-    if repeats_last(
-        count,
-        max_states,
-        states,
-        value,
-        size,
-        stride,
-        number,
-        out_bytes,
-    ) {
+    if repeats_last(count, max_states, states, value, stride, out_bytes) {
         return count;
     }
-    let n = count as usize;
-    store_entry(
-        max_states,
-        states,
-        value,
-        size,
-        number,
-        out_bytes,
-        n * stride,
-    );
-    put_index(out_indices, n, index);
+    let at = count as usize * stride;
+    write_entry(max_states, states, value, out_bytes, at);
     count + 1
+}
+
+// Stores the index of the last of `kept` entries, where there were `count` before it and there is a place.
+fn put_index(count: u32, kept: u32, index: u32, indices: &mut [u32])
+    ensures { λ _. ⌜ now (indices .exit) ≡ cond (ltb count kept) (set (now (indices .entry)) count index) (now (indices .entry)) ⌝ }
+{
+    if kept <= count {
+        return;
+    }
+    let n = count as usize;
+    if indices.len() <= n {
+        return;
+    }
+    indices[n] = index;
 }
 
 // Stores the steps that are kept, a stride apart, and their indices. Returns how many there are. At the stride 0 each takes the place of
@@ -171,7 +153,6 @@ fn write_steps(
 {
     let bits = derivation.bits;
     let pieces = &bits[0..derivation.piece_count as usize];
-    let size = entry_size(max_states, derivation.width);
     let table = table_of(inputs);
     let numbers = table.numbers;
     let starts = table.starts;
@@ -195,17 +176,9 @@ fn write_steps(
             &mut text,
         );
         let value = &text[..derivation.width as usize];
-        count = append_step(
-            count,
-            max_states,
-            states,
-            value,
-            size,
-            stride,
-            index,
-            out_bytes,
-            out_indices,
-        );
+        let kept = append_step(count, max_states, states, value, stride, out_bytes);
+        put_index(count, kept, index, out_indices);
+        count = kept;
         next = next_index(inputs.count, &numbers, &starts, indices, &begun);
     }
 }
@@ -275,6 +248,16 @@ fn steps_fit(
     has_room(count, size, out_bytes, 0, out_indices, 0)
 }
 
+// The description of so many levels' entries as an answer.
+fn record_of(width: u32, max_states: States, count: u32) -> Made
+    ensures { λ r. ⌜ madeOf r ≡ given (record { encoding = BitVector width «max_states»; count = count }) ⌝ }
+{
+    Made::Record(Description {
+        encoding: Encoding::BitVector { width, max_states },
+        count,
+    })
+}
+
 // Derive where no number before 7 refuses. Nothing is stored before it is known that all fits.
 fn derive_all(
     derivation: DerivedBitVecSignal,
@@ -311,10 +294,7 @@ fn derive_all(
             out_bytes,
             out_indices,
         );
-        return Made::Record(Description {
-            encoding: Encoding::BitVector { width, max_states },
-            count,
-        });
+        return record_of(width, max_states, count);
     }
     Made::Refused(Refusal::NoRoom)
 }

@@ -1,13 +1,10 @@
 -- `transform::derive::derive_all` meets its contract.
 -- Assumes nothing.
 use mathlib.Core.Path.{_≡_, _∙_}
-use Prim.Native.Nat.{_≤_}
 use denote.Ref.{now}
-use lib.ListN.{length}
 use Rattle.transform.specs.Derive.{inputsOf, largestAmong}
 use Rattle.transform.specs.Tests.{keptAll}
 use Rattle.transform.specs.Stepping.{Walkable}
-use Rattle.transform.proofs.Pieces.{Sized}
 use Rattle.transform.proofs.Walks.{sized}
 use Rattle.transform.proofs.InputTests.{slotted}
 use Rattle.transform.proofs.SteppingDerive.{no-room, roomy, all-stored}
@@ -48,6 +45,9 @@ write-steps-requires c κs =
     let a = s .args in
     (walkable g, rw (z .entry-size .ensures) (roomy (a .derivation) (a .inputs) (now (a .bytes)) (now (a .indices)) (now (a .out-bytes)) (now (a .out-indices)) (s .pre) (g .largest-states .result) (largest g) _ (f .steps-fit .ensures) (t .if1 .taken) .0))
 
+record-of-requires : tie.Need-record-of-requires
+record-of-requires c κs = search needs
+
 same-length : tie.Need-same-length
 same-length c = search needs
 
@@ -56,7 +56,7 @@ same-length-2 c = search needs
 
 returns : tie.Need-returns
 returns c =
-    let w = c .before .before .before .before in
+    let w = c .before .before .before .before .before in
     let z = w .before .before .before in
     let t = z .before in
     let f = t .before in
@@ -64,7 +64,8 @@ returns c =
     let s = start g in
     let a = s .args in
     let y = w .write-steps .ensures .1 (z .entry-size .ensures) (roomy (a .derivation) (a .inputs) (now (a .bytes)) (now (a .indices)) (now (a .out-bytes)) (now (a .out-indices)) (s .pre) (g .largest-states .result) (largest g) _ (f .steps-fit .ensures) (t .if1 .taken) .1) in
-    all-stored (a .derivation) (a .inputs) (now (a .bytes)) (now (a .indices)) (now (a .out-bytes)) (now (a .out-indices)) (s .pre) (g .largest-states .result) (largest g) _ (f .steps-fit .ensures) (t .if1 .taken) _ (w .write-steps .ensures .0) _ _ (y .entries) (y .times)
+    rw (c .record-of .ensures)
+    (all-stored (a .derivation) (a .inputs) (now (a .bytes)) (now (a .indices)) (now (a .out-bytes)) (now (a .out-indices)) (s .pre) (g .largest-states .result) (largest g) _ (f .steps-fit .ensures) (t .if1 .taken) _ (w .write-steps .ensures .0) _ _ (y .entries) (y .times))
 
 returns-2 : tie.Need-returns-2
 returns-2 c =
@@ -82,6 +83,7 @@ derive-all-spec =
     steps-fit-requires
     entry-size-requires
     write-steps-requires
+    record-of-requires
     same-length
     same-length-2
     returns

@@ -2,11 +2,11 @@
 -- Assumes nothing.
 use mathlib.Core.Path.{_≡_, refl, sym, ap, ap₂, _∙_, subst}
 use mathlib.Core.List.{List, map}
-use Prim.Native.Nat.{ℕ, _+_, _-_, _≤_, _<_}
+use Prim.Native.Nat.{ℕ, _-_, _≤_}
 use native.Mathlib.Omega.{arith}
 use borrow.Author.Needs.{needs}
 use denote.Ref.{now}
-use lib.ListN.{length, take, drop, length-replicate}
+use lib.ListN.{length, take, length-replicate}
 use lib.Seq.{length-take-le}
 use Rattle.value.specs.declared.States.{States}
 use Rattle.value.specs.Slice.{overlay}
@@ -16,9 +16,8 @@ use Rattle.runs.specs.Runs.{Step, indexOf, entriesOf}
 use Rattle.transform.specs.Piece.{piecesOf}
 use Rattle.transform.specs.Derive.{derivedList}
 use Rattle.transform.specs.Tests.{keptAll}
-use Rattle.signal.specs.declared.NextIndex.{NextIndex}
-use Rattle.signal.specs.declared.NextIndex.the-variants.{Absent, At}
-use Rattle.transform.specs.Stepping.{inputsIn, cursorsOf, Walkable, Indexable, Takeable, Taken, Roomy, Stored}
+use Rattle.signal.specs.declared.NextIndex.the-variants.{At}
+use Rattle.transform.specs.Stepping.{inputsIn, cursorsOf, Walkable, Indexable, Roomy}
 use Rattle.transform.specs.declared.Inputs.{Inputs}
 use Rattle.transform.proofs.Walks.{sized}
 use Rattle.transform.proofs.Pieces.{Sized}
@@ -32,7 +31,7 @@ use Rattle.transform.proofs.derive.write_steps.Statement.{statement}
 use Rattle.transform.proofs.derive.write_steps.Tie as tie
 
 abbrev Inv-loop : tie.InvT-loop
-Inv-loop derivation inputs bytes indices max-states stride out-bytes₀ out-indices₀ pieces size numbers starts text₀ begun₀ next₀ count₀ out-bytes out-indices text begun next count =
+Inv-loop derivation inputs bytes indices max-states stride out-bytes₀ out-indices₀ pieces numbers starts text₀ begun₀ next₀ count₀ out-bytes out-indices text begun next count =
     Writing derivation (inputsIn (inputs .count) numbers starts) bytes indices stride out-bytes₀ out-indices₀ begun next count out-bytes out-indices
     × (length begun ≡ 8)
     × (pieces ≡ take (derivation .«piece_count») (derivation .bits))
@@ -40,7 +39,7 @@ Inv-loop derivation inputs bytes indices max-states stride out-bytes₀ out-indi
     × (length text ≡ 4096)
 
 abbrev μ-loop : tie.MeasureT-loop
-μ-loop derivation inputs bytes indices max-states stride out-bytes₀ out-indices₀ pieces size numbers starts text₀ begun₀ next₀ count₀ out-bytes out-indices text begun next count =
+μ-loop derivation inputs bytes indices max-states stride out-bytes₀ out-indices₀ pieces numbers starts text₀ begun₀ next₀ count₀ out-bytes out-indices text begun next count =
     toCome (tracks bytes indices (cursorsOf (inputsIn (inputs .count) numbers starts) begun))
 
 -- what is known all along
@@ -54,7 +53,7 @@ module _ (s : tie.Start Inv-loop μ-loop) where
 -- what is known once the table is made
 module _ (m : tie.After-table-of Inv-loop μ-loop) where
   abbrev begin : tie.Start Inv-loop μ-loop
-  begin = m .before .before .before .before .before .before .before .before .before .before
+  begin = m .before .before .before .before .before .before .before .before .before
 
   abbrev its : Inputs
   its = inputsIn (begin .args .inputs .count) (m .table-of .result .numbers) (m .table-of .result .starts)
@@ -128,12 +127,9 @@ part-pieces-end c =
     let s = c .before .before .before .before .before .before .before in
     omega (arith, few-pieces (s .args .derivation) (s .args .inputs) (now (s .args .bytes)) (now (s .args .indices)) (s .pre .0 .derivable) (slots s) (size s), size s .bits)
 
-entry-size-requires : tie.Need-entry-size-requires Inv-loop μ-loop
-entry-size-requires c κs = search needs
-
 table-of-requires : tie.Need-table-of-requires Inv-loop μ-loop
 table-of-requires c κs =
-    let s = c .before .before .before .before .before .before .before .before .before in
+    let s = c .before .before .before .before .before .before .before .before in
     vectors (s .args .derivation) (s .args .inputs) (now (s .args .bytes)) (now (s .args .indices)) (s .pre .0 .derivable) (slots s) (size s)
 
 slice-aggregate-next-index : tie.Need-slice-aggregate-next-index Inv-loop μ-loop
@@ -219,30 +215,33 @@ slice-aggregate-value c = sym (length-take-le _ _ (wide-text (c .before .before 
 
 append-step-requires : tie.Need-append-step-requires Inv-loop μ-loop
 append-step-requires c κs =
-    let t = c .before .before .before .before .before in
+    let t = c .before .before .before .before in
     let v = l (k t) in
     let s = start (k t) in
     let m = made-of (k t) in
     let a = s .args in
     appendable-as (a .derivation) (its m) (now (a .bytes)) (now (a .indices)) (walkable m .derivable) refl (size s) (v .loop .begun) (index (k t)) _ _ (walk (k t)) _ (v .loop .inv .2) (v .loop .text) (q t) (t .take-step .result) (text t) (t .take-step .ensures)
     (a .stride) (now (a .out-bytes)) (now (a .out-indices)) (room m) (v .loop .count) (v .loop .out-bytes) (v .loop .out-indices) (v .loop .inv .0 .counted) (v .loop .inv .0 .ended) (v .loop .inv .0 .long)
-    (a .max-states) (walkable m .largest) _ (m .before .entry-size .ensures)
+    (a .max-states) (walkable m .largest) _ (ap (λ (n : ℕ). entrySize n (a .max-states)) (length-take-le _ _ (wide-text t)))
+
+put-index-requires : tie.Need-put-index-requires Inv-loop μ-loop
+put-index-requires c κs = search needs
 
 slice-aggregate-next-index-3 : tie.Need-slice-aggregate-next-index-3 Inv-loop μ-loop
-slice-aggregate-next-index-3 c = sym (made-of (k (c .before .before .before .before .before .before .before .before .before .before .before)) .table-of .ensures .long .held .numbered)
+slice-aggregate-next-index-3 c = sym (made-of (k (c .before .before .before .before .before .before .before .before .before .before .before .before)) .table-of .ensures .long .held .numbered)
 
 slice-aggregate-next-index-4 : tie.Need-slice-aggregate-next-index-4 Inv-loop μ-loop
-slice-aggregate-next-index-4 c = sym (made-of (k (c .before .before .before .before .before .before .before .before .before .before .before .before)) .table-of .ensures .long .held .started)
+slice-aggregate-next-index-4 c = sym (made-of (k (c .before .before .before .before .before .before .before .before .before .before .before .before .before)) .table-of .ensures .long .held .started)
 
 next-index-requires-2 : tie.Need-next-index-requires-2 Inv-loop μ-loop
 next-index-requires-2 c κs =
-    let t = c .before .before .before .before .before .before .before .before .before .before .before .before .before in
+    let t = c .before .before .before .before .before .before .before .before .before .before .before .before .before .before in
     let m = made-of (k t) in
     (m .table-of .ensures .long, can-index m, t .take-step .ensures .places)
 
 loop-less : tie.Need-loop-less Inv-loop μ-loop
 loop-less c =
-    let t = c .before .before .before .before .before .before .before .before .before .before .before .before .before .before in
+    let t = c .before .before .before .before .before .before .before .before .before .before .before .before .before .before .before in
     let v = l (k t) in
     let s = start (k t) in
     let m = made-of (k t) in
@@ -251,8 +250,9 @@ loop-less c =
 
 loop-again : tie.Need-loop-again Inv-loop μ-loop
 loop-again c =
-    let g = c .before .before .before .before .before .before .before .before in
-    let t = g .before .before .before .before .before .before in
+    let g = c .before .before .before .before .before .before .before .before .before .before in
+    let t = g .before .before .before .before .before in
+    let h = c .before .before .before .before .before .before in
     let v = l (k t) in
     let s = start (k t) in
     let m = made-of (k t) in
@@ -262,11 +262,12 @@ loop-again c =
           (v .loop .inv .0 .stored) (v .loop .inv .0 .indexed) _ _ _
           (appended-as (a .derivation) (its m) (now (a .bytes)) (now (a .indices)) (walkable m .derivable) refl (size s) (v .loop .begun) (index (k t)) _ _ (walk (k t)) _ (v .loop .inv .2) (v .loop .text) (q t) (t .take-step .result) (text t) (t .take-step .ensures)
           (a .stride) (now (a .out-bytes)) (now (a .out-indices)) (room m) (v .loop .count) (v .loop .out-bytes) (v .loop .out-indices) (v .loop .inv .0 .counted) (v .loop .inv .0 .ended) (v .loop .inv .0 .long)
-          (a .max-states) (walkable m .largest) _ (m .before .entry-size .ensures) _ _ _ (g .append-step .ensures))
+          (a .max-states) (walkable m .largest) _ (ap (λ (n : ℕ). entrySize n (a .max-states)) (length-take-le _ _ (wide-text t))) _ _ (g .append-step .ensures))
+          (h .put-index .ensures)
           _ (c .next-index2 .ensures),
       t .take-step .ensures .places,
       v .loop .inv .2,
-      g .append-step .kept .1 .1 .1 .1 .1 .1 .1 .1 .0 ∙ v .loop .inv .3,
+      h .put-index .kept .1 .1 .1 .0 ∙ v .loop .inv .3,
       text-long t,
     )
 
@@ -280,7 +281,6 @@ write-steps-spec =
     sub-pieces
     part-pieces-start
     part-pieces-end
-    entry-size-requires
     table-of-requires
     slice-aggregate-next-index
     slice-aggregate-next-index-2
@@ -299,6 +299,7 @@ write-steps-spec =
     array-share-prefix-text
     slice-aggregate-value
     append-step-requires
+    put-index-requires
     slice-aggregate-next-index-3
     slice-aggregate-next-index-4
     next-index-requires-2
