@@ -64,7 +64,7 @@ pub fn code_at(width: u32, states: States, levels: &[u8], i: u32) -> u8
 }
 
 // More than 0 for a byte of two codes of which one is 9 to 15. It has no jumps, so that a loop over it is compiled to wide instructions.
-fn bad_bits(byte: u8) -> u8
+pub fn bad_bits(byte: u8) -> u8
     ensures { λ r. ⌜ ltb 0 r ≡ hasNoCode (digits 16 2 byte) ⌝ }
 {
     ((byte & 0x77) + 0x77) & byte & 0x88

@@ -1,17 +1,17 @@
 -- Whether an input has a number that is no code: by whole bytes, and what that says of each piece.
 -- Assumes nothing.
 use mathlib.Core.Path.{_≡_, refl, sym, ap, ap₂, _∙_}
-use mathlib.Core.Bool.{Bool, true, false}
+use mathlib.Core.Bool.{Bool, true, false, not}
 use mathlib.Core.List.{List, [], _∷_}
 use Prim.Native.Nat.{ℕ, zero, suc, _+_, _-_, _*_, _/_, _%_, _^_, _≤_, _<_, min}
 use native.Mathlib.Omega.{arith}
-use borrow.Author.Tests.{eq-eqb, ltb-true}
+use borrow.Author.Tests.{le-ltb, ltb-true}
 use lib.Bits.{bitAnd, bitOr, and-le-l, and-le-r, and-mask, or-add-and}
 use lib.Dec.{eqb, ltb, leb, leb→le}
 use lib.ListN.{length, getD}
 use Rattle.value.specs.declared.States.{States}
 use Rattle.value.specs.declared.States.the-variants.{Two, Four, Nine}
-use Rattle.value.specs.Digits.{Below}
+use Rattle.value.specs.Digits.{digits, Below}
 use Rattle.value.specs.Slice.{part, any}
 use Rattle.value.specs.Level.{bitsOf, hasNoCode}
 use Rattle.value.specs.Answer.{levelAt}
@@ -40,16 +40,13 @@ use Rattle.transform.proofs.SteppingLevels.{levels-length}
 
 -- ---- one byte
 
-pub under-mask : (b : ℕ) → bitAnd b 119 + 119 < 256
-under-mask b = omega (arith, and-le-r b 119)
-
-abbrev beside : ℕ → Bool
-beside b = eqb (bitAnd (bitAnd (bitAnd b 119 + 119) b) 136) 0
-
-pub two-codes : (b : ℕ) → b < 256 → bitAnd (bitAnd (bitAnd b 119 + 119) b) 136 ≡ 0 → TwoCodes b
-two-codes b h e =
-    let z = eq-eqb (bitAnd (bitAnd (bitAnd b 119 + 119) b) 136) 0 e in
-    (ltb-true (b / 16) 9 (each-byte beside (λ (n : ℕ). ltb (n / 16) 9) tt b h z), ltb-true (b % 16) 9 (each-byte beside (λ (n : ℕ). ltb (n % 16) 9) tt b h z))
+pub two-codes : (b r : ℕ) → b < 256 → ltb 0 r ≡ hasNoCode (digits 16 2 b) → r ≡ 0 → TwoCodes b
+unfolding digits any
+two-codes b r h e z =
+    let n : not (hasNoCode (digits 16 2 b)) ≡ true = ap not (sym e ∙ le-ltb 0 r (omega arith)) in (
+      ltb-true (b / 16) 9 (each-byte (λ (n : ℕ). not (hasNoCode (digits 16 2 n))) (λ (n : ℕ). ltb (n / 16) 9) tt b h n),
+      ltb-true (b % 16) 9 (each-byte (λ (n : ℕ). not (hasNoCode (digits 16 2 n))) (λ (n : ℕ). ltb (n % 16) 9) tt b h n),
+    )
 
 pub or-zero : (a b : ℕ) → bitOr a b ≡ 0 → (a ≡ 0) × (b ≡ 0)
 or-zero a b e =

@@ -26,6 +26,7 @@ use fst::Encoding;
 use fst::Refusal;
 use fst::Verdict;
 use fst::record::is_bad;
+use signal::decode::bad_bits;
 use signal::decode::code_at;
 use signal::decode::level_part;
 use signal::decode::mark_in;
@@ -217,13 +218,6 @@ fn any_bad_level(extract: Extract, width: u32, states: States, levels: &[u8]) ->
     false
 }
 
-// 0 where both levels of a byte are codes. It has no jump, so that a loop over it is compiled to wide instructions.
-fn beside_codes(byte: u8) -> u8
-    ensures { λ r. ⌜ (r ≡ 0 → TwoCodes byte) ⌝ }
-{
-    ((byte & 0x77) + 0x77) & byte & 0x88
-}
-
 // Whether all levels of bytes under the set Nine are codes.
 fn are_codes(levels: &[u8]) -> bool
     ensures { λ r. ⌜ (r ≡ true → (k : ℕ) → k < length (now (levels .entry)) → TwoCodes (getD (now (levels .entry)) k 0)) ⌝ }
@@ -231,7 +225,7 @@ fn are_codes(levels: &[u8]) -> bool
     let mut union: u8 = 0;
     let mut k = 0;
     while k < levels.len() {
-        union |= beside_codes(levels[k]);
+        union |= bad_bits(levels[k]);
         k += 1;
     }
     union == 0

@@ -6,9 +6,10 @@ use native.Mathlib.Omega.{arith}
 use borrow.Author.Count.{below-more}
 use borrow.Author.Needs.{needs}
 use borrow.Author.Tests.{eqb-true}
+use denote.Ref.{now}
 use lib.ListN.{length, getD}
 use Rattle.transform.specs.Tests.{TwoCodes}
-use Rattle.transform.proofs.InputCodes.{or-zero}
+use Rattle.transform.proofs.InputCodes.{two-codes, or-zero}
 use Rattle.transform.proofs.tests.are_codes.Statement.{statement}
 use Rattle.transform.proofs.tests.are_codes.Tie as tie
 
@@ -21,11 +22,11 @@ abbrev μ-loop : tie.MeasureT-loop
 loop-holds : tie.Need-loop-holds Inv-loop μ-loop
 loop-holds c = (omega arith, λ e j h. absurd (omega arith))
 
-shared-slice-read-beside-codes : tie.Need-shared-slice-read-beside-codes Inv-loop μ-loop
-shared-slice-read-beside-codes c = omega arith
+shared-slice-read-bad-bits : tie.Need-shared-slice-read-bad-bits Inv-loop μ-loop
+shared-slice-read-bad-bits c = omega arith
 
-beside-codes-requires : tie.Need-beside-codes-requires Inv-loop μ-loop
-beside-codes-requires c κs = search needs
+bad-bits-requires : tie.Need-bad-bits-requires Inv-loop μ-loop
+bad-bits-requires c κs = search needs
 
 add-k : tie.Need-add-k Inv-loop μ-loop
 add-k c = omega arith
@@ -36,7 +37,7 @@ loop-less c = omega arith
 loop-again : tie.Need-loop-again Inv-loop μ-loop
 loop-again c =
     let l = c .before .before .before in
-    (omega arith, λ e. let z = or-zero (l .loop .union) (c .beside-codes .result) e in below-more _ (l .loop .k) (l .loop .inv .1 (z .0)) (c .beside-codes .ensures (z .1)))
+    (omega arith, λ e. let z = or-zero (l .loop .union) (c .bad-bits .result) e in below-more _ (l .loop .k) (l .loop .inv .1 (z .0)) (two-codes (getD (now (l .before .before .args .levels)) (l .loop .k) 0) _ (omega (arith, c .before .shared-slice-known2 .given (l .loop .k))) (c .bad-bits .ensures) (z .1)))
 
 returns : tie.Need-returns Inv-loop μ-loop
 returns c t k h = let l = c .before in l .loop .inv .1 (eqb-true (l .loop .union) 0 t) k (omega arith)
@@ -48,8 +49,8 @@ are-codes-spec =
     Inv-loop
     μ-loop
     loop-holds
-    shared-slice-read-beside-codes
-    beside-codes-requires
+    shared-slice-read-bad-bits
+    bad-bits-requires
     add-k
     loop-less
     loop-again
