@@ -5,7 +5,7 @@ ghost use Prim.Native.Nat.{_-_, _*_, _≤_, _<_};
 ghost use lib.Dec.{ltb};
 ghost use lib.ListN.{length, set};
 ghost use Rattle.layout.specs.Entry.{entrySize};
-ghost use Rattle.layout.specs.Writable.{Writable, entryFrom};
+ghost use Rattle.layout.specs.Writable.{Writable, Numbered, entryFrom};
 ghost use Rattle.fst.specs.declared.Encoding.the-variants.{BitVector};
 ghost use Rattle.fst.specs.Refusal.{given, madeOf};
 ghost use Rattle.transform.specs.Piece.{piecesOf};
@@ -28,9 +28,10 @@ use fst::Made;
 use fst::Refusal;
 use fst::Verdict;
 use fst::record::MAXIMUM;
-use layout::entry::entry_equals;
 use layout::entry::entry_size;
-use layout::entry::write_entry;
+use layout::number::entry_number;
+use layout::number::equals_entry;
+use layout::number::store_entry;
 use signal::NextIndex;
 use value::States;
 
@@ -88,37 +89,49 @@ fn repeats_last(
     max_states: States,
     states: States,
     value: &[u8],
+    size: usize,
     stride: usize,
+    number: u64,
     bytes: &[u8],
 ) -> bool
-    requires { ⌜ (0 < count → Writable «max_states» states (now value) (length (now bytes)) ((count - 1) * stride)) ⌝ }
-    ensures { λ r. ⌜ r ≡ repeatsLast count (lastAt (entrySize (length (now (value .entry))) «max_states») stride count (now (bytes .entry))) (entryFrom «max_states» states (now (value .entry))) ⌝ }
+    requires { ⌜ (0 < count → Writable «max_states» states (now value) (length (now bytes)) ((count - 1) * stride)) × Numbered «max_states» states (now value) size number ⌝ }
+    ensures { λ r. ⌜ r ≡ repeatsLast count (lastAt size stride count (now (bytes .entry))) (entryFrom «max_states» states (now (value .entry))) ⌝ }
 {
     if count == 0 {
         return false;
     }
     let at = (count as usize - 1) * stride;
-    entry_equals(max_states, states, value, bytes, at)
+    equals_entry(max_states, states, value, size, number, bytes, at)
 }
 
-// Stores the entry of a string behind so many others, a stride apart, unless it repeats the last. Returns how many there are then. Not by
-// its number: the functions for that are compiled into Add a change, which is called more often, while nothing else calls them.
+// Stores the entry of a string behind so many others, a stride apart, unless it repeats the last. Returns how many there are then.
 fn append_step(
     count: u32,
     max_states: States,
     states: States,
     value: &[u8],
+    size: usize,
     stride: usize,
     out_bytes: &mut [u8],
 ) -> u32
-    requires { ⌜ Appendable «max_states» states (now value) (entrySize (length (now value)) «max_states») stride count (now «out_bytes») ⌝ }
-    ensures { λ r. ⌜ Appended (entryFrom «max_states» states (now (value .entry))) (entrySize (length (now (value .entry))) «max_states») stride count (now («out_bytes» .entry)) r (now («out_bytes» .exit)) ⌝ }
+    requires { ⌜ Appendable «max_states» states (now value) size stride count (now «out_bytes») ⌝ }
+    ensures { λ r. ⌜ Appended (entryFrom «max_states» states (now (value .entry))) size stride count (now («out_bytes» .entry)) r (now («out_bytes» .exit)) ⌝ }
 {
-    if repeats_last(count, max_states, states, value, stride, out_bytes) {
+    let number = entry_number(max_states, states, value, size);
+    if repeats_last(
+        count,
+        max_states,
+        states,
+        value,
+        size,
+        stride,
+        number,
+        out_bytes,
+    ) {
         return count;
     }
     let at = count as usize * stride;
-    write_entry(max_states, states, value, out_bytes, at);
+    store_entry(max_states, states, value, size, number, out_bytes, at);
     count + 1
 }
 
@@ -153,6 +166,7 @@ fn write_steps(
 {
     let bits = derivation.bits;
     let pieces = &bits[0..derivation.piece_count as usize];
+    let size = entry_size(max_states, derivation.width);
     let table = table_of(inputs);
     let numbers = table.numbers;
     let starts = table.starts;
@@ -176,7 +190,7 @@ fn write_steps(
             &mut text,
         );
         let value = &text[..derivation.width as usize];
-        let kept = append_step(count, max_states, states, value, stride, out_bytes);
+        let kept = append_step(count, max_states, states, value, size, stride, out_bytes);
         put_index(count, kept, index, out_indices);
         count = kept;
         next = next_index(inputs.count, &numbers, &starts, indices, &begun);

@@ -1,12 +1,12 @@
 -- `transform::derive::repeats_last` meets its contract.
 -- Assumes nothing.
-use mathlib.Core.Path.{_∙_}
-use Prim.Native.Nat.{_-_, _*_}
+use mathlib.Core.Path.{sym, ap, _∙_}
+use Prim.Native.Nat.{ℕ, _-_, _*_}
 use native.Mathlib.Omega.{arith}
 use denote.Ref.{now}
 use lib.ListN.{length}
-use Rattle.layout.specs.Entry.{entrySize}
-use Rattle.layout.specs.Writable.{Writable}
+use Rattle.value.specs.Slice.{part, same}
+use Rattle.layout.specs.Writable.{Writable, entryFrom}
 use Rattle.transform.specs.Stepping.{lastAt}
 use Rattle.transform.proofs.SteppingBytes.{none-before, one-before}
 use borrow.Author.Needs.{needs}
@@ -19,7 +19,7 @@ module _ (e : tie.Else1) where
   start = e .before .before .before
 
   there : Writable (start .args .max-states) (start .args .states) (now (start .args .value)) (length (now (start .args .bytes))) ((start .args .count - 1) * start .args .stride)
-  there = start .pre (omega (arith, e .if1 .left))
+  there = start .pre .0 (omega (arith, e .if1 .left))
 
 returns : tie.Need-returns
 returns c = let s = c .before .before .before in none-before (s .args .count) _ _ (c .if1 .taken)
@@ -30,14 +30,16 @@ sub-at c = search needs
 mul-at : tie.Need-mul-at
 mul-at c = omega (arith, there c .fits)
 
-entry-equals-requires : tie.Need-entry-equals-requires
-entry-equals-requires c κs = there c
+equals-entry-requires : tie.Need-equals-entry-requires
+equals-entry-requires c κs = (there c, start c .pre .1)
 
 returns-2 : tie.Need-returns-2
 returns-2 c =
     let e = c .before in
     let a = start e .args in
-    c .entry-equals .ensures ∙ one-before (a .count) (lastAt (entrySize (length (now (a .value))) (a .max-states)) (a .stride) (a .count) (now (a .bytes))) _ (e .if1 .left)
+    c .equals-entry .ensures
+    ∙ ap (λ (n : ℕ). same (part ((a .count - 1) * a .stride) n (now (a .bytes))) (entryFrom (a .max-states) (a .states) (now (a .value)))) (sym (start e .pre .1 .sized))
+    ∙ one-before (a .count) (lastAt (a .size) (a .stride) (a .count) (now (a .bytes))) _ (e .if1 .left)
 
 pub repeats-last-spec : {M : Type 1} → statement M
-repeats-last-spec = tie.close (tie.spec returns sub-at mul-at entry-equals-requires returns-2)
+repeats-last-spec = tie.close (tie.spec returns sub-at mul-at equals-entry-requires returns-2)

@@ -31,7 +31,7 @@ use Rattle.transform.proofs.derive.write_steps.Statement.{statement}
 use Rattle.transform.proofs.derive.write_steps.Tie as tie
 
 abbrev Inv-loop : tie.InvT-loop
-Inv-loop derivation inputs bytes indices max-states stride out-bytes₀ out-indices₀ pieces numbers starts text₀ begun₀ next₀ count₀ out-bytes out-indices text begun next count =
+Inv-loop derivation inputs bytes indices max-states stride out-bytes₀ out-indices₀ pieces size numbers starts text₀ begun₀ next₀ count₀ out-bytes out-indices text begun next count =
     Writing derivation (inputsIn (inputs .count) numbers starts) bytes indices stride out-bytes₀ out-indices₀ begun next count out-bytes out-indices
     × (length begun ≡ 8)
     × (pieces ≡ take (derivation .«piece_count») (derivation .bits))
@@ -39,7 +39,7 @@ Inv-loop derivation inputs bytes indices max-states stride out-bytes₀ out-indi
     × (length text ≡ 4096)
 
 abbrev μ-loop : tie.MeasureT-loop
-μ-loop derivation inputs bytes indices max-states stride out-bytes₀ out-indices₀ pieces numbers starts text₀ begun₀ next₀ count₀ out-bytes out-indices text begun next count =
+μ-loop derivation inputs bytes indices max-states stride out-bytes₀ out-indices₀ pieces size numbers starts text₀ begun₀ next₀ count₀ out-bytes out-indices text begun next count =
     toCome (tracks bytes indices (cursorsOf (inputsIn (inputs .count) numbers starts) begun))
 
 -- what is known all along
@@ -53,7 +53,7 @@ module _ (s : tie.Start Inv-loop μ-loop) where
 -- what is known once the table is made
 module _ (m : tie.After-table-of Inv-loop μ-loop) where
   abbrev begin : tie.Start Inv-loop μ-loop
-  begin = m .before .before .before .before .before .before .before .before .before
+  begin = m .before .before .before .before .before .before .before .before .before .before
 
   abbrev its : Inputs
   its = inputsIn (begin .args .inputs .count) (m .table-of .result .numbers) (m .table-of .result .starts)
@@ -127,9 +127,12 @@ part-pieces-end c =
     let s = c .before .before .before .before .before .before .before in
     omega (arith, few-pieces (s .args .derivation) (s .args .inputs) (now (s .args .bytes)) (now (s .args .indices)) (s .pre .0 .derivable) (slots s) (size s), size s .bits)
 
+entry-size-requires : tie.Need-entry-size-requires Inv-loop μ-loop
+entry-size-requires c κs = search needs
+
 table-of-requires : tie.Need-table-of-requires Inv-loop μ-loop
 table-of-requires c κs =
-    let s = c .before .before .before .before .before .before .before .before in
+    let s = c .before .before .before .before .before .before .before .before .before in
     vectors (s .args .derivation) (s .args .inputs) (now (s .args .bytes)) (now (s .args .indices)) (s .pre .0 .derivable) (slots s) (size s)
 
 slice-aggregate-next-index : tie.Need-slice-aggregate-next-index Inv-loop μ-loop
@@ -222,7 +225,7 @@ append-step-requires c κs =
     let a = s .args in
     appendable-as (a .derivation) (its m) (now (a .bytes)) (now (a .indices)) (walkable m .derivable) refl (size s) (v .loop .begun) (index (k t)) _ _ (walk (k t)) _ (v .loop .inv .2) (v .loop .text) (q t) (t .take-step .result) (text t) (t .take-step .ensures)
     (a .stride) (now (a .out-bytes)) (now (a .out-indices)) (room m) (v .loop .count) (v .loop .out-bytes) (v .loop .out-indices) (v .loop .inv .0 .counted) (v .loop .inv .0 .ended) (v .loop .inv .0 .long)
-    (a .max-states) (walkable m .largest) _ (ap (λ (n : ℕ). entrySize n (a .max-states)) (length-take-le _ _ (wide-text t)))
+    (a .max-states) (walkable m .largest) _ (m .before .entry-size .ensures)
 
 put-index-requires : tie.Need-put-index-requires Inv-loop μ-loop
 put-index-requires c κs = search needs
@@ -262,7 +265,7 @@ loop-again c =
           (v .loop .inv .0 .stored) (v .loop .inv .0 .indexed) _ _ _
           (appended-as (a .derivation) (its m) (now (a .bytes)) (now (a .indices)) (walkable m .derivable) refl (size s) (v .loop .begun) (index (k t)) _ _ (walk (k t)) _ (v .loop .inv .2) (v .loop .text) (q t) (t .take-step .result) (text t) (t .take-step .ensures)
           (a .stride) (now (a .out-bytes)) (now (a .out-indices)) (room m) (v .loop .count) (v .loop .out-bytes) (v .loop .out-indices) (v .loop .inv .0 .counted) (v .loop .inv .0 .ended) (v .loop .inv .0 .long)
-          (a .max-states) (walkable m .largest) _ (ap (λ (n : ℕ). entrySize n (a .max-states)) (length-take-le _ _ (wide-text t))) _ _ (g .append-step .ensures))
+          (a .max-states) (walkable m .largest) _ (m .before .entry-size .ensures) _ _ (g .append-step .ensures))
           (h .put-index .ensures)
           _ (c .next-index2 .ensures),
       t .take-step .ensures .places,
@@ -281,6 +284,7 @@ write-steps-spec =
     sub-pieces
     part-pieces-start
     part-pieces-end
+    entry-size-requires
     table-of-requires
     slice-aggregate-next-index
     slice-aggregate-next-index-2
