@@ -4,6 +4,9 @@ use std::time::{Duration, Instant};
 
 const ROUNDS: u32 = 15;
 
+/// Rounds go on for so long at least: other work of the machine may slow all those of a few milliseconds.
+const LEAST: Duration = Duration::from_millis(150);
+
 /// The shortest time of a round. `prepare` is not timed.
 pub fn best(prepare: impl FnMut(), round: impl FnMut()) -> Duration {
     best_of(ROUNDS, prepare, round)
@@ -12,7 +15,9 @@ pub fn best(prepare: impl FnMut(), round: impl FnMut()) -> Duration {
 /// The same of so many rounds.
 pub fn best_of(rounds: u32, mut prepare: impl FnMut(), mut round: impl FnMut()) -> Duration {
     let mut shortest = Duration::MAX;
-    for _ in 0..rounds {
+    let (begin, mut done) = (Instant::now(), 0);
+    while done < rounds || begin.elapsed() < LEAST {
+        done += 1;
         prepare();
         let start = Instant::now();
         round();
@@ -35,5 +40,8 @@ pub fn machine() -> String {
         .unwrap_or_else(|| "unknown processor".to_string());
     let load = read("/proc/loadavg");
     let load = load.split(' ').next().unwrap_or("unknown").to_string();
-    format!("machine: {model}, load {load} over the last minute; best of {ROUNDS} rounds")
+    let least = LEAST.as_millis();
+    format!(
+        "machine: {model}, load {load} over the last minute; the best of several rounds, over {least} ms or more"
+    )
 }
