@@ -1,7 +1,7 @@
 //! Derive beside wellen's `transform_bv_signal`.
 
 use crate::strings::{SETS, string};
-use crate::timing::best_of;
+use crate::timing::{best_of, in_turn};
 use oracle::{Derivation, Encoding, Input, Side, States};
 use reference::{Record, Writer};
 use std::hint::black_box;
@@ -9,7 +9,7 @@ use std::time::Duration;
 
 /// Entries of all inputs together.
 const ENTRIES: u32 = 1_000_000;
-const ROUNDS: u32 = 5;
+const ROUNDS: u32 = 3;
 
 /// The inputs of one derivation: wellen's records, and the same in two shared slices.
 struct Inputs {
@@ -88,9 +88,14 @@ fn joined(pieces: &[(u32, u32, u32)]) -> Derivation {
 }
 
 fn timed(name: &str, states: States, derivation: &Derivation, inputs: &Inputs) {
-    let (ours, made) = ours(derivation, inputs);
-    let (theirs, wellens) = wellens(derivation, inputs);
-    assert_eq!(made as usize, wellens, "both make as many entries");
+    let (mut made, mut theirs_made) = (0, 0);
+    let [ours, theirs] = in_turn(|| {
+        let (ours, made_here) = ours(derivation, inputs);
+        let (theirs, made_there) = wellens(derivation, inputs);
+        (made, theirs_made) = (made_here as usize, made_there);
+        [ours, theirs]
+    });
+    assert_eq!(made, theirs_made, "both make as many entries");
     println!(
         "| {name} | {states:?} | {made} | {ours:.1} | {theirs:.1} | {:.1} |",
         theirs / ours

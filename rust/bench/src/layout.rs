@@ -2,7 +2,7 @@
 
 use crate::inner::{self, Packable, entry_size};
 use crate::strings::{SETS, string};
-use crate::timing::best;
+use crate::timing::{best, in_turn};
 use oracle::States;
 use std::hint::black_box;
 use std::time::Duration;
@@ -23,7 +23,7 @@ fn table(title: &str, measure: impl Fn(States, &[Vec<u8>], usize) -> [Duration; 
             let turns = 1 + 400_000 / (width * strings.len());
             let characters = (turns * width * strings.len()) as f64;
             let [ours, theirs] =
-                measure(states, &strings, turns).map(|time| time.as_nanos() as f64);
+                in_turn(|| measure(states, &strings, turns)).map(|time| time.as_nanos() as f64);
             println!(
                 "| {states:?} | {width} | {:.2} | {:.2} | {:.1} |",
                 ours / characters,
@@ -137,24 +137,28 @@ fn widen_at(from: States, to: States, width: u32) {
     let written = entries * large;
     let data = std::cell::RefCell::new(vec![0u8; written]);
     let restore = || data.borrow_mut()[..old.len()].copy_from_slice(&old);
-    let ours = best(restore, || {
-        inner::expand(from, to, &mut data.borrow_mut(), entries, width);
-        black_box(&data);
-    });
-    let theirs = best(
-        || (),
-        || {
-            black_box(reference::expand(from, to, black_box(&old), entries, width));
-        },
-    );
     let mut plain = vec![1u8; written + 64];
-    let moved = best(
-        || (),
-        || {
-            plain.copy_within(0..written, 64);
-            black_box(&plain);
-        },
-    );
+    let [ours, theirs, moved] = in_turn(|| {
+        [
+            best(restore, || {
+                inner::expand(from, to, &mut data.borrow_mut(), entries, width);
+                black_box(&data);
+            }),
+            best(
+                || (),
+                || {
+                    black_box(reference::expand(from, to, black_box(&old), entries, width));
+                },
+            ),
+            best(
+                || (),
+                || {
+                    plain.copy_within(0..written, 64);
+                    black_box(&plain);
+                },
+            ),
+        ]
+    });
     let rate = |time: Duration| written as f64 / time.as_nanos() as f64;
     println!(
         "| {from:?} | {to:?} | {width} | {:.2} | {:.2} | {:.2} | {:.2} |",

@@ -2,7 +2,7 @@
 
 use crate::inner::{self, Rising};
 use crate::strings::{SETS, string, strings_apart};
-use crate::timing::{best, per};
+use crate::timing::{best, in_turn, per};
 use oracle::{Record, States};
 use std::cell::RefCell;
 use std::hint::black_box;
@@ -62,18 +62,14 @@ fn add_at(states: States, width: usize) {
     let strings = strings_apart(states, width);
     let turns = (2_000_000 / width).clamp(500, 20_000);
     let changes = || (0..turns as u32).zip(strings.iter().cycle());
-    let ours = ours(width, turns, changes);
-    let theirs = best(
-        || (),
-        || {
-            let mut writer = reference::Writer::fresh(width as u32);
-            for (index, value) in changes() {
-                writer.add_string_unguarded(index, black_box(value));
-            }
-            black_box(writer);
-        },
-    );
-    let theirs = per(theirs, turns);
+    let theirs = || {
+        let mut writer = reference::Writer::fresh(width as u32);
+        for (index, value) in changes() {
+            writer.add_string_unguarded(index, black_box(value));
+        }
+        black_box(writer);
+    };
+    let [ours, theirs] = in_turn(|| [ours(width, turns, changes), per(best(|| (), theirs), turns)]);
     println!(
         "| {states:?} | {width} | {ours:.1} | {theirs:.1} | {:.1} |",
         theirs / ours
@@ -192,14 +188,18 @@ pub fn read() {
 fn read_at(states: States, width: usize) {
     let (recorder, wellen) = filled(states, width, 20_000);
     let (flat, bytes) = (recorder.description, &recorder.bytes);
-    // One number, as of wellen: a copy of the whole answer would wait for its single stores.
-    let read = each_entry(flat.count, |entry| raw::read(flat, bytes, 0, entry).length);
-    let wellen_read = each_entry(flat.count, |entry| wellen.read_unguarded(entry));
     let mut out = vec![0; width];
-    let text = each_entry(flat.count, |entry| {
-        raw::text(flat, bytes, 0, entry, &mut out)
+    let [read, wellen_read, text, wellen_text] = in_turn(|| {
+        [
+            // One number, as of wellen: a copy of the whole answer would wait for its single stores.
+            each_entry(flat.count, |entry| raw::read(flat, bytes, 0, entry).length),
+            each_entry(flat.count, |entry| wellen.read_unguarded(entry)),
+            each_entry(flat.count, |entry| {
+                raw::text(flat, bytes, 0, entry, &mut out)
+            }),
+            each_entry(flat.count, |entry| wellen.text_unguarded(entry)),
+        ]
     });
-    let wellen_text = each_entry(flat.count, |entry| wellen.text_unguarded(entry));
     println!(
         "| {states:?} | {width} | {read:.1} | {wellen_read:.1} | {:.1} | {text:.1} | {wellen_text:.1} | {:.1} |",
         wellen_read / read,
@@ -232,20 +232,13 @@ pub fn compare() {
     ] {
         let (recorder, wellen) = filled(states, width, MILLION);
         let (other, other_wellen) = filled(states, width, MILLION);
-        let ours = best(
-            || (),
-            || {
-                let equal = archive::compare(&recorder.record(), &other.record());
-                assert_eq!(black_box(equal), Ok(true));
-            },
-        );
-        let theirs = best(
-            || (),
-            || {
-                assert_eq!(black_box(wellen.equals(&other_wellen)), Ok(true));
-            },
-        );
-        let (ours, theirs) = (per(ours, MILLION), per(theirs, MILLION));
+        let ours = || {
+            let equal = archive::compare(&recorder.record(), &other.record());
+            assert_eq!(black_box(equal), Ok(true));
+        };
+        let theirs = || assert_eq!(black_box(wellen.equals(&other_wellen)), Ok(true));
+        let [ours, theirs] =
+            in_turn(|| [best(|| (), ours), best(|| (), theirs)]).map(|time| per(time, MILLION));
         println!(
             "| {states:?} | {width} | {ours:.2} | {theirs:.2} | {:.1} |",
             theirs / ours
@@ -273,10 +266,14 @@ fn look_up_in(length: u32, seeks: u32) {
     let events = events.expect("wellen takes the record");
     let rising = Rising::new(&indices);
     let scans = seeks.min((1_000_000 / length).max(20));
-    let whole = seek(length, scans, |sought| raw::look_up(&indices, sought));
-    let scan = seek(length, scans, |_| inner::falls(black_box(&indices)));
-    let search = seek(length, seeks, |sought| rising.search(sought));
-    let wellen = seek(length, seeks, |sought| events.look_up_unguarded(sought));
+    let [whole, scan, search, wellen] = in_turn(|| {
+        [
+            seek(length, scans, |sought| raw::look_up(&indices, sought)),
+            seek(length, scans, |_| inner::falls(black_box(&indices))),
+            seek(length, seeks, |sought| rising.search(sought)),
+            seek(length, seeks, |sought| events.look_up_unguarded(sought)),
+        ]
+    });
     println!(
         "| {length} | {seeks} | {whole:.1} | {scan:.1} | {search:.1} | {wellen:.1} | {:.1} |",
         wellen / search

@@ -5,7 +5,10 @@ use std::time::{Duration, Instant};
 const ROUNDS: u32 = 15;
 
 /// Rounds go on for so long at least: other work of the machine may slow all those of a few milliseconds.
-const LEAST: Duration = Duration::from_millis(150);
+const LEAST: Duration = Duration::from_millis(50);
+
+/// How often what is compared is timed in turn: other work that slows one would else not slow the other.
+const PASSES: u32 = 3;
 
 /// The shortest time of a round. `prepare` is not timed.
 pub fn best(prepare: impl FnMut(), round: impl FnMut()) -> Duration {
@@ -26,6 +29,19 @@ pub fn best_of(rounds: u32, mut prepare: impl FnMut(), mut round: impl FnMut()) 
     shortest
 }
 
+/// The least of each time of several passes.
+pub fn in_turn<T: Copy + PartialOrd, const N: usize>(mut pass: impl FnMut() -> [T; N]) -> [T; N] {
+    let mut least = pass();
+    for _ in 1..PASSES {
+        for (least, time) in least.iter_mut().zip(pass()) {
+            if time < *least {
+                *least = time;
+            }
+        }
+    }
+    least
+}
+
 /// ns for each of so many.
 pub fn per(time: Duration, many: usize) -> f64 {
     time.as_nanos() as f64 / many as f64
@@ -40,8 +56,7 @@ pub fn machine() -> String {
         .unwrap_or_else(|| "unknown processor".to_string());
     let load = read("/proc/loadavg");
     let load = load.split(' ').next().unwrap_or("unknown").to_string();
-    let least = LEAST.as_millis();
     format!(
-        "machine: {model}, load {load} over the last minute; the best of several rounds, over {least} ms or more"
+        "machine: {model}, load {load} over the last minute; the best of several rounds in {PASSES} passes"
     )
 }
