@@ -9,7 +9,9 @@ use Rattle.value.specs.Level.{placeIn}
 use Rattle.fst.specs.Refusal.{tried, Outcome}
 use Rattle.transform.specs.declared.Extract.{Extract}
 use Rattle.transform.specs.declared.DerivedBitVecSignal.{DerivedBitVecSignal}
-use Rattle.transform.specs.Piece.{packedOf, extractOf, piecesOf, namesOf, isBadPiece, isBadDerivation, adjoin, merging, Side, left, right, pieceAdded, nameAdded, derivationWith, isBadRange, isOverfull, addPiece, addFull, emptyDerivation, sliceOf, identityOf}
+use Rattle.transform.specs.declared.Side.{Side}
+use Rattle.transform.specs.declared.Side.the-variants.{Left, Right}
+use Rattle.transform.specs.Piece.{packedOf, extractOf, piecesOf, namesOf, isBadPiece, isBadDerivation, adjoin, merging, pieceAdded, nameAdded, derivationWith, isBadRange, isOverfull, addPiece, addFull, emptyDerivation, sliceOf, identityOf}
 
 piece : ℕ → ℕ → ℕ → Extract
 piece signal width lsb = record { signal = signal; width = width; lsb = lsb }
@@ -27,22 +29,22 @@ Is r pieces names = (r .refused ≡ 0) × (piecesOf (r .left) ≡ pieces) × (na
 
 -- on each side the bits adjoin one way only, and a name gets its number once
 joined :
-    Is (with-piece left 9 9 8) (piece 0 6 4 ∷ []) (9 ∷ [])
-    × Is (with-piece left 9 3 0) (piece 0 4 0 ∷ piece 0 4 4 ∷ []) (9 ∷ [])
-    × Is (with-piece right 9 3 0) (piece 0 8 0 ∷ []) (9 ∷ [])
-    × Is (with-piece right 9 9 8) (piece 0 4 4 ∷ piece 0 2 8 ∷ []) (9 ∷ [])
-    × Is (with-piece right 0 3 0) (piece 0 4 4 ∷ piece 1 4 0 ∷ []) (9 ∷ 0 ∷ [])
-    × Is (addPiece twice left 9 1 1) (piece 0 1 1 ∷ piece 1 1 0 ∷ []) (9 ∷ 9 ∷ [])
+    Is (with-piece Left 9 9 8) (piece 0 6 4 ∷ []) (9 ∷ [])
+    × Is (with-piece Left 9 3 0) (piece 0 4 0 ∷ piece 0 4 4 ∷ []) (9 ∷ [])
+    × Is (with-piece Right 9 3 0) (piece 0 8 0 ∷ []) (9 ∷ [])
+    × Is (with-piece Right 9 9 8) (piece 0 4 4 ∷ piece 0 2 8 ∷ []) (9 ∷ [])
+    × Is (with-piece Right 0 3 0) (piece 0 4 4 ∷ piece 1 4 0 ∷ []) (9 ∷ 0 ∷ [])
+    × Is (addPiece twice Left 9 1 1) (piece 0 1 1 ∷ piece 1 1 0 ∷ []) (9 ∷ 9 ∷ [])
     × Is (identityOf 4 4096) (piece 0 4096 0 ∷ []) (4 ∷ [])
-    × Is (addFull twice right 8 0) (piece 1 1 0 ∷ []) (9 ∷ 9 ∷ [])
+    × Is (addFull twice Right 8 0) (piece 1 1 0 ∷ []) (9 ∷ 9 ∷ [])
 unfolding piece with-piece twice Is overlay any sum placeIn tried packedOf extractOf isBadPiece isBadDerivation adjoin merging pieceAdded nameAdded derivationWith isBadRange isOverfull addPiece addFull emptyDerivation identityOf
 joined = ((refl, refl, refl), (refl, refl, refl), (refl, refl, refl), (refl, refl, refl), (refl, refl, refl), (refl, refl, refl), (refl, refl, refl), (refl, refl, refl))
 
 refusals :
     (identityOf 4 0 ≡ record { refused = 12; left = emptyDerivation })
     × (identityOf 4 4097 ≡ record { refused = 12; left = emptyDerivation })
-    × (addPiece twice left 9 0 1 ≡ record { refused = 12; left = twice })
-    × (addPiece twice left 9 4095 0 ≡ record { refused = 13; left = twice })
-    × ((addPiece (record { width = 2; «input_count» = 2; inputs = twice .inputs; «piece_count» = 1; bits = twice .bits }) left 9 0 1) .refused ≡ 14)
+    × (addPiece twice Left 9 0 1 ≡ record { refused = 12; left = twice })
+    × (addPiece twice Left 9 4095 0 ≡ record { refused = 13; left = twice })
+    × ((addPiece (record { width = 2; «input_count» = 2; inputs = twice .inputs; «piece_count» = 1; bits = twice .bits }) Left 9 0 1) .refused ≡ 14)
 unfolding piece twice overlay any sum placeIn tried packedOf extractOf isBadPiece isBadDerivation adjoin merging pieceAdded nameAdded derivationWith isBadRange isOverfull addPiece emptyDerivation identityOf
 refusals = (refl, refl, refl, refl, refl)

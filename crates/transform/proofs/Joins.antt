@@ -18,7 +18,9 @@ use Rattle.fst.specs.Refusal.{Outcome}
 use Rattle.transform.specs.declared.Extract.{Extract}
 use Rattle.transform.specs.declared.DerivedBitVecSignal.{DerivedBitVecSignal}
 use Rattle.transform.specs.declared.InputNumber.the-variants.{At, Missing}
-use Rattle.transform.specs.Piece.{packedOf, extractOf, piecesOf, namesOf, widthOf, isBadDerivation, adjoin, merged, merging, Side, left, right, pieceAdded, nameAdded, pieceOf, derivationWith, isBadRange, isOverfull, addPiece}
+use Rattle.transform.specs.declared.Side.{Side}
+use Rattle.transform.specs.declared.Side.the-variants.{Left, Right}
+use Rattle.transform.specs.Piece.{packedOf, extractOf, piecesOf, namesOf, widthOf, isBadDerivation, adjoin, merged, merging, pieceAdded, nameAdded, pieceOf, derivationWith, isBadRange, isOverfull, addPiece}
 use Rattle.transform.specs.Answer.{inputNumber, merges, hasNoRoom, Joining, Named, withPieces, withNames}
 use Rattle.transform.proofs.Pieces.{packed-all, place-le, name-known, name-new, map-append, sum-added, Sized, Sound, sound, refused-full, accepted}
 
@@ -63,34 +65,34 @@ width-le (p ∷ ps) (suc i) z h = omega (arith, width-le ps i z (omega arith))
 
 pub merges-none : (side : Side) (e : Extract) (ps : List Extract) → ps ≡ [] → merges side e ps ≡ false
 unfolding merges
-merges-none left e ps h = ap (merges left e) h
-merges-none right e ps h = ap (merges right e) h
+merges-none Left e ps h = ap (merges Left e) h
+merges-none Right e ps h = ap (merges Right e) h
 
 -- where it merges with no neighbour
-pub unmerged-left : (e : Extract) (ps : List Extract) → merges left e ps ≡ false → pieceAdded left e ps ≡ e ∷ ps
+pub unmerged-left : (e : Extract) (ps : List Extract) → merges Left e ps ≡ false → pieceAdded Left e ps ≡ e ∷ ps
 unfolding merges pieceAdded merging
 unmerged-left e [] h = refl
 unmerged-left e (p ∷ ps) h = rw h
 
-pub unmerged-right : (e : Extract) (ps : List Extract) → merges right e ps ≡ false → pieceAdded right e ps ≡ ps ++ (e ∷ [])
+pub unmerged-right : (e : Extract) (ps : List Extract) → merges Right e ps ≡ false → pieceAdded Right e ps ≡ ps ++ (e ∷ [])
 unfolding merges pieceAdded merging
 unmerged-right e [] h = refl
 unmerged-right e (p ∷ []) h = rw h
 unmerged-right e (p ∷ q ∷ ps) h = ap (λ (l : List Extract). p ∷ l) (unmerged-right e (q ∷ ps) h)
 
 -- where it merges
-pub merged-left : (e p : Extract) (ps : List Extract) → merges left e (p ∷ ps) ≡ true → pieceAdded left e (p ∷ ps) ≡ merged e p ∷ ps
+pub merged-left : (e p : Extract) (ps : List Extract) → merges Left e (p ∷ ps) ≡ true → pieceAdded Left e (p ∷ ps) ≡ merged e p ∷ ps
 unfolding merges pieceAdded merging
 merged-left e p ps h = rw h
 
-pub last-right : (e : Extract) (ps : List Extract) (p : Extract) → merges right e (ps ++ (p ∷ [])) ≡ adjoin p e
+pub last-right : (e : Extract) (ps : List Extract) (p : Extract) → merges Right e (ps ++ (p ∷ [])) ≡ adjoin p e
 unfolding merges
 last-right e [] p = refl
 last-right e (q ∷ []) p = refl
 last-right e (q ∷ r ∷ ps) p = last-right e (r ∷ ps) p
 
-pub merged-right : (e : Extract) (ps : List Extract) (p : Extract) → merges right e (ps ++ (p ∷ [])) ≡ true
-    → pieceAdded right e (ps ++ (p ∷ [])) ≡ ps ++ (merged p e ∷ [])
+pub merged-right : (e : Extract) (ps : List Extract) (p : Extract) → merges Right e (ps ++ (p ∷ [])) ≡ true
+    → pieceAdded Right e (ps ++ (p ∷ [])) ≡ ps ++ (merged p e ∷ [])
 unfolding merges pieceAdded merging
 merged-right e [] p h = rw h
 merged-right e (q ∷ []) p h = rw h
@@ -98,19 +100,19 @@ merged-right e (q ∷ r ∷ ps) p h = ap (λ (l : List Extract). q ∷ l) (merge
 
 pub length-added : (side : Side) (e : Extract) (ps : List Extract) → length (pieceAdded side e ps) ≡ cond (merges side e ps) (length ps) (suc (length ps))
 unfolding merges pieceAdded merging
-length-added left e [] = refl
-length-added right e [] = refl
-length-added left e (p ∷ ps) = go (adjoin e p)
+length-added Left e [] = refl
+length-added Right e [] = refl
+length-added Left e (p ∷ ps) = go (adjoin e p)
   where
     go : (b : Bool) → length (cond b (merged e p ∷ []) (e ∷ p ∷ []) ++ ps) ≡ cond b (suc (length ps)) (suc (suc (length ps)))
     go true = refl
     go false = refl
-length-added right e (p ∷ []) = go (adjoin p e)
+length-added Right e (p ∷ []) = go (adjoin p e)
   where
     go : (b : Bool) → length (cond b (merged p e ∷ []) (p ∷ e ∷ [])) ≡ cond b 1 2
     go true = refl
     go false = refl
-length-added right e (p ∷ q ∷ ps) = ap suc (length-added right e (q ∷ ps)) ∙ go (merges right e (q ∷ ps))
+length-added Right e (p ∷ q ∷ ps) = ap suc (length-added Right e (q ∷ ps)) ∙ go (merges Right e (q ∷ ps))
   where
     go : (b : Bool) → suc (cond b (suc (length ps)) (suc (suc (length ps)))) ≡ cond b (suc (suc (length ps))) (suc (suc (suc (length ps))))
     go true = refl
@@ -118,8 +120,8 @@ length-added right e (p ∷ q ∷ ps) = ap suc (length-added right e (q ∷ ps))
 
 -- ---- pieces in their places
 
-pub put-left-one : (l : List ℕ) (n : ℕ) (e : Extract) → n ≤ length l → merges left e (map extractOf (take n l)) ≡ true
-    → set l 0 (packedOf (merged e (extractOf (getD l 0 0)))) ≡ overlay l 0 (map packedOf (pieceAdded left e (map extractOf (take n l))))
+pub put-left-one : (l : List ℕ) (n : ℕ) (e : Extract) → n ≤ length l → merges Left e (map extractOf (take n l)) ≡ true
+    → set l 0 (packedOf (merged e (extractOf (getD l 0 0)))) ≡ overlay l 0 (map packedOf (pieceAdded Left e (map extractOf (take n l))))
 unfolding merges overlay
 put-left-one l zero e room h = absurd (true≢false (sym h))
 put-left-one [] (suc n) e room h = absurd (omega arith)
@@ -147,12 +149,12 @@ module _ (l : List ℕ) (n : ℕ) (room : n ≤ length l) where
       ∙ map-append extractOf (take (n - 1) l) (getD l (n - 1) 0 ∷ [])
 
   module _ (e : Extract) where
-    pub merges-left : 0 < n → merges left e packed ≡ adjoin e (extractOf (getD l 0 0))
+    pub merges-left : 0 < n → merges Left e packed ≡ adjoin e (extractOf (getD l 0 0))
     unfolding merges
-    merges-left h = ap (merges left e) (drop-cons packed 0 (extractOf 0) (rw count-is h)) ∙ ap (adjoin e) (piece-at 0 h)
+    merges-left h = ap (merges Left e) (drop-cons packed 0 (extractOf 0) (rw count-is h)) ∙ ap (adjoin e) (piece-at 0 h)
 
-    pub merges-right : 0 < n → merges right e packed ≡ adjoin (extractOf (getD l (n - 1) 0)) e
-    merges-right h = ap (merges right e) (last-piece h) ∙ last-right e (map extractOf (take (n - 1) l)) (extractOf (getD l (n - 1) 0))
+    pub merges-right : 0 < n → merges Right e packed ≡ adjoin (extractOf (getD l (n - 1) 0)) e
+    merges-right h = ap (merges Right e) (last-piece h) ∙ last-right e (map extractOf (take (n - 1) l)) (extractOf (getD l (n - 1) 0))
 
     pub merges-some : (side : Side) → merges side e packed ≡ true → 0 < n
     merges-some side h =
@@ -163,14 +165,14 @@ module _ (l : List ℕ) (n : ℕ) (room : n ≤ length l) where
         (λ k. k)
 
     -- the packed numbers with the piece added
-    pub put-left-more : merges left e packed ≡ false → overlay l 0 (packedOf e ∷ take n l) ≡ overlay l 0 (map packedOf (pieceAdded left e packed))
+    pub put-left-more : merges Left e packed ≡ false → overlay l 0 (packedOf e ∷ take n l) ≡ overlay l 0 (map packedOf (pieceAdded Left e packed))
     put-left-more h = rw (unmerged-left e packed h, packed-all)
 
-    pub put-right-one : merges right e packed ≡ true
-        → set l (n - 1) (packedOf (merged (extractOf (getD l (n - 1) 0)) e)) ≡ overlay l 0 (map packedOf (pieceAdded right e packed))
+    pub put-right-one : merges Right e packed ≡ true
+        → set l (n - 1) (packedOf (merged (extractOf (getD l (n - 1) 0)) e)) ≡ overlay l 0 (map packedOf (pieceAdded Right e packed))
     unfolding part
     put-right-one h =
-        let z : 0 < n = merges-some right h in
+        let z : 0 < n = merges-some Right h in
         let qs = map extractOf (take (n - 1) l) in
         let p = extractOf (getD l (n - 1) 0) in
         ap (λ (k : ℕ). set l k (packedOf (merged p e))) (sym (zero-add (n - 1)))
@@ -178,9 +180,9 @@ module _ (l : List ℕ) (n : ℕ) (room : n ≤ length l) where
         ∙ ap (overlay l 0)
         (ap (λ (xs : List ℕ). xs ++ (packedOf (merged p e) ∷ [])) (sym (packed-all (take (n - 1) l)))
         ∙ sym (map-append packedOf qs (merged p e ∷ []))
-        ∙ ap (map packedOf) (sym (merged-right e qs p (rw (← last-piece z) h)) ∙ ap (pieceAdded right e) (sym (last-piece z))))
+        ∙ ap (map packedOf) (sym (merged-right e qs p (rw (← last-piece z) h)) ∙ ap (pieceAdded Right e) (sym (last-piece z))))
 
-    pub put-right-more : merges right e packed ≡ false → n < length l → set l n (packedOf e) ≡ overlay l 0 (map packedOf (pieceAdded right e packed))
+    pub put-right-more : merges Right e packed ≡ false → n < length l → set l n (packedOf e) ≡ overlay l 0 (map packedOf (pieceAdded Right e packed))
     unfolding part
     put-right-more h k =
         ap (λ (i : ℕ). set l i (packedOf e)) (sym (zero-add n))

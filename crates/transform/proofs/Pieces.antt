@@ -18,7 +18,9 @@ use Rattle.value.proofs.Tests.{or-left, or-right, or-both, by-le}
 use Rattle.fst.specs.Refusal.{_⇐_, given, tried, Outcome, outcome}
 use Rattle.transform.specs.declared.Extract.{Extract}
 use Rattle.transform.specs.declared.DerivedBitVecSignal.{DerivedBitVecSignal}
-use Rattle.transform.specs.Piece.{packedOf, extractOf, endOf, piecesOf, namesOf, isBadPiece, widthOf, isBadDerivation, adjoin, merged, merging, Side, left, right, pieceAdded, nameAdded, pieceOf, derivationWith, isBadRange, isOverfull, addPiece}
+use Rattle.transform.specs.declared.Side.{Side}
+use Rattle.transform.specs.declared.Side.the-variants.{Left, Right}
+use Rattle.transform.specs.Piece.{packedOf, extractOf, endOf, piecesOf, namesOf, isBadPiece, widthOf, isBadDerivation, adjoin, merged, merging, pieceAdded, nameAdded, pieceOf, derivationWith, isBadRange, isOverfull, addPiece}
 
 -- ---- packing
 
@@ -102,11 +104,11 @@ map-append {A} {B} f (x ∷ xs) ys = ap (λ (l : List B). f x ∷ l) (map-append
 
 pub sum-added : (side : Side) (e : Extract) (ps : List Extract) → sum (map widthOf (pieceAdded side e ps)) ≡ sum (map widthOf ps) + e .width
 unfolding pieceAdded sum
-sum-added left e [] = omega arith
-sum-added right e [] = omega arith
-sum-added left e (p ∷ ps) = rw (map-append widthOf (merging e p) ps, sum-append, merged-width) (omega arith)
-sum-added right e (p ∷ []) = omega (arith, merged-width p e)
-sum-added right e (p ∷ q ∷ ps) = omega (arith, sum-added right e (q ∷ ps))
+sum-added Left e [] = omega arith
+sum-added Right e [] = omega arith
+sum-added Left e (p ∷ ps) = rw (map-append widthOf (merging e p) ps, sum-append, merged-width) (omega arith)
+sum-added Right e (p ∷ []) = omega (arith, merged-width p e)
+sum-added Right e (p ∷ q ∷ ps) = omega (arith, sum-added Right e (q ∷ ps))
 
 -- ---- what the tests say
 
@@ -235,16 +237,16 @@ good-merging n high low h l = go (adjoin high low) refl
 
 pub good-added : (n : ℕ) (side : Side) (e : Extract) (ps : List Extract) → any (isBadPiece n) ps ≡ false → isBadPiece n e ≡ false → any (isBadPiece n) (pieceAdded side e ps) ≡ false
 unfolding pieceAdded any
-good-added n left e [] h k = or-both (isBadPiece n e) false k refl
-good-added n right e [] h k = or-both (isBadPiece n e) false k refl
-good-added n left e (p ∷ ps) h k =
+good-added n Left e [] h k = or-both (isBadPiece n e) false k refl
+good-added n Right e [] h k = or-both (isBadPiece n e) false k refl
+good-added n Left e (p ∷ ps) h k =
     any-append (isBadPiece n) (merging e p) ps
     ∙ or-both (any (isBadPiece n) (merging e p)) (any (isBadPiece n) ps) (good-merging n e p k (or-left (isBadPiece n p) (any (isBadPiece n) ps) h)) (or-right (isBadPiece n p) (any (isBadPiece n) ps) h)
-good-added n right e (p ∷ []) h k = good-merging n p e (or-left (isBadPiece n p) false h) k
-good-added n right e (p ∷ q ∷ ps) h k =
-    or-both (isBadPiece n p) (any (isBadPiece n) (pieceAdded right e (q ∷ ps)))
+good-added n Right e (p ∷ []) h k = good-merging n p e (or-left (isBadPiece n p) false h) k
+good-added n Right e (p ∷ q ∷ ps) h k =
+    or-both (isBadPiece n p) (any (isBadPiece n) (pieceAdded Right e (q ∷ ps)))
     (or-left (isBadPiece n p) (any (isBadPiece n) (q ∷ ps)) h)
-    (good-added n right e (q ∷ ps) (or-right (isBadPiece n p) (any (isBadPiece n) (q ∷ ps)) h) k)
+    (good-added n Right e (q ∷ ps) (or-right (isBadPiece n p) (any (isBadPiece n) (q ∷ ps)) h) k)
 
 -- among more inputs too
 good-among : (n m : ℕ) → n ≤ m → (ps : List Extract) → any (isBadPiece n) ps ≡ false → any (isBadPiece m) ps ≡ false

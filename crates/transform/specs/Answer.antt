@@ -18,23 +18,18 @@ use Rattle.transform.specs.declared.InputNumber.{InputNumber}
 use Rattle.transform.specs.declared.InputNumber.the-variants.{At, Missing}
 use Rattle.transform.specs.declared.Side.{Side}
 use Rattle.transform.specs.declared.Side.the-variants.{Left, Right}
-use Rattle.transform.specs.Piece as piece
-use Rattle.transform.specs.Piece.{left, right, maxInputs, maxPieces, packedOf, piecesOf, namesOf, widthOf, adjoin}
+use Rattle.transform.specs.Piece.{maxInputs, maxPieces, packedOf, piecesOf, namesOf, widthOf, adjoin}
 
 -- the number of a name among the names
 unfoldable pub inputNumber : List ℕ → ℕ → InputNumber
 inputNumber names name = let n = placeIn names name in cond (ltb n (length names)) (At n) Missing
 
-abbrev pub sideOf : Side → piece.Side
-sideOf Left = left
-sideOf Right = right
-
 -- does a piece merge with its neighbour
-unfoldable pub merges : piece.Side → Extract → List Extract → Bool
+unfoldable pub merges : Side → Extract → List Extract → Bool
 merges side e [] = false
-merges left e (p ∷ ps) = adjoin e p
-merges right e (p ∷ []) = adjoin p e
-merges right e (p ∷ q ∷ ps) = merges right e (q ∷ ps)
+merges Left e (p ∷ ps) = adjoin e p
+merges Right e (p ∷ []) = adjoin p e
+merges Right e (p ∷ q ∷ ps) = merges Right e (q ∷ ps)
 
 -- 13, for a piece that merges or not with those of a derivation that isn't bad
 unfoldable pub hasNoRoom : DerivedBitVecSignal → Extract → Bool → Bool
@@ -46,7 +41,7 @@ abbrev pub refusedBy : Refusal → DerivedBitVecSignal → Joined
 refusedBy refusal d = record { verdict = Refused refusal; next = d }
 
 -- a piece that joins a derivation, which then has no more than its share of pieces and width
-pub record Joining (side : piece.Side) (d : DerivedBitVecSignal) (e : Extract) (merged : Bool) : Type 0 where
+pub record Joining (side : Side) (d : DerivedBitVecSignal) (e : Extract) (merged : Bool) : Type 0 where
   pub few : d .«piece_count» ≤ maxPieces
   pub whole : d .width ≡ sum (map widthOf (piecesOf d))
   pub told : merged ≡ merges side e (piecesOf d)

@@ -12,6 +12,8 @@ use Rattle.fst.specs.Record.{maxWidth}
 use Rattle.transform.specs.declared.Extract.{Extract}
 use Rattle.transform.specs.declared.DerivedBitVecSignal.{DerivedBitVecSignal}
 use Rattle.transform.specs.declared.Joined.{Joined}
+use Rattle.transform.specs.declared.Side.{Side}
+use Rattle.transform.specs.declared.Side.the-variants.{Left, Right}
 
 -- "At most 8 inputs .. and 64 pieces"
 abbrev pub maxInputs : ℕ
@@ -65,14 +67,11 @@ unfoldable pub merging : Extract → Extract → List Extract
 merging high low = cond (adjoin high low) (merged high low ∷ []) (high ∷ low ∷ [])
 
 -- "Adding left or right"
-pub data Side : Type 0 where
-  left right : Side
-
 unfoldable pub pieceAdded : Side → Extract → List Extract → List Extract
 pieceAdded side e [] = e ∷ []
-pieceAdded left e (p ∷ ps) = merging e p ++ ps
-pieceAdded right e (p ∷ []) = merging p e
-pieceAdded right e (p ∷ q ∷ ps) = p ∷ pieceAdded right e (q ∷ ps)
+pieceAdded Left e (p ∷ ps) = merging e p ++ ps
+pieceAdded Right e (p ∷ []) = merging p e
+pieceAdded Right e (p ∷ q ∷ ps) = p ∷ pieceAdded Right e (q ∷ ps)
 
 -- "each named by any 32-bit number .. and numbered from 0 by first naming"
 unfoldable pub nameAdded : ℕ → List ℕ → List ℕ
@@ -130,7 +129,7 @@ addFull d side name (suc w) = addPiece d side name w 0
 
 -- a slice of an input by itself, and all wires of an input; an input of no wires has no bits msb to lsb, and is 12
 abbrev pub sliceOf : ℕ → ℕ → ℕ → Outcome DerivedBitVecSignal
-sliceOf name msb lsb = addPiece emptyDerivation left name msb lsb
+sliceOf name msb lsb = addPiece emptyDerivation Left name msb lsb
 
 unfoldable pub identityOf : ℕ → ℕ → Outcome DerivedBitVecSignal
 identityOf name zero = outcome emptyDerivation (refused 12)

@@ -5,8 +5,9 @@ ghost use mathlib.Core.Path.{_≡_};
 ghost use Prim.Native.Nat.{_≤_, _<_};
 ghost use lib.ListN.{length, take};
 ghost use Rattle.value.specs.Slice.{overlay};
-ghost use Rattle.transform.specs.Answer.{inputNumber, sideOf, merges, hasNoRoom, refusedBy, Joining, Named, withPieces, withNames};
-ghost use Rattle.transform.specs.Piece.{piecesOf, namesOf, isBadDerivation, isBadRange, pieceOf, pieceAdded, nameAdded, left, right, addPiece, addFull, sliceOf, identityOf, joinedOf, emptyDerivation};
+ghost use Rattle.transform.specs.Answer.{inputNumber, merges, hasNoRoom, refusedBy, Joining, Named, withPieces, withNames};
+ghost use Rattle.transform.specs.declared.Side.the-variants.{Left, Right};
+ghost use Rattle.transform.specs.Piece.{piecesOf, namesOf, isBadDerivation, isBadRange, pieceOf, pieceAdded, nameAdded, addPiece, addFull, sliceOf, identityOf, joinedOf, emptyDerivation};
 use crate::DerivedBitVecSignal;
 use crate::Extract;
 use crate::InputNumber;
@@ -126,7 +127,7 @@ impl DerivedBitVecSignal {
     // Whether a piece merges with its neighbour.
     fn merges(self, side: Side, extract: Extract) -> bool
         requires { ⌜ isBadDerivation self ≡ false ⌝ }
-        ensures { λ r. ⌜ r ≡ merges (sideOf side) extract (piecesOf self) ⌝ }
+        ensures { λ r. ⌜ r ≡ merges side extract (piecesOf self) ⌝ }
     {
         let count = self.piece_count;
         if count == 0 {
@@ -160,8 +161,8 @@ impl DerivedBitVecSignal {
 
     // The piece joins on the most significant side.
     fn put_left(mut self, extract: Extract, merges: bool) -> DerivedBitVecSignal
-        requires { ⌜ Joining left self extract merges ⌝ }
-        ensures { λ r. ⌜ r ≡ withPieces self (pieceAdded left extract (piecesOf self)) ⌝ }
+        requires { ⌜ Joining Left self extract merges ⌝ }
+        ensures { λ r. ⌜ r ≡ withPieces self (pieceAdded Left extract (piecesOf self)) ⌝ }
     {
         let count = self.piece_count;
         self.width += extract.width as u32;
@@ -177,8 +178,8 @@ impl DerivedBitVecSignal {
 
     // The piece joins on the least significant side.
     fn put_right(mut self, extract: Extract, merges: bool) -> DerivedBitVecSignal
-        requires { ⌜ Joining right self extract merges ⌝ }
-        ensures { λ r. ⌜ r ≡ withPieces self (pieceAdded right extract (piecesOf self)) ⌝ }
+        requires { ⌜ Joining Right self extract merges ⌝ }
+        ensures { λ r. ⌜ r ≡ withPieces self (pieceAdded Right extract (piecesOf self)) ⌝ }
     {
         let count = self.piece_count as usize;
         self.width += extract.width as u32;
@@ -220,7 +221,7 @@ impl DerivedBitVecSignal {
 
     // Add a piece. The numbers are tried in the order 14, 12, 13.
     fn concat(self, side: Side, signal: u32, msb: u32, lsb: u32) -> Joined
-        ensures { λ r. ⌜ joinedOf r ≡ addPiece self (sideOf side) signal msb lsb ⌝ }
+        ensures { λ r. ⌜ joinedOf r ≡ addPiece self side signal msb lsb ⌝ }
     {
         if self.is_bad() {
             return self.refused(Refusal::BadDerivation);
@@ -245,20 +246,20 @@ impl DerivedBitVecSignal {
     }
 
     pub fn concat_left(self, signal: u32, msb: u32, lsb: u32) -> Joined
-        ensures { λ r. ⌜ joinedOf r ≡ addPiece self left signal msb lsb ⌝ }
+        ensures { λ r. ⌜ joinedOf r ≡ addPiece self Left signal msb lsb ⌝ }
     {
         self.concat(Side::Left, signal, msb, lsb)
     }
 
     pub fn concat_right(self, signal: u32, msb: u32, lsb: u32) -> Joined
-        ensures { λ r. ⌜ joinedOf r ≡ addPiece self right signal msb lsb ⌝ }
+        ensures { λ r. ⌜ joinedOf r ≡ addPiece self Right signal msb lsb ⌝ }
     {
         self.concat(Side::Right, signal, msb, lsb)
     }
 
     // Add a piece of all wires of a signal. No wires add nothing.
     fn concat_full(self, side: Side, signal: u32, width: u32) -> Joined
-        ensures { λ r. ⌜ joinedOf r ≡ addFull self (sideOf side) signal width ⌝ }
+        ensures { λ r. ⌜ joinedOf r ≡ addFull self side signal width ⌝ }
     {
         if 0 < width {
             return self.concat(side, signal, width - 1, 0);
@@ -273,13 +274,13 @@ impl DerivedBitVecSignal {
     }
 
     pub fn concat_left_full(self, signal: u32, width: u32) -> Joined
-        ensures { λ r. ⌜ joinedOf r ≡ addFull self left signal width ⌝ }
+        ensures { λ r. ⌜ joinedOf r ≡ addFull self Left signal width ⌝ }
     {
         self.concat_full(Side::Left, signal, width)
     }
 
     pub fn concat_right_full(self, signal: u32, width: u32) -> Joined
-        ensures { λ r. ⌜ joinedOf r ≡ addFull self right signal width ⌝ }
+        ensures { λ r. ⌜ joinedOf r ≡ addFull self Right signal width ⌝ }
     {
         self.concat_full(Side::Right, signal, width)
     }

@@ -1,6 +1,7 @@
 // Add a piece and Derive. A derivation crosses as three numbers beside its names and its pieces, lent as arrays.
 ghost use mathlib.Core.Path.{_≡_};
-ghost use Rattle.transform.specs.Piece.{joinedOf, addPiece, addFull, left, right};
+ghost use Rattle.transform.specs.declared.Side.the-variants.{Left, Right};
+ghost use Rattle.transform.specs.Piece.{joinedOf, addPiece, addFull};
 ghost use Rattle.transform.specs.Derive.{derive};
 ghost use Rattle.yoksimert.specs.Derivations.{derivationOf, leftByJoined, inputOf, inputsBy, FlatDerived, flatDerived};
 use crate::Decoded;
@@ -67,7 +68,7 @@ pub extern "C" fn yoksimert_concat_left(
     msb: u32,
     lsb: u32,
 ) -> FlatJoined
-    ensures { λ r. ⌜ leftByJoined r (now (names .exit)) (now (pieces .exit)) ≡ addPiece (derivationOf derivation (now (names .entry)) (now (pieces .entry))) left signal msb lsb ⌝ }
+    ensures { λ r. ⌜ leftByJoined r (now (names .exit)) (now (pieces .exit)) ≡ addPiece (derivationOf derivation (now (names .entry)) (now (pieces .entry))) Left signal msb lsb ⌝ }
 {
     let known = derivation_of(derivation, names, pieces);
     store_joined(known.concat_left(signal, msb, lsb), names, pieces)
@@ -83,7 +84,7 @@ pub extern "C" fn yoksimert_concat_right(
     msb: u32,
     lsb: u32,
 ) -> FlatJoined
-    ensures { λ r. ⌜ leftByJoined r (now (names .exit)) (now (pieces .exit)) ≡ addPiece (derivationOf derivation (now (names .entry)) (now (pieces .entry))) right signal msb lsb ⌝ }
+    ensures { λ r. ⌜ leftByJoined r (now (names .exit)) (now (pieces .exit)) ≡ addPiece (derivationOf derivation (now (names .entry)) (now (pieces .entry))) Right signal msb lsb ⌝ }
 {
     let known = derivation_of(derivation, names, pieces);
     store_joined(known.concat_right(signal, msb, lsb), names, pieces)
@@ -98,7 +99,7 @@ pub extern "C" fn yoksimert_concat_left_full(
     signal: u32,
     width: u32,
 ) -> FlatJoined
-    ensures { λ r. ⌜ leftByJoined r (now (names .exit)) (now (pieces .exit)) ≡ addFull (derivationOf derivation (now (names .entry)) (now (pieces .entry))) left signal width ⌝ }
+    ensures { λ r. ⌜ leftByJoined r (now (names .exit)) (now (pieces .exit)) ≡ addFull (derivationOf derivation (now (names .entry)) (now (pieces .entry))) Left signal width ⌝ }
 {
     let known = derivation_of(derivation, names, pieces);
     store_joined(known.concat_left_full(signal, width), names, pieces)
@@ -113,7 +114,7 @@ pub extern "C" fn yoksimert_concat_right_full(
     signal: u32,
     width: u32,
 ) -> FlatJoined
-    ensures { λ r. ⌜ leftByJoined r (now (names .exit)) (now (pieces .exit)) ≡ addFull (derivationOf derivation (now (names .entry)) (now (pieces .entry))) right signal width ⌝ }
+    ensures { λ r. ⌜ leftByJoined r (now (names .exit)) (now (pieces .exit)) ≡ addFull (derivationOf derivation (now (names .entry)) (now (pieces .entry))) Right signal width ⌝ }
 {
     let known = derivation_of(derivation, names, pieces);
     store_joined(known.concat_right_full(signal, width), names, pieces)

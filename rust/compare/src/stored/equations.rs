@@ -5,13 +5,13 @@ use oracle::{Change, Derivation, Description, Encoding, Input, Kind, Offset, Sid
 use std::fmt::Display;
 
 /// The definitions that a call's operation goes through, which the checker is told to compute.
-const UNFOLDED: &str = "number digits part overlay same any sum placeIn codeOf letterOf fold setOf leastOf tried \
+const UNFOLDED: &str = "number digits part overlay same any sum placeIn codeOf letterOf fold setOf joinAll tried \
     entrySize entryOf markByte unmarked levelBytes widenEntry widenAll keptIn widthStands fitsBytes fits isBadBytes isBad fresh \
     isOtherKind isOtherLength isForeign isBelowLast repeats appended changed refusals stored addChange endsLike joined entriesOf \
     laidOut entryAt entriesFrom markIn setIn levelPart levelsIn hasBadMark hasNoText readEntry readText sameReal sameValue \
     walked compareRecords eq ofBits ofFields odd falls greatest runOf placeOf place lookUp packedOf extractOf isBadPiece \
     isBadDerivation adjoin merging pieceAdded nameAdded derivationWith isBadRange isOverfull addPiece smallest moved momentsFrom \
-    momentsOf picked largestShown derivedList largestAmong isUnfit deriveRefusals derive";
+    momentsOf picked derivedList isUnfit deriveRefusals derive";
 
 /// Where the names come from, for a file of crate `transform`.
 const IMPORTS: &str = "\
@@ -23,7 +23,7 @@ use lib.Ieee.{eq, ofBits, ofFields, odd}
 use Rattle.value.specs.declared.States.the-variants.{Two, Four, Nine}
 use Rattle.value.specs.Digits.{number, digits}
 use Rattle.value.specs.Slice.{part, overlay, same, any, sum}
-use Rattle.value.specs.Level.{placeIn, codeOf, letterOf, fold, setOf, leastOf}
+use Rattle.value.specs.Level.{placeIn, codeOf, letterOf, fold, setOf, joinAll}
 use Rattle.fst.specs.declared.Encoding.the-variants.{Event, Real, BitVector}
 use Rattle.fst.specs.declared.Description.{Description}
 use Rattle.fst.specs.Refusal.{Reply, refused, given, tried, Outcome}
@@ -40,9 +40,10 @@ use Rattle.signal.specs.Offset.{falls, greatest, runOf, none, at, placeOf, plac
 use Rattle.transform.specs.declared.DerivedBitVecSignal.{DerivedBitVecSignal}
 use Rattle.transform.specs.declared.Input.{Input}
 use Rattle.transform.specs.declared.Inputs.{Inputs}
-use Rattle.transform.specs.Piece.{packedOf, extractOf, isBadPiece, isBadDerivation, adjoin, merging, left, right, pieceAdded, nameAdded, derivationWith, isBadRange, isOverfull, addPiece}
+use Rattle.transform.specs.declared.Side.the-variants.{Left, Right}
+use Rattle.transform.specs.Piece.{packedOf, extractOf, isBadPiece, isBadDerivation, adjoin, merging, pieceAdded, nameAdded, derivationWith, isBadRange, isOverfull, addPiece}
 use Rattle.transform.specs.Steps.{smallest, moved, momentsFrom, momentsOf}
-use Rattle.transform.specs.Derive.{picked, largestShown, derivedList, largestAmong, isUnfit, deriveRefusals, Derived, derive}
+use Rattle.transform.specs.Derive.{picked, derivedList, isUnfit, deriveRefusals, Derived, derive}
 ";
 
 /// A module with an equation for each stored answer that takes at most so many characters there.
@@ -224,8 +225,8 @@ fn derivation(derivation: &Derivation) -> String {
 
 fn piece(call: &PieceCall, outcome: &Outcome) -> String {
     let side = match call.side {
-        Side::Left => "left",
-        Side::Right => "right",
+        Side::Left => "Left",
+        Side::Right => "Right",
     };
     let next = match &outcome.answer {
         Ok(Answer::Derivation(next)) => derivation(next),

@@ -1,12 +1,14 @@
 -- `transform::DerivedBitVecSignal::concat` meets its contract.
 -- Assumes nothing.
 use mathlib.Core.Bool.{false}
-use mathlib.Core.Path.{_≡_, sym, ap, _∙_}
+use mathlib.Core.Path.{_≡_, sym, ap, _∙_, subst}
 use borrow.Author.Needs.{needs}
 use Rattle.fst.specs.Refusal.{Outcome}
 use Rattle.transform.specs.declared.DerivedBitVecSignal.{DerivedBitVecSignal}
-use Rattle.transform.specs.Piece.{piecesOf, pieceAdded, Side, left, right, isBadDerivation, isBadRange, joinedOf, addPiece}
-use Rattle.transform.specs.Answer.{hasNoRoom, Joining, withPieces, sideOf}
+use Rattle.transform.specs.declared.Side.{Side}
+use Rattle.transform.specs.declared.Side.the-variants.{Left, Right}
+use Rattle.transform.specs.Piece.{piecesOf, pieceAdded, isBadDerivation, isBadRange, joinedOf, addPiece}
+use Rattle.transform.specs.Answer.{hasNoRoom, Joining, withPieces}
 use Rattle.transform.proofs.Walks.{sized}
 use Rattle.transform.proofs.Joins.{Tried, no-room, naming, joining, joined}
 use Rattle.transform.proofs.Pieces.{refused-bad, refused-range}
@@ -23,7 +25,7 @@ range c = sym (c .before .is-bad-range .ensures) ∙ c .if2 .left
 abbrev start : tie.After-has-no-room → tie.Start
 start c = c .before .before .before .before .before .before .before
 
-piece : (c : tie.After-has-no-room) → Tried (start c .args .self) (sideOf (start c .args .side)) (start c .args .signal) (start c .args .msb) (start c .args .lsb) (c .before .before .make-extract .result) (c .before .merges .result)
+piece : (c : tie.After-has-no-room) → Tried (start c .args .self) (start c .args .side) (start c .args .signal) (start c .args .msb) (start c .args .lsb) (c .before .before .make-extract .result) (c .before .merges .result)
 piece c =
     let e = c .before .before in
     let b = e .before .before .before in
@@ -39,17 +41,22 @@ room : (c : tie.Else3) → hasNoRoom (start (c .before) .args .self) (c .before 
 room c = sym (c .before .has-no-room .ensures) ∙ c .if3 .left
 
 -- the piece on its side
-module _ (c : tie.After-with-input) (side : Side) (e : sideOf (start (c .before .before) .args .side) ≡ side) where
+module _ (c : tie.After-with-input) (side : Side) (e : start (c .before .before) .args .side ≡ side) where
   abbrev k : tie.After-has-no-room
   k = c .before .before
 
+  here : Tried (start k .args .self) side (start k .args .signal) (start k .args .msb) (start k .args .lsb) (k .before .before .make-extract .result) (k .before .merges .result)
+  here =
+      subst (λ (t : Side). Tried (start k .args .self) t (start k .args .signal) (start k .args .msb) (start k .args .lsb) (k .before .before .make-extract .result) (k .before .merges .result)) e
+      (piece k)
+
   joins : Joining side (c .with-input .result) (k .before .before .make-extract .result) (k .before .merges .result)
-  joins = joining (rw e at (piece k)) (room (c .before)) (c .with-input .result) (c .with-input .ensures)
+  joins = joining here (room (c .before)) (c .with-input .result) (c .with-input .ensures)
 
   leaves : (next : DerivedBitVecSignal) → next ≡ withPieces (c .with-input .result) (pieceAdded side (k .before .before .make-extract .result) (piecesOf (c .with-input .result)))
-      → _≡_ {A = Outcome DerivedBitVecSignal} (record { refused = 0; left = next }) (addPiece (start k .args .self) (sideOf (start k .args .side)) (start k .args .signal) (start k .args .msb) (start k .args .lsb))
+      → _≡_ {A = Outcome DerivedBitVecSignal} (record { refused = 0; left = next }) (addPiece (start k .args .self) (start k .args .side) (start k .args .signal) (start k .args .msb) (start k .args .lsb))
   leaves next put =
-      joined (rw e at (piece k)) (room (c .before)) (c .with-input .result) (c .with-input .ensures) next put
+      joined here (room (c .before)) (c .with-input .result) (c .with-input .ensures) next put
       ∙ ap (λ (t : Side). addPiece (start k .args .self) t (start k .args .signal) (start k .args .msb) (start k .args .lsb)) (sym e)
 
 is-bad-requires : tie.Need-is-bad-requires
@@ -62,7 +69,7 @@ returns : tie.Need-returns
 returns c =
     let b = c .before in
     let a = b .before .before .args in
-    ap joinedOf (c .refused .ensures) ∙ sym (refused-bad (a .self) (sideOf (a .side)) (a .signal) (a .msb) (a .lsb) (sym (b .before .is-bad .ensures) ∙ b .if1 .taken))
+    ap joinedOf (c .refused .ensures) ∙ sym (refused-bad (a .self) (a .side) (a .signal) (a .msb) (a .lsb) (sym (b .before .is-bad .ensures) ∙ b .if1 .taken))
 
 is-bad-range-requires : tie.Need-is-bad-range-requires
 is-bad-range-requires c κs = search needs
@@ -76,7 +83,7 @@ returns-2 c =
     let b = r .before .before in
     let a = b .before .before .args in
     ap joinedOf (c .refused2 .ensures)
-    ∙ sym (refused-range (a .self) (sideOf (a .side)) (a .signal) (a .msb) (a .lsb) (good b) (sym (r .before .is-bad-range .ensures) ∙ r .if2 .taken))
+    ∙ sym (refused-range (a .self) (a .side) (a .signal) (a .msb) (a .lsb) (good b) (sym (r .before .is-bad-range .ensures) ∙ r .if2 .taken))
 
 make-extract-requires : tie.Need-make-extract-requires
 make-extract-requires c κs = (good (c .before .before), range c)
@@ -102,19 +109,19 @@ enum-told : tie.Need-enum-told
 enum-told c = search needs
 
 put-left-requires : tie.Need-put-left-requires
-put-left-requires c κs = joins (c .before .before) left (ap sideOf (c .enum-told .given .1))
+put-left-requires c κs = joins (c .before .before) Left (c .enum-told .given .1)
 
 enum-told-2 : tie.Need-enum-told-2
 enum-told-2 c = search needs
 
 put-right-requires : tie.Need-put-right-requires
-put-right-requires c κs = joins (c .before .before) right (ap sideOf (c .enum-told2 .given .1))
+put-right-requires c κs = joins (c .before .before) Right (c .enum-told2 .given .1)
 
 returns-4 : tie.Need-returns-4
-returns-4 c = leaves (c .before .before .before) left (ap sideOf (c .before .enum-told .given .1)) (c .put-left .result) (c .put-left .ensures)
+returns-4 c = leaves (c .before .before .before) Left (c .before .enum-told .given .1) (c .put-left .result) (c .put-left .ensures)
 
 returns-5 : tie.Need-returns-5
-returns-5 c = leaves (c .before .before .before) right (ap sideOf (c .before .enum-told2 .given .1)) (c .put-right .result) (c .put-right .ensures)
+returns-5 c = leaves (c .before .before .before) Right (c .before .enum-told2 .given .1) (c .put-right .result) (c .put-right .ensures)
 
 pub concat-spec : {M : Type 1} → statement M
 concat-spec =

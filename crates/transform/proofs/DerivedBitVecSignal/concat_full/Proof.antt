@@ -6,7 +6,6 @@ use Prim.Native.Nat.{suc, _-_}
 use native.Mathlib.Omega.{arith}
 use borrow.Author.Needs.{needs}
 use Rattle.fst.specs.Refusal.{tried}
-use Rattle.transform.specs.Answer.{sideOf}
 use Rattle.transform.specs.Piece.{isBadDerivation, joinedOf, addFull}
 use Rattle.transform.proofs.DerivedBitVecSignal.concat_full.Statement.{statement}
 use Rattle.transform.proofs.DerivedBitVecSignal.concat_full.Tie as tie
@@ -22,7 +21,7 @@ unfolding addFull
 returns c =
     let a = c .before .before .args in
     let e : a .width ≡ suc (a .width - 1) = omega arith in
-    c .concat .ensures ∙ ap (addFull (a .self) (sideOf (a .side)) (a .signal)) (sym e)
+    c .concat .ensures ∙ ap (addFull (a .self) (a .side) (a .signal)) (sym e)
 
 is-bad-requires : tie.Need-is-bad-requires
 is-bad-requires c κs = search needs

@@ -6,7 +6,7 @@ use Prim.Native.Nat.{ℕ, _≤_}
 use native.Mathlib.Omega.{arith}
 use borrow.Author.Needs.{needs}
 use lib.ListN.{length, take}
-use Rattle.transform.specs.Answer.{sideOf, merges}
+use Rattle.transform.specs.Answer.{merges}
 use Rattle.transform.specs.Piece.{extractOf, piecesOf, adjoin}
 use Rattle.transform.specs.declared.Side.{Side}
 use Rattle.transform.specs.declared.Extract.{Extract}
@@ -25,7 +25,7 @@ room c =
 returns : tie.Need-returns
 returns c =
     let a = c .before .args in
-    sym (merges-none (sideOf (a .side)) (a .extract) (piecesOf (a .t1)) (ap (λ (n : ℕ). map extractOf (take n (a .t1 .bits))) (c .if1 .taken)))
+    sym (merges-none (a .side) (a .extract) (piecesOf (a .t1)) (ap (λ (n : ℕ). map extractOf (take n (a .t1 .bits))) (c .if1 .taken)))
 
 enum-told : tie.Need-enum-told
 enum-told c = search needs
@@ -68,7 +68,7 @@ returns-2 c =
     c .adjoins .ensures
     ∙ ap (adjoin (a .extract)) (f .from-u64 .ensures)
     ∙ sym (merges-left (a .t1 .bits) (a .t1 .«piece_count») (room s) (a .extract) (omega arith))
-    ∙ ap (λ (t : Side). merges (sideOf t) (a .extract) (piecesOf (a .t1))) (sym (f .before .before .enum-told .given .1))
+    ∙ ap (λ (t : Side). merges t (a .extract) (piecesOf (a .t1))) (sym (f .before .before .enum-told .given .1))
 
 returns-3 : tie.Need-returns-3
 returns-3 c =
@@ -78,7 +78,7 @@ returns-3 c =
     c .adjoins2 .ensures
     ∙ ap (λ (p : Extract). adjoin p (a .extract)) (f .from-u642 .ensures)
     ∙ sym (merges-right (a .t1 .bits) (a .t1 .«piece_count») (room s) (a .extract) (omega arith))
-    ∙ ap (λ (t : Side). merges (sideOf t) (a .extract) (piecesOf (a .t1))) (sym (f .before .before .enum-told2 .given .1))
+    ∙ ap (λ (t : Side). merges t (a .extract) (piecesOf (a .t1))) (sym (f .before .before .enum-told2 .given .1))
 
 pub merges-spec : {M : Type 1} → statement M
 merges-spec =

@@ -2,7 +2,8 @@
 -- Assumes nothing.
 use mathlib.Core.Path.{ap, _∙_}
 use borrow.Author.Needs.{needs}
-use Rattle.transform.specs.Piece.{left, addPiece}
+use Rattle.transform.specs.declared.Side.the-variants.{Left}
+use Rattle.transform.specs.Piece.{addPiece}
 use Rattle.transform.specs.declared.DerivedBitVecSignal.{DerivedBitVecSignal}
 use Rattle.transform.proofs.DerivedBitVecSignal.new_slice.Statement.{statement}
 use Rattle.transform.proofs.DerivedBitVecSignal.new_slice.Tie as tie
@@ -16,7 +17,7 @@ concat-left-requires c κs = search needs
 returns : tie.Need-returns
 returns c =
     let a = c .before .before .args in
-    c .concat-left .ensures ∙ ap (λ (d : DerivedBitVecSignal). addPiece d left (a .signal) (a .msb) (a .lsb)) (c .before .empty .ensures)
+    c .concat-left .ensures ∙ ap (λ (d : DerivedBitVecSignal). addPiece d Left (a .signal) (a .msb) (a .lsb)) (c .before .empty .ensures)
 
 pub new-slice-spec : {M : Type 1} → statement M
 new-slice-spec = tie.close (tie.spec empty-requires concat-left-requires returns)

@@ -2,7 +2,8 @@
 -- Assumes nothing.
 use mathlib.Core.Path.{ap, _∙_}
 use Rattle.transform.specs.declared.DerivedBitVecSignal.{DerivedBitVecSignal}
-use Rattle.transform.specs.Piece.{addPiece, right}
+use Rattle.transform.specs.declared.Side.the-variants.{Right}
+use Rattle.transform.specs.Piece.{addPiece}
 use borrow.Author.Needs.{needs}
 use Rattle.yoksimert.proofs.derivations.yoksimert_concat_right.Statement.{statement}
 use Rattle.yoksimert.proofs.derivations.yoksimert_concat_right.Tie as tie
@@ -17,7 +18,7 @@ store-joined-requires : tie.Need-store-joined-requires
 store-joined-requires c κs = search needs
 
 returns : tie.Need-returns
-returns c = let a = c .before .before .before .before .before .before .before .args in c .store-joined .ensures ∙ c .before .before .before .concat-right .ensures ∙ ap (λ (d : DerivedBitVecSignal). addPiece d right (a .signal) (a .msb) (a .lsb)) (c .before .before .before .before .derivation-of .ensures)
+returns c = let a = c .before .before .before .before .before .before .before .args in c .store-joined .ensures ∙ c .before .before .before .concat-right .ensures ∙ ap (λ (d : DerivedBitVecSignal). addPiece d Right (a .signal) (a .msb) (a .lsb)) (c .before .before .before .before .derivation-of .ensures)
 
 pub yoksimert-concat-right-spec : {M : Type 1} → statement M
 yoksimert-concat-right-spec =
