@@ -24,12 +24,6 @@ use Rattle.signal.specs.declared.OwnStates.the-variants as own
 use Rattle.signal.specs.Decode.{markIn, codesAt}
 use Rattle.signal.specs.Parts.{ownStates, Levels}
 
--- the set of a mark that is neither 0 nor 1
-pub set-rest : (m : ℕ) → (m ≡ 0 → ⊥) → (m ≡ 1 → ⊥) → Nine ≡ setAt m
-set-rest zero a b = absurd (a refl)
-set-rest (suc zero) a b = absurd (b refl)
-set-rest (suc (suc m)) a b = refl
-
 module _ (M : States) (v : List ℕ) where
   pub own-bad : (m k : ℕ) → m ≡ markOf M → k ≡ markIn M v → m < k → own.Bad ≡ ownStates M v
   unfolding ownStates

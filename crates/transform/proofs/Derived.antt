@@ -14,7 +14,7 @@ use lib.ListN.{length, getD, length-map, length-append, List·getD-map, List·ge
 use Rattle.value.specs.Slice.{part, any, sum}
 use Rattle.value.specs.Level.{markOf, bitsOf, hasNoCode, joinAll}
 use Rattle.value.specs.Digits.{number, Below}
-use Rattle.value.proofs.Digits.{base-pos, digits-length, digits-below, below-take, below-drop}
+use Rattle.value.proofs.Digits.{base-pos, digits-length, digits-below, below-take, below-drop, below-mono, below-append}
 use Rattle.value.proofs.Tests.{or-left, or-right, or-both, by-le}
 use Rattle.value.proofs.Levels.{mark-join, mark-set, mark-small, bits-up, codes-text, all-below}
 use Rattle.value.proofs.Slices.{any-none, part-length}
@@ -47,6 +47,7 @@ use Rattle.transform.specs.Derive.{pickedOf, codesShown, setShown, picke
 use Rattle.transform.specs.Tests.{keptAll, Derivable}
 use Rattle.transform.proofs.Pieces.{Sized, sound, good-piece}
 use Rattle.transform.proofs.Joins.{count-is}
+use Rattle.transform.proofs.SteppingLevels.{levels-length, levels-below, mark-within}
 use Rattle.transform.proofs.InputTests.{indexed, entries-count, entry-is, entries-each, fit}
 
 -- ---- lists in order
@@ -315,36 +316,6 @@ moments-begin k ks h =
 
 -- ---- what a step yields
 
-below-up : (B C : ℕ) (cs : List ℕ) → B ≤ C → Below B cs → Below C cs
-below-up B C [] h b = tt
-below-up B C (c ∷ cs) h b = (omega (arith, b .0), below-up B C cs h (b .1))
-
-below-append : (B : ℕ) (xs ys : List ℕ) → Below B xs → Below B ys → Below B (xs ++ ys)
-below-append B [] ys a b = b
-below-append B (x ∷ xs) ys a b = (a .0, below-append B xs ys (a .1) b)
-
-levels-long : (x : Encoding) (v : List ℕ) → length (levelsIn x v) ≡ widthOf x
-unfolding levelsIn
-levels-long Event v = refl
-levels-long Real v = refl
-levels-long (BitVector w M) v = digits-length (2 ^ bitsOf (setIn (BitVector w M) v)) w (number 256 (levelPart (BitVector w M) v))
-
-levels-below : (x : Encoding) (v : List ℕ) → Below (2 ^ bitsOf (setIn x v)) (levelsIn x v)
-unfolding levelsIn
-levels-below Event v = tt
-levels-below Real v = tt
-levels-below (BitVector w M) v =
-    let S = setIn (BitVector w M) v in
-    digits-below (2 ^ bitsOf S) (base-pos 2 (omega arith) (bitsOf S)) w (number 256 (levelPart (BitVector w M) v))
-
-mark-within : (x : Encoding) (v : List ℕ) → hasBadMark x v ≡ false → markOf (setIn x v) ≤ markOf (largestIn x)
-unfolding hasBadMark setIn
-mark-within Event v h = omega arith
-mark-within Real v h = omega arith
-mark-within (BitVector w M) v h =
-    let m : markIn M v ≤ markOf M = ltb-false (markOf M) (markIn M v) h in
-    omega (arith, mark-set (markIn M v) (omega (arith, mark-small M)))
-
 -- the levels that a piece picks of a shown entry
 abbrev Picks : Extract → Shown → Type 0
 Picks e s =
@@ -354,7 +325,7 @@ picks-entry : (e : Extract) (x : Encoding) (v : List ℕ) (i : ℕ) → endOf e 
     → Picks e (record { index = i; set = setIn x v; codes = levelsIn x v })
 unfolding part
 picks-entry e x v i h c = (
-  part-length (levelsIn x v) (length (levelsIn x v) - endOf e) (e .width) (omega (arith, levels-long x v)),
+  part-length (levelsIn x v) (length (levelsIn x v) - endOf e) (e .width) (omega (arith, levels-length x v)),
   all-below (pickedOf e (levelsIn x v)) c,
   below-take _ _ (below-drop _ (levelsIn x v) (levels-below x v) (length (levelsIn x v) - endOf e)) (e .width),
 )
@@ -426,7 +397,7 @@ all-picked ks sh r (e ∷ es) f =
     record {
       long = length-append (pickedOf e (codesShown o)) (picked es sh) ∙ ap₂ (λ (m n : ℕ). m + n) (p .0) (rest .long);
       letters = below-append 9 (pickedOf e (codesShown o)) (picked es sh) (p .1) (rest .letters);
-      below = below-append _ (pickedOf e (codesShown o)) (picked es sh) (below-up _ _ (pickedOf e (codesShown o)) b (p .2)) (rest .below);
+      below = below-append _ (pickedOf e (codesShown o)) (picked es sh) (below-mono _ _ (pickedOf e (codesShown o)) b (p .2)) (rest .below);
     }
 
 mark-one : (k : Kept) (s : Shown) → markIsBad k ≡ false → From k s → markOf (s .set) ≤ markOf (largestIn (encodingOf k))

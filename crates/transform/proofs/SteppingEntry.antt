@@ -12,7 +12,7 @@ use Rattle.value.specs.declared.States.{States}
 use Rattle.value.specs.Digits.{Below}
 use Rattle.value.specs.Slice.{part, overlay, sum}
 use Rattle.value.specs.Level.{markOf, bitsOf, letterOf, textOf, codesOf, foldAll}
-use Rattle.value.proofs.Digits.{below-take, below-drop}
+use Rattle.value.proofs.Digits.{below-take, below-drop, below-mono, below-append}
 use Rattle.value.proofs.Levels.{bits-up, codes-text, fold-text}
 use Rattle.value.proofs.Slices.{part-length, part-at, part-overlay, overlay-nil, overlay-overlay}
 use Rattle.layout.specs.Entry.{entrySize, entryOf}
@@ -123,14 +123,6 @@ pieces-done bytes cs packed at i text h =
 
 -- ---- the levels of a step
 
-pub below-more : (B C : ℕ) (xs : List ℕ) → B ≤ C → Below B xs → Below C xs
-below-more B C [] h b = tt
-below-more B C (x ∷ xs) h b = (omega (arith, b .0), below-more B C xs h (b .1))
-
-pub below-append : (B : ℕ) (xs ys : List ℕ) → Below B xs → Below B ys → Below B (xs ++ ys)
-below-append B [] ys a b = b
-below-append B (x ∷ xs) ys a b = (a .0, below-append B xs ys (a .1) b)
-
 pub below-part : (B start n : ℕ) (xs : List ℕ) → Below B xs → Below B (part start n xs)
 unfolding part
 below-part B start n xs h = below-take B (drop start xs) (below-drop B xs h start) n
@@ -140,7 +132,7 @@ module _ (bytes : List ℕ) (S : States) where
   shown-below : (cs : List Cursor) → All (Under bytes S) cs → (i : ℕ) → Below (2 ^ bitsOf S) (getD (map (levelsNow bytes) cs) i [])
   shown-below [] u i = tt
   shown-below (c ∷ cs) u zero =
-      below-more (2 ^ bitsOf (setNow bytes c)) (2 ^ bitsOf S) (levelsNow bytes c) (pow-mono (bits-up (setNow bytes c) S (u .0)))
+      below-mono (2 ^ bitsOf (setNow bytes c)) (2 ^ bitsOf S) (levelsNow bytes c) (pow-mono (bits-up (setNow bytes c) S (u .0)))
       (levels-below (c .input .description .encoding) (shownBytes bytes c))
   shown-below (c ∷ cs) u (suc i) = shown-below cs (u .1) i
 

@@ -5,13 +5,16 @@ use mathlib.Core.Bool.{Bool, true, false, cond}
 use mathlib.Core.List.{List, [], _∷_, _++_, map}
 use Prim.Native.Nat.{ℕ, zero, suc, _+_, _-_, _*_, _^_, _≤_, _<_}
 use native.Mathlib.Omega.{arith}
+use borrow.Author.Tests.{ltb-false}
 use lib.Dec.{ltb}
 use lib.ListN.{length, take, drop, getD, length-map}
 use Rattle.value.specs.declared.States.{States}
 use Rattle.value.specs.Level.{markOf, bitsOf, lenOf, setAt, join}
 use Rattle.value.specs.Digits.{Below}
 use Rattle.value.proofs.Digits.{digits-length}
+use Rattle.value.proofs.Levels.{mark-set, mark-small}
 use Rattle.signal.proofs.Decoding.{codes-below}
+use Rattle.fst.specs.Record.{largestIn}
 use Rattle.fst.specs.declared.Encoding.{Encoding}
 use Rattle.fst.specs.declared.Encoding.the-variants.{Event, Real, BitVector}
 use Rattle.signal.specs.declared.OwnStates.the-variants as own
@@ -70,3 +73,12 @@ unfolding levelsIn setIn
 levels-below Event v = tt
 levels-below Real v = tt
 levels-below (BitVector w M) v = codes-below w (setAt (markIn M v)) _
+
+-- the set of an entry whose mark is a set's is within the largest
+pub mark-within : (x : Encoding) (v : List ℕ) → hasBadMark x v ≡ false → markOf (setIn x v) ≤ markOf (largestIn x)
+unfolding hasBadMark setIn
+mark-within Event v h = omega arith
+mark-within Real v h = omega arith
+mark-within (BitVector w M) v h =
+    let m : markIn M v ≤ markOf M = ltb-false (markOf M) (markIn M v) h in
+    omega (arith, mark-set (markIn M v) (omega (arith, mark-small M)))

@@ -15,6 +15,7 @@ use Rattle.value.specs.Level.{markOf, bitsOf, setAt, join, hasNoCode, joinAll}
 use Rattle.value.specs.Digits.{Below}
 use Rattle.value.proofs.Levels.{mark-join, mark-small, mark-set, all-below}
 use Rattle.value.proofs.Tests.{or-left, or-right, to-T, from-T, and-left}
+use Rattle.value.proofs.Digits.{below-append}
 use Rattle.fst.specs.declared.Encoding.{Encoding}
 use Rattle.fst.specs.declared.Encoding.the-variants.{Event, Real, BitVector}
 use Rattle.fst.specs.Record.{Kept, largestIn, keptIn, widthStands, fits, fitsBytes, isBadBytes}
@@ -33,7 +34,7 @@ use Rattle.transform.specs.Stepping.{All, Cursor, cursor, cursors, curso
 use Rattle.transform.proofs.Pieces.{Sized, Sound, sound, good-piece}
 use Rattle.transform.proofs.InputTests.{any-map, noInput, input-fits, indexed, entries-each, Fit, fit, beyond-told, code-told, pieces-count}
 use Rattle.transform.proofs.Stepping.{count-is, shown-at, cursor-at}
-use Rattle.transform.proofs.SteppingEntry.{below-append}
+use Rattle.transform.proofs.SteppingLevels.{mark-within}
 use Rattle.transform.proofs.SteppingTracks.{Shows, r-indices, bytes-told}
 
 -- ---- tests that hold of no element
@@ -75,14 +76,6 @@ stands-bytes bytes indices i h =
     rw (n .0, f)
 
 -- a good mark is not above the largest set's
-set-under : (e : Encoding) (v : List ℕ) → hasBadMark e v ≡ false → markOf (setIn e v) ≤ markOf (largestIn e)
-unfolding hasBadMark setIn
-set-under Event v h = omega arith
-set-under Real v h = omega arith
-set-under (BitVector w M) v h =
-    let m : markIn M v ≤ markOf M = ltb-false _ _ h in
-    omega (arith, mark-set (markIn M v) (omega (arith, mark-small M)))
-
 module _ (bytes indices : List ℕ) (c : Cursor) (s : Source bytes indices (c .input)) (b : 1 ≤ c .begun) (w : c .begun ≤ c .input .description .count) where
   shows-fits : Fits (c .input .description) (lentTo bytes indices (c .input))
   shows-fits = input-fits bytes indices (c .input) (s .stands)
@@ -110,7 +103,7 @@ module _ (bytes indices : List ℕ) (c : Cursor) (s : Source bytes indices (c .i
       }
 
   pub set-within : markOf (setNow bytes c) ≤ markOf (largestIn (c .input .description .encoding))
-  set-within = set-under (c .input .description .encoding) (shownBytes bytes c) good-mark
+  set-within = mark-within (c .input .description .encoding) (shownBytes bytes c) good-mark
 
 -- ---- the sets
 

@@ -21,6 +21,7 @@ use Rattle.value.proofs.Tests.{or-left, or-right, by-eq, allBelow, at-b
 use Rattle.value.proofs.Slices.{any-snoc}
 use Rattle.value.specs.Digits.{Below}
 use Rattle.value.proofs.Levels.{mark-inj, mark-join, mark-small, set-two, set-four, set-nine, by-set, codes-more, least-states}
+use Rattle.value.proofs.Digits.{below-mono}
 
 -- ---- one character
 
@@ -129,10 +130,6 @@ below-any n [] e = tt
 below-any n (c ∷ cs) e = (leb-false n c (or-left (leb n c) (any (leb n) cs) e), below-any n cs (or-right (leb n c) (any (leb n) cs) e))
 
 -- a smaller bound of digits is a bound
-below-mono : (B C : ℕ) (cs : List ℕ) → B ≤ C → Below B cs → Below C cs
-below-mono B C [] h b = tt
-below-mono B C (c ∷ cs) h b = (lt-of-lt-of-le (b .0) h, below-mono B C cs h (b .1))
-
 set-within : (N : States) (c : ℕ) → c < codesIn N → markOf (setOf c) ≤ markOf N
 set-within Two c h = rw (set-two c h) (omega arith)
 set-within Four c h = by-set c (λ l. rw (set-two c l) (omega arith)) (λ l m. rw (set-four c l m) (omega arith)) (λ l. absurd (omega arith))

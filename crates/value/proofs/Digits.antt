@@ -21,6 +21,14 @@ pub below-all : (B : ℕ) (ds : List ℕ) → ((i : ℕ) → getD ds i 0 < B) �
 below-all B [] h = tt
 below-all B (d ∷ ds) h = (h 0, below-all B ds (λ i. h (suc i)))
 
+pub below-mono : (B C : ℕ) (ds : List ℕ) → B ≤ C → Below B ds → Below C ds
+below-mono B C [] h b = tt
+below-mono B C (d ∷ ds) h b = (lt-of-lt-of-le (b .0) h, below-mono B C ds h (b .1))
+
+pub below-append : (B : ℕ) (xs ys : List ℕ) → Below B xs → Below B ys → Below B (xs ++ ys)
+below-append B [] ys a b = b
+below-append B (x ∷ xs) ys a b = (a .0, below-append B xs ys (a .1) b)
+
 pub below-take : (B : ℕ) (ds : List ℕ) → Below B ds → (i : ℕ) → Below B (take i ds)
 below-take B ds h zero = tt
 below-take B [] h (suc i) = tt

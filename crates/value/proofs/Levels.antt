@@ -23,6 +23,12 @@ use Rattle.value.specs.Digits.{Below}
 
 -- ---- marks
 
+-- the set of a mark above 1
+pub set-rest : (m : ℕ) → (m ≡ 0 → ⊥) → (m ≡ 1 → ⊥) → Nine ≡ setAt m
+set-rest zero a b = absurd (a refl)
+set-rest (suc zero) a b = absurd (b refl)
+set-rest (suc (suc m)) a b = refl
+
 pub mark-inj : (a b : States) → markOf a ≡ markOf b → a ≡ b
 mark-inj Two Two e = refl
 mark-inj Two Four e = absurd (omega arith)

@@ -57,12 +57,6 @@ module _ (f : FlatDescription) where
         unfolding decoded
         no-kind n m = rw (ne-eqb (f .kind) 2 k, eq-eqb (f .width) 0 w, eq-eqb (f .set) 0 s, ne-eqb (f .kind) 0 n, ne-eqb (f .kind) 1 m)
 
--- the set of a number that is neither 0 nor 1
-pub set-rest : (m : ℕ) → (m ≡ 0 → ⊥) → (m ≡ 1 → ⊥) → Nine ≡ setAt m
-set-rest zero a b = absurd (a refl)
-set-rest (suc zero) a b = absurd (b refl)
-set-rest (suc (suc m)) a b = refl
-
 -- ---- what the numbers say
 
 pub numbers : (d : Description) (e : Encoding) → d .encoding ≡ e → flatOf e (d .count) ≡ encoded d

@@ -1,7 +1,7 @@
 -- `signal::decode::states_of` meets its contract.
 -- Assumes nothing.
 use borrow.Author.Needs.{needs}
-use Rattle.signal.proofs.Decoding.{set-rest}
+use Rattle.value.proofs.Levels.{set-rest}
 use Rattle.signal.proofs.decode.states_of.Statement.{statement}
 use Rattle.signal.proofs.decode.states_of.Tie as tie
 

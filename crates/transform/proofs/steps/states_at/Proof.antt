@@ -1,7 +1,7 @@
 -- `transform::steps::states_at` meets its contract.
 -- Assumes nothing.
 use borrow.Author.Needs.{needs}
-use Rattle.signal.proofs.Decoding.{set-rest}
+use Rattle.value.proofs.Levels.{set-rest}
 use Rattle.transform.proofs.steps.states_at.Statement.{statement}
 use Rattle.transform.proofs.steps.states_at.Tie as tie
 

@@ -1,6 +1,6 @@
 -- `yoksimert::flat::states_of` meets its contract.
 -- Assumes nothing.
-use Rattle.yoksimert.proofs.Numbers.{set-rest}
+use Rattle.value.proofs.Levels.{set-rest}
 use borrow.Author.Needs.{needs}
 use Rattle.yoksimert.proofs.flat.states_of.Statement.{statement}
 use Rattle.yoksimert.proofs.flat.states_of.Tie as tie
