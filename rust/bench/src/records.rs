@@ -62,18 +62,14 @@ fn add_at(states: States, width: usize) {
     let strings = strings_apart(states, width);
     let turns = (2_000_000 / width).clamp(500, 20_000);
     let changes = || (0..turns as u32).zip(strings.iter().cycle());
-    let ours = ours(width, turns, changes);
-    let theirs = best(
-        || (),
-        || {
-            let mut writer = reference::Writer::fresh(width as u32);
-            for (index, value) in changes() {
-                writer.add_string_unguarded(index, black_box(value));
-            }
-            black_box(writer);
-        },
-    );
-    let theirs = per(theirs, turns);
+    let theirs = || {
+        let mut writer = reference::Writer::fresh(width as u32);
+        for (index, value) in changes() {
+            writer.add_string_unguarded(index, black_box(value));
+        }
+        black_box(writer);
+    };
+    let [ours, theirs] = in_turn(|| [ours(width, turns, changes), per(best(|| (), theirs), turns)]);
     println!(
         "| {states:?} | {width} | {ours:.1} | {theirs:.1} | {:.1} |",
         theirs / ours
