@@ -17,6 +17,7 @@ use Rattle.value.specs.Level.{markOf, codesOf, foldAll, hasNoCode, leastOf, joi
 use Rattle.value.specs.Answer.{leastStates}
 use Rattle.value.proofs.Levels.{mark-inj, mark-join, all-below}
 use Rattle.value.proofs.Levels as levels
+use Rattle.value.proofs.Classes.{foreign-told, least-told}
 use Rattle.value.proofs.Slices.{part-length}
 use Rattle.wavemem.specs.Packed.{Codes}
 use Rattle.fst.specs.declared.Encoding.{Encoding}
@@ -32,34 +33,6 @@ use Rattle.layout.proofs.Sizes.{widen-all-same, widen-all-length}
 use Rattle.fst.proofs.Records.{not-bad}
 use Rattle.fst.proofs.AddingPlain.{oneMore, same-stored, behind, kept-full, kept-more}
 use Rattle.fst.proofs.Adding.{standing, width-known, width-any, refusedWith, acceptedWith, Suited, four, five, seven, accepted, indicesKept, stored-same, stored-more}
-
--- ---- what the least set of a string says
-
-told : (s : List ℕ) (a : StatesAnswer) → leastStates s ≡ a
-    → (b : Bool) → hasNoCode (codesOf (foldAll s)) ≡ b → cond b answer.Foreign (answer.Least (leastOf (codesOf (foldAll s)))) ≡ a
-unfolding leastStates
-told s a e b h = rw (← h) e
-
-pub foreign-told : (s : List ℕ) → leastStates s ≡ answer.Foreign → hasNoCode (codesOf (foldAll s)) ≡ true
-foreign-told s e = go (hasNoCode (codesOf (foldAll s))) refl
-  where
-    go : (b : Bool) → hasNoCode (codesOf (foldAll s)) ≡ b → hasNoCode (codesOf (foldAll s)) ≡ true
-    go true h = h
-    go false h =
-        let q = told s answer.Foreign e false h in
-        let z : _≡_ {A = ℕ} 0 1 = cc in
-        absurd (omega arith)
-
-pub least-told : (s : List ℕ) (own : States) → leastStates s ≡ answer.Least own
-    → (hasNoCode (codesOf (foldAll s)) ≡ false) × (own ≡ leastOf (codesOf (foldAll s)))
-least-told s own e = go (hasNoCode (codesOf (foldAll s))) refl
-  where
-    go : (b : Bool) → hasNoCode (codesOf (foldAll s)) ≡ b → (hasNoCode (codesOf (foldAll s)) ≡ false) × (own ≡ leastOf (codesOf (foldAll s)))
-    go true h =
-        let q = told s (answer.Least own) e true h in
-        let z : _≡_ {A = ℕ} 0 1 = cc in
-        absurd (omega arith)
-    go false h = let q = told s (answer.Least own) e false h in (h, cc)
 
 -- ---- numbers 4 to 6
 

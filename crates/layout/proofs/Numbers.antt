@@ -3,12 +3,12 @@
 use mathlib.Core.Path.{_≡_, refl, sym, ap, ap₂, _∙_}
 use mathlib.Core.List.{List, [], _∷_}
 use Prim.Native.Nat.{ℕ, suc, _+_, _-_, _*_, _^_, _/_, _%_, _≤_, _<_}
-use native.Mathlib.Nat.{mul-le-mul-left, zero-mul, zero-add, pow-suc, div-div-eq-div-mul}
+use native.Mathlib.Nat.{mul-le-mul-left, zero-mul, zero-add, pow-suc, div-one, div-div-eq-div-mul}
 use native.Mathlib.Numerals.{add-one}
 use native.Mathlib.Omega.{arith}
 use lib.Dec.{eqb}
 use borrow.Author.Tests.{eq-eqb, ne-eqb}
-use lib.Bits.{bitOr, or-shifted, or-shifted-r, or-zero-r}
+use lib.Bits.{bitAnd, bitOr, and-mask, or-shifted, or-shifted-r, or-zero-r}
 use lib.Pow.{shl-exact}
 use lib.ListN.{length, getD, set}
 use Rattle.value.specs.declared.States.{States}
@@ -18,7 +18,7 @@ use Rattle.value.specs.Level.{foldAll, codesOf, markOf, bitsOf}
 use Rattle.value.proofs.Tests.{by-eq, by-le}
 use Rattle.value.proofs.Levels.{bits-up, len-room}
 use Rattle.value.proofs.Digits.{pow-pow, below-at, number-lt, number-snoc, digits-length, digits-number, number-inj}
-use Rattle.value.proofs.Slices.{part-length, part-add, part-nil}
+use Rattle.value.proofs.Slices.{part-length, part-add, part-nil, overlay-nil}
 use Rattle.value.proofs.Backward.{below-part, part-cons, store-front}
 use Rattle.wavemem.specs.Packed.{OneWord}
 use Rattle.wavemem.proofs.Packing.{length-codes}
@@ -82,6 +82,13 @@ module _ (n : ℕ) (d : List ℕ) where
       → set (overlay d (q + 1) (digits 256 k n)) q (n / 256 ^ k % 256) ≡ overlay d q (digits 256 (suc k) n)
   unfolding digits
   stored-next k q h = store-front d (digits 256 k n) q (q + 1) (n / 256 ^ k % 256) refl (rw digits-length (omega arith))
+
+  -- one byte
+  pub one-stored : (q : ℕ) → q < length d → set d q (bitAnd n 255) ≡ overlay d q (digits 256 1 n)
+  unfolding digits
+  one-stored q h =
+      ap₂ (λ (o : List ℕ) (y : ℕ). set o q y) (sym (overlay-nil d (q + 1))) (and-mask n 8 ∙ ap (λ (m : ℕ). m % 256) (sym (div-one n)))
+      ∙ stored-next 0 q (omega arith)
 
   pub rest-next : (k : ℕ) → n / 256 ^ k / 256 ≡ n / 256 ^ suc k
   rest-next k = div-div-eq-div-mul n (256 ^ k) 256 ∙ rw pow-suc

@@ -1,6 +1,7 @@
 // Entries of at most eight bytes, each as one number.
 ghost use mathlib.Core.Path.{_≡_};
 ghost use Prim.Native.Nat.{_+_, _-_, _*_, _^_, _≤_};
+ghost use lib.Bits.{bitOr};
 ghost use lib.ListN.{length};
 ghost use Rattle.value.specs.Digits.{number, digits};
 ghost use Rattle.value.specs.Slice.{part, overlay, same};
@@ -19,6 +20,17 @@ fn mark_in(states: States, size: usize) -> u64
     (states.mark() as u64) << (8 * size - 2)
 }
 
+// The number of an entry of a size by that of its levels, and 0 for a longer one.
+pub fn marked_number(states: States, size: usize, levels: u64) -> u64
+    requires { ⌜ 1 ≤ size ⌝ }
+    ensures { λ r. ⌜ (size ≤ 8 → r ≡ bitOr levels (markOf states * 2 ^ (8 * size - 2))) ⌝ }
+{
+    if 8 < size {
+        return 0;
+    }
+    levels | mark_in(states, size)
+}
+
 // The number of a string's entry, and 0 for a longer one.
 pub fn entry_number(max_states: States, states: States, value: &[u8], size: usize) -> u64
     requires { ⌜ Writable «max_states» states (now value) size 0 × (size ≡ entrySize (length (now value)) «max_states») ⌝ }
@@ -27,11 +39,11 @@ pub fn entry_number(max_states: States, states: States, value: &[u8], size: usiz
     if 8 < size {
         return 0;
     }
-    wavemem::number_from_ascii(states, value) | mark_in(states, size)
+    marked_number(states, size, wavemem::number_from_ascii(states, value))
 }
 
 // The number of the bytes from a place on.
-fn number_at(bytes: &[u8], at: usize, size: usize) -> u64
+pub fn number_at(bytes: &[u8], at: usize, size: usize) -> u64
     requires { ⌜ (size ≤ 8) × (at + size ≤ length (now bytes)) ⌝ }
     ensures { λ r. ⌜ r ≡ number 256 (part at size (now (bytes .entry))) ⌝ }
 {
@@ -48,10 +60,14 @@ fn number_at(bytes: &[u8], at: usize, size: usize) -> u64
 }
 
 // Stores the bytes of a number from a place on.
-fn write_number(number: u64, size: usize, out: &mut [u8], at: usize)
+pub fn write_number(number: u64, size: usize, out: &mut [u8], at: usize)
     requires { ⌜ at + size ≤ length (now out) ⌝ }
     ensures { λ _. ⌜ now (out .exit) ≡ overlay (now (out .entry)) at (digits 256 size number) ⌝ }
 {
+    if size == 1 {
+        out[at] = (number & 255) as u8;
+        return;
+    }
     let mut rest = number;
     let mut left = size;
     while 0 < left {

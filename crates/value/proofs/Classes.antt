@@ -1,7 +1,7 @@
 -- The least set of a string by tests of whole strings: the smallest set that holds every character.
 -- Assumes nothing.
 use mathlib.Core.Path.{_≡_, refl, sym, ap, ap₂, _∙_}
-use mathlib.Core.Bool.{Bool, true, false, not, _&&_, _||_, true≢false}
+use mathlib.Core.Bool.{Bool, true, false, not, cond, _&&_, _||_, true≢false}
 use mathlib.Core.List.{List, [], _∷_, _++_}
 use Prim.Native.Nat.{ℕ, _+_, _≤_, _<_}
 use native.Mathlib.Nat.{lt-of-lt-of-le}
@@ -13,9 +13,10 @@ use lib.ListN.{length, getD, take}
 use Rattle.value.specs.declared.States.{States}
 use Rattle.value.specs.declared.States.the-variants.{Two, Four, Nine}
 use Rattle.value.specs.declared.CharCode.the-variants as code
+use Rattle.value.specs.declared.StatesAnswer.{StatesAnswer}
 use Rattle.value.specs.declared.StatesAnswer.the-variants as answer
 use Rattle.value.specs.Slice.{any}
-use Rattle.value.specs.Level.{codeOf, fold, foldAll, codesOf, placeIn, markOf, codesIn, setOf, leastOf, joinAll}
+use Rattle.value.specs.Level.{codeOf, fold, foldAll, codesOf, placeIn, markOf, codesIn, hasNoCode, setOf, leastOf, joinAll}
 use Rattle.value.specs.Answer.{charCode, leastStates, holdsOne, holdsAll}
 use Rattle.value.proofs.Tests.{or-left, or-right, by-eq, allBelow, at-below, implies, implied, both, both-same}
 use Rattle.value.proofs.Slices.{any-snoc}
@@ -183,3 +184,31 @@ module _ (v : List ℕ) where
   pub is-foreign : false ≡ holdsAll Nine v → leastStates v ≡ answer.Foreign
   unfolding leastStates
   is-foreign e = rw (beyond Nine e)
+
+-- ---- what the least set of a string says
+
+told : (s : List ℕ) (a : StatesAnswer) → leastStates s ≡ a
+    → (b : Bool) → hasNoCode (codesOf (foldAll s)) ≡ b → cond b answer.Foreign (answer.Least (leastOf (codesOf (foldAll s)))) ≡ a
+unfolding leastStates
+told s a e b h = rw (← h) e
+
+pub foreign-told : (s : List ℕ) → leastStates s ≡ answer.Foreign → hasNoCode (codesOf (foldAll s)) ≡ true
+foreign-told s e = go (hasNoCode (codesOf (foldAll s))) refl
+  where
+    go : (b : Bool) → hasNoCode (codesOf (foldAll s)) ≡ b → hasNoCode (codesOf (foldAll s)) ≡ true
+    go true h = h
+    go false h =
+        let q = told s answer.Foreign e false h in
+        let z : _≡_ {A = ℕ} 0 1 = cc in
+        absurd (omega arith)
+
+pub least-told : (s : List ℕ) (own : States) → leastStates s ≡ answer.Least own
+    → (hasNoCode (codesOf (foldAll s)) ≡ false) × (own ≡ leastOf (codesOf (foldAll s)))
+least-told s own e = go (hasNoCode (codesOf (foldAll s))) refl
+  where
+    go : (b : Bool) → hasNoCode (codesOf (foldAll s)) ≡ b → (hasNoCode (codesOf (foldAll s)) ≡ false) × (own ≡ leastOf (codesOf (foldAll s)))
+    go true h =
+        let q = told s (answer.Least own) e true h in
+        let z : _≡_ {A = ℕ} 0 1 = cc in
+        absurd (omega arith)
+    go false h = let q = told s (answer.Least own) e false h in (h, cc)

@@ -1,6 +1,6 @@
 // Levels and state sets, after wellen's src/signal/value.rs.
 ghost use mathlib.Core.Path.{_≡_};
-ghost use mathlib.Core.Bool.{_||_};
+ghost use mathlib.Core.Bool.{_||_, false};
 ghost use Prim.Native.Nat.{_-_, _/_, _^_, _<_};
 ghost use lib.Dec.{eqb};
 ghost use lib.ListN.{length};
@@ -90,6 +90,19 @@ fn beside_nine(value: u8) -> u8
     smaller(beside_four(value), smaller(letter, value ^ b'-'))
 }
 
+// Whether every character is 0 or 1.
+fn is_binary(value: &[u8]) -> bool
+    ensures { λ r. ⌜ r ≡ holdsAll States.Two (now (value .entry)) ⌝ }
+{
+    let mut union: u8 = 0;
+    let mut i = 0;
+    while i < value.len() {
+        union |= beside_two(value[i]);
+        i += 1;
+    }
+    union == 0
+}
+
 // The character of a code, and 0 for a number that is no code.
 pub fn num_to_bit_char(code: u8) -> u8
     ensures { λ r. ⌜ r ≡ letterOf code ⌝ }
@@ -109,42 +122,35 @@ pub fn num_to_bit_char(code: u8) -> u8
 }
 
 impl States {
-    // 0 for a character of the set, and another number for every other byte.
-    fn beside(self, value: u8) -> u8
-        ensures { λ r. ⌜ eqb r 0 ≡ holdsOne (codesIn self) value ⌝ }
+    // The least set of a string that set Two does not hold: Four and Nine are tried in one reading.
+    fn beyond_two(value: &[u8]) -> StatesAnswer
+        requires { ⌜ false ≡ holdsAll States.Two (now value) ⌝ }
+        ensures { λ r. ⌜ r ≡ leastStates (now (value .entry)) ⌝ }
     {
-        let states = self;
-        match states {
-            States::Two => beside_two(value),
-            States::Four => beside_four(value),
-            States::Nine => beside_nine(value),
-        }
-    }
-
-    // Whether the set holds every character of a string.
-    fn holds(self, value: &[u8]) -> bool
-        ensures { λ r. ⌜ r ≡ holdsAll self (now (value .entry)) ⌝ }
-    {
-        let mut union: u8 = 0;
+        let mut four: u8 = 0;
+        let mut nine: u8 = 0;
         let mut i = 0;
         while i < value.len() {
-            union |= self.beside(value[i]);
+            four |= beside_four(value[i]);
+            nine |= beside_nine(value[i]);
             i += 1;
         }
-        union == 0
+        if four == 0 {
+            StatesAnswer::Least(States::Four)
+        } else if nine == 0 {
+            StatesAnswer::Least(States::Nine)
+        } else {
+            StatesAnswer::Foreign
+        }
     }
 
     pub fn from_ascii(value: &[u8]) -> StatesAnswer
         ensures { λ r. ⌜ r ≡ leastStates (now (value .entry)) ⌝ }
     {
-        if States::Two.holds(value) {
+        if is_binary(value) {
             StatesAnswer::Least(States::Two)
-        } else if States::Four.holds(value) {
-            StatesAnswer::Least(States::Four)
-        } else if States::Nine.holds(value) {
-            StatesAnswer::Least(States::Nine)
         } else {
-            StatesAnswer::Foreign
+            States::beyond_two(value)
         }
     }
 

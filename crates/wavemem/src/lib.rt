@@ -9,6 +9,8 @@ ghost use Rattle.wavemem.specs.Packed.{packedFrom, firstCount, OneWord, 
 use value::CharCode;
 use value::States;
 
+pub mod short;
+
 // How many levels a byte holds.
 fn bits_in_a_byte(states: States) -> usize
     ensures { λ r. ⌜ r ≡ 8 / bitsOf states ⌝ }

@@ -18,11 +18,11 @@ number-from-ascii-requires c κs =
     let x = c .before .before in
     one-word (x .pre .0) (omega (arith, x .pre .1, c .if1 .left))
 
-mark-in-requires : tie.Need-mark-in-requires
-mark-in-requires c κs =
+marked-number-requires : tie.Need-marked-number-requires
+marked-number-requires c κs =
     let i = c .before in
     let x = i .before .before in
-    (omega (arith, some (x .pre .0) (omega (arith, x .pre .1, i .if1 .left)), x .pre .1), i .if1 .left)
+    omega (arith, some (x .pre .0) (omega (arith, x .pre .1, i .if1 .left)), x .pre .1)
 
 returns-2 : tie.Need-returns-2
 returns-2 c =
@@ -32,9 +32,10 @@ returns-2 c =
       sized = x .pre .1;
       is =
           λ h.
-          ap₂ bitOr (c .before .number-from-ascii .ensures) (c .mark-in .ensures ∙ ap (λ (s : ℕ). markOf (x .args .states) * 2 ^ (8 * s - 2)) (x .pre .1))
+          c .marked-number .ensures h
+          ∙ ap₂ (λ (n s : ℕ). bitOr n (markOf (x .args .states) * 2 ^ (8 * s - 2))) (c .before .number-from-ascii .ensures) (x .pre .1)
           ∙ marked-number (x .pre .0) (omega (arith, x .pre .1, i .if1 .left));
     }
 
 pub entry-number-spec : {M : Type 1} → statement M
-entry-number-spec = tie.close (tie.spec returns number-from-ascii-requires mark-in-requires returns-2)
+entry-number-spec = tie.close (tie.spec returns number-from-ascii-requires marked-number-requires returns-2)

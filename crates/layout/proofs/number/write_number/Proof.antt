@@ -5,13 +5,14 @@ use mathlib.Core.List.{List}
 use Prim.Native.Nat.{ℕ, suc, _+_, _-_, _*_, _^_, _/_, _%_, _<_, _≤_}
 use native.Mathlib.Nat.{sub-self, add-zero, sub-zero, div-one}
 use native.Mathlib.Omega.{arith}
+use borrow.Author.Needs.{needs}
 use denote.Ref.{now}
 use lib.Bits.{bitAnd, and-mask}
 use lib.ListN.{length, set, length-set}
 use Rattle.value.specs.Digits.{digits}
 use Rattle.value.specs.Slice.{overlay}
 use Rattle.value.proofs.Slices.{overlay-nil}
-use Rattle.layout.proofs.Numbers.{stored-next, rest-next}
+use Rattle.layout.proofs.Numbers.{stored-next, rest-next, one-stored}
 use Rattle.layout.proofs.number.write_number.Statement.{statement}
 use Rattle.layout.proofs.number.write_number.Tie as tie
 
@@ -22,6 +23,20 @@ Inv-loop number size out₀ at rest₀ left₀ out rest left =
 abbrev μ-loop : tie.MeasureT-loop
 μ-loop number size out₀ at rest₀ left₀ out rest left = left
 
+cast-out : tie.Need-cast-out Inv-loop μ-loop
+cast-out c = omega (arith, and-mask (c .before .args .number) 8)
+
+slice-write-out : tie.Need-slice-write-out Inv-loop μ-loop
+slice-write-out c = omega arith
+
+same-length : tie.Need-same-length Inv-loop μ-loop
+same-length c = search needs
+
+returns : tie.Need-returns Inv-loop μ-loop
+returns c =
+    let x = c .before .args in
+    one-stored (x .number) (now (x .out)) (x .at) (omega arith) ∙ ap (λ (k : ℕ). overlay (now (x .out)) (x .at) (digits 256 k (x .number))) (sym (c .if1 .taken))
+
 loop-holds : tie.Need-loop-holds Inv-loop μ-loop
 unfolding digits
 loop-holds c = (omega arith, rw (sub-self, overlay-nil), rw sub-self (sym (div-one _)), refl)
@@ -29,14 +44,14 @@ loop-holds c = (omega arith, rw (sub-self, overlay-nil), rw sub-self (sym (div-o
 sub-left : tie.Need-sub-left Inv-loop μ-loop
 sub-left c = omega arith
 
-cast-out : tie.Need-cast-out Inv-loop μ-loop
-cast-out c = omega (arith, and-mask (c .before .loop .rest) 8)
+cast-out-2 : tie.Need-cast-out-2 Inv-loop μ-loop
+cast-out-2 c = omega (arith, and-mask (c .before .loop .rest) 8)
 
 add-out : tie.Need-add-out Inv-loop μ-loop
 add-out c = omega arith
 
-slice-write-out : tie.Need-slice-write-out Inv-loop μ-loop
-slice-write-out c = omega arith
+slice-write-out-2 : tie.Need-slice-write-out-2 Inv-loop μ-loop
+slice-write-out-2 c = omega arith
 
 loop-less : tie.Need-loop-less Inv-loop μ-loop
 loop-less c = omega arith
@@ -44,7 +59,7 @@ loop-less c = omega arith
 loop-again : tie.Need-loop-again Inv-loop μ-loop
 loop-again c =
     let a = c .before in
-    let x = a .before .args in
+    let x = a .before .before .args in
     let d = now (x .out) in
     let l = a .loop .left - 1 in
     let k = x .size - a .loop .left in
@@ -59,11 +74,11 @@ loop-again c =
       rw length-set (a .loop .inv .3),
     )
 
-same-length : tie.Need-same-length Inv-loop μ-loop
-same-length c = c .before .loop .inv .3
+same-length-2 : tie.Need-same-length-2 Inv-loop μ-loop
+same-length-2 c = c .before .loop .inv .3
 
-returns : tie.Need-returns Inv-loop μ-loop
-returns c =
+returns-2 : tie.Need-returns-2 Inv-loop μ-loop
+returns-2 c =
     let e : c .before .loop .left ≡ 0 = omega arith in
     c .before .loop .inv .1 ∙ rw (e, add-zero, sub-zero)
 
@@ -73,12 +88,16 @@ write-number-spec =
     (tie.spec
     Inv-loop
     μ-loop
+    cast-out
+    slice-write-out
+    same-length
+    returns
     loop-holds
     sub-left
-    cast-out
+    cast-out-2
     add-out
-    slice-write-out
+    slice-write-out-2
     loop-less
     loop-again
-    same-length
-    returns)
+    same-length-2
+    returns-2)
