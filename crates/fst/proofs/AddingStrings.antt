@@ -1,13 +1,14 @@
 -- What Add a change leaves of a string for a bit vector.
 -- Assumes nothing.
-use mathlib.Core.Path.{_≡_, refl, sym, ap, _∙_}
+use mathlib.Core.Path.{_≡_, refl, sym, ap, ap₂, _∙_}
 use mathlib.Core.Bool.{Bool, true, false, cond}
 use mathlib.Core.List.{List, [], _∷_, _++_}
-use Prim.Native.Nat.{ℕ, suc, _+_, _*_, _≤_, _<_}
+use Prim.Native.Nat.{ℕ, suc, _+_, _-_, _*_, _^_, _≤_, _<_}
 use native.Mathlib.Nat.{suc-mul, mul-le-mul-right}
 use native.Mathlib.Numerals.{add-one}
 use native.Mathlib.Omega.{arith}
 use borrow.Author.Tests.{eq-eqb, ne-eqb}
+use lib.Bits.{bitOr}
 use lib.ListN.{length, set}
 use Rattle.value.specs.declared.States.{States}
 use Rattle.value.specs.declared.StatesAnswer.{StatesAnswer}
@@ -20,16 +21,19 @@ use Rattle.value.proofs.Levels as levels
 use Rattle.value.proofs.Classes.{foreign-told, least-told}
 use Rattle.value.proofs.Slices.{part-length}
 use Rattle.wavemem.specs.Packed.{Codes}
+use Rattle.wavemem.specs.Short.{Scan}
+use Rattle.wavemem.specs.declared.short.Scanned.{Scanned}
 use Rattle.fst.specs.declared.Encoding.{Encoding}
 use Rattle.fst.specs.declared.Encoding.the-variants.{BitVector}
 use Rattle.fst.specs.declared.Description.{Description}
 use Rattle.layout.specs.Entry.{entrySize, entryOf, widenAll}
-use Rattle.layout.specs.Writable.{Writable}
+use Rattle.layout.specs.Writable.{Writable, Numbered}
 use Rattle.layout.specs.Expand.{Widenable}
 use Rattle.fst.specs.Record.{Lent, Kept, sizeOf, keptIn, widthStands, isBad}
 use Rattle.fst.specs.Change.{text, isOtherKind, isOtherLength, isForeign, repeats, appended, changed, withChange, addChange}
-use Rattle.fst.specs.Adding.{Admitted, Levels, Comparable}
-use Rattle.layout.proofs.Sizes.{widen-all-same, widen-all-length}
+use Rattle.fst.specs.Adding.{Admitted, Levels, Leveled, Comparable}
+use Rattle.layout.proofs.Sizes.{size-pos, widen-all-same, widen-all-length}
+use Rattle.layout.proofs.Numbers.{one-word, marked-number}
 use Rattle.fst.proofs.Records.{not-bad}
 use Rattle.fst.proofs.AddingPlain.{oneMore, same-stored, behind, kept-full, kept-more}
 use Rattle.fst.proofs.Adding.{standing, width-known, width-any, refusedWith, acceptedWith, Suited, four, five, seven, accepted, indicesKept, stored-same, stored-more}
@@ -231,6 +235,33 @@ module _ (d : Description) (l : Lent) (i : ℕ) (s : List ℕ) (M own : States) 
 
   pub same-comparable : Comparable M M own s (length (l .bytes)) (l .byteStart) (d .count)
   same-comparable = comparable d l i s M own M v joined
+
+  -- the string's entry by itself
+  pub entry-writable : Writable M own s (entrySize (length s) M) 0
+  entry-writable =
+      let p = same-comparable in
+      record { under = p .under; codes = p .codes; wide = p .wide; short = p .short; fits = omega arith }
+
+  -- the levels of a short entry are told by a scan
+  pub levels-told : (size : ℕ) (r : Scanned) → size ≡ entrySize (length s) M → r .answer ≡ answer.Least own → Scan s size r → Leveled M own s size (r .levels)
+  levels-told size r e a t =
+      record { sized = e; is = λ h. t .levels own a h ((one-word entry-writable (omega arith)) .short) }
+
+  -- the number of a short entry, from that of its levels
+  pub levels-numbered : (size levels n : ℕ) → Leveled M own s size levels → (size ≤ 8 → n ≡ bitOr levels (markOf own * 2 ^ (8 * size - 2)))
+      → Numbered M own s size n
+  levels-numbered size levels n t e =
+      record {
+        sized = t .sized;
+        is =
+            λ h.
+            e h
+            ∙ ap₂ (λ (m k : ℕ). bitOr m (markOf own * 2 ^ (8 * k - 2))) (t .is h) (t .sized)
+            ∙ marked-number entry-writable (omega (arith, t .sized));
+      }
+
+  pub size-some : (size levels : ℕ) → Leveled M own s size levels → 1 ≤ size
+  size-some size levels t = omega (arith, t .sized, size-pos (length s) (same-comparable .wide) M)
 
   -- the bytes as they are, and whether their last entry is the string's
   abbrev kept-bytes : List ℕ

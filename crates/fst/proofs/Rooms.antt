@@ -15,7 +15,7 @@ use Rattle.fst.specs.declared.Encoding.the-variants.{Event, BitVector}
 use Rattle.fst.specs.declared.Description.{Description}
 use Rattle.fst.specs.Refusal.{Reply, refused, given, tried}
 use Rattle.layout.specs.Entry.{entrySize}
-use Rattle.fst.specs.Record.{Lent, maximum, sizeOf, usedSize, widthStands, fitsBytes, fits, isBadBytes, isBad, empty, encodingFor, fresh}
+use Rattle.fst.specs.Record.{Lent, maximum, maxWidth, sizeOf, usedSize, widthStands, fitsBytes, fits, isBadBytes, isBad, empty, encodingFor, fresh}
 
 -- ---- Fresh
 
@@ -54,6 +54,28 @@ module _ (count size bytes at : ℕ) where
       (λ h. rw (le-leb (at + count * size) bytes h, le-leb (count * size) (bytes - at) (omega arith)))
       (λ h. rw (lt-leb (at + count * size) bytes h, lt-leb (count * size) (bytes - at) (omega arith))))
 
+-- ---- a width, and indices
+
+module _ (w : ℕ) (r : Bool) where
+  pub width-out : (1 ≤ w → w ≤ 4096 → ⊥) → true ≡ not ((leb 1 w && leb w maxWidth) && r)
+  width-out h =
+      by-le 1 w
+      (λ a. by-le w 4096 (λ b. absurd (h a b)) (λ b. rw (le-leb 1 w a, lt-leb w 4096 b)))
+      (λ a. rw (lt-leb 1 w a))
+
+  pub width-in : 1 ≤ w → w ≤ 4096 → not r ≡ not ((leb 1 w && leb w maxWidth) && r)
+  width-in a b = rw (le-leb 1 w a, le-leb w 4096 b)
+
+module _ (start count n : ℕ) where
+  pub past-indices : n < start → true ≡ not (leb (start + count) n)
+  past-indices h = rw (lt-leb (start + count) n (omega arith))
+
+  pub few-indices : start ≤ n → ltb (n - start) count ≡ not (leb (start + count) n)
+  few-indices h =
+      by-le (start + count) n
+      (λ a. rw (le-ltb (n - start) count (omega arith), le-leb (start + count) n a))
+      (λ a. rw (lt-ltb (n - start) count (omega arith), lt-leb (start + count) n a))
+
 -- ---- number 2, of the bytes
 
 -- what holds where it isn't 2
@@ -63,14 +85,11 @@ pub record Stands (d : Description) (start : ℕ) (bytes : List ℕ) : Type 0 wh
   pub room : start + usedSize d ≤ length bytes
 
 module _ (d : Description) (start : ℕ) (bytes : List ℕ) where
-  -- outside 1 to 4,096
-  pub bad-width : (w : ℕ) (M : States) → d .encoding ≡ BitVector w M → (1 ≤ w → w ≤ 4096 → ⊥) → true ≡ isBadBytes d start bytes
-  unfolding isBadBytes widthStands
-  bad-width w M e h =
-      rw e
-      (by-le 1 w
-      (λ a. by-le w 4096 (λ b. absurd (h a b)) (λ b. rw (le-leb 1 w a, lt-leb w 4096 b)))
-      (λ a. rw (lt-leb 1 w a)))
+  -- a bit vector, by its width and the size of its entries
+  pub bad-vector : (w size : ℕ) (M : States) (r : Bool) → d .encoding ≡ BitVector w M → size ≡ entrySize w M
+      → r ≡ not ((leb 1 w && leb w maxWidth) && room (d .count) size (length bytes) start) → r ≡ isBadBytes d start bytes
+  unfolding isBadBytes widthStands fitsBytes
+  bad-vector w size M r e s h = rw (e, ← s) h
 
   -- a width that stands, or none, and no room
   pub bad-room : (size : ℕ) (r : Bool) → sizeOf (d .encoding) ≡ size → widthStands (d .encoding) ≡ true
@@ -110,19 +129,8 @@ module _ (d : Description) (l : Lent) where
   bad-bytes h = sym (bad-by ∙ ap (λ (b : Bool). b || not (leb (l .indexStart + d .count) (length (l .indices)))) h)
 
   module _ (h : isBadBytes d (l .byteStart) (l .bytes) ≡ false) where
-    by-indices : isBad d l ≡ not (leb (l .indexStart + d .count) (length (l .indices)))
+    pub by-indices : isBad d l ≡ not (leb (l .indexStart + d .count) (length (l .indices)))
     by-indices = bad-by ∙ ap (λ (b : Bool). b || not (leb (l .indexStart + d .count) (length (l .indices)))) h
-
-    pub past-indices : length (l .indices) < l .indexStart → true ≡ isBad d l
-    past-indices k = sym (by-indices ∙ ap not (lt-leb (l .indexStart + d .count) (length (l .indices)) (omega arith)))
-
-    pub few-indices : l .indexStart ≤ length (l .indices) → ltb (length (l .indices) - l .indexStart) (d .count) ≡ isBad d l
-    few-indices k =
-        by-le (l .indexStart + d .count) (length (l .indices))
-        (λ a. le-ltb (length (l .indices) - l .indexStart) (d .count) (omega arith)
-        ∙ sym (by-indices ∙ ap not (le-leb (l .indexStart + d .count) (length (l .indices)) a)))
-        (λ a. lt-ltb (length (l .indices) - l .indexStart) (d .count) (omega arith)
-        ∙ sym (by-indices ∙ ap not (lt-leb (l .indexStart + d .count) (length (l .indices)) a)))
 
 pub width-stands : (w : ℕ) (M : States) → 1 ≤ w → w ≤ 4096 → widthStands (BitVector w M) ≡ true
 unfolding widthStands

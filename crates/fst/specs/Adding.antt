@@ -1,12 +1,13 @@
 -- Inner: what the functions of which Add a change is made ask.
 -- Assumes nothing.
-use Prim.Native.Nat.{ℕ, _+_, _*_, _≤_}
+use Prim.Native.Nat.{ℕ, _+_, _*_, _^_, _≤_}
 use mathlib.Core.Path.{_≡_}
 use mathlib.Core.Bool.{false}
 use mathlib.Core.List.{List}
 use lib.ListN.{length}
 use Rattle.value.specs.declared.States.{States}
-use Rattle.value.specs.Level.{foldAll, codesOf, leastOf, markOf}
+use Rattle.value.specs.Digits.{number}
+use Rattle.value.specs.Level.{foldAll, codesOf, leastOf, markOf, bitsOf}
 use Rattle.wavemem.specs.Packed.{Codes}
 use Rattle.fst.specs.declared.Encoding.the-variants.{BitVector}
 use Rattle.fst.specs.declared.Description.{Description}
@@ -27,6 +28,17 @@ pub record Levels (d : Description) (l : Lent) (i : ℕ) (M own : States) (value
   pub admitted : Admitted d l i (text value)
   pub vector : d .encoding ≡ BitVector (length value) M
   pub least : own ≡ leastOf (codesOf (foldAll value))
+
+-- a bit vector of a width, and the size of its entries
+pub record Vector (d : Description) (width size : ℕ) : Type 0 where
+  pub largest : States
+  pub vector : d .encoding ≡ BitVector width largest
+  pub sized : size ≡ entrySize width largest
+
+-- the size of a string's entry, and the number of its levels for an entry of at most eight bytes
+pub record Leveled (M own : States) (value : List ℕ) (size levels : ℕ) : Type 0 where
+  pub sized : size ≡ entrySize (length value) M
+  pub is : size ≤ 8 → levels ≡ number (2 ^ bitsOf own) (codesOf (foldAll value))
 
 -- a string that may repeat the last of some entries, which are then laid out under a joint set
 pub record Comparable (M joint own : States) (value : List ℕ) (room start count : ℕ) : Type 0 where

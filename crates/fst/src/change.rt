@@ -8,26 +8,28 @@ ghost use Rattle.fst.specs.declared.Encoding.the-variants as encoding;
 ghost use Rattle.fst.specs.declared.Verdict.the-variants as verdict;
 ghost use Rattle.value.specs.Level.{markOf};
 ghost use Rattle.layout.specs.Entry.{entrySize, widenEntry, widenAll};
-ghost use Rattle.layout.specs.Writable.{Numbered, entryFrom};
+ghost use Rattle.layout.specs.Writable.{Writable, Numbered, entryFrom};
 ghost use Rattle.fst.specs.Record.{maximum, isBad};
 ghost use Rattle.fst.specs.Change.{text, isBelowLast, repeats, addChange, leftBy};
-ghost use Rattle.fst.specs.Adding.{Levels, Comparable};
+ghost use Rattle.fst.specs.Adding.{Levels, Leveled, Comparable};
 use crate::Added;
 use crate::Description;
 use crate::Encoding;
 use crate::Refusal;
 use crate::Verdict;
 use crate::record::is_bad;
+use crate::record::is_bad_vector;
 use crate::record::lacks_room;
 use layout::entry::entry_equals;
 use layout::entry::entry_size;
 use layout::entry::write_entry;
 use layout::expand::expand_entries;
-use layout::number::entry_number;
-use layout::number::equals_entry;
-use layout::number::store_entry;
+use layout::number::marked_number;
+use layout::number::number_at;
+use layout::number::write_number;
 use value::States;
 use value::StatesAnswer;
+use wavemem::short::scan;
 
 pub fn accepted(next: Description) -> Added
     ensures { λ r. ⌜ r ≡ record { verdict = verdict.Accepted; next = next } ⌝ }
@@ -116,7 +118,7 @@ fn repeats_last(
     }
 }
 
-// Whether a string repeats the last of `count` entries of a size.
+// Whether a string repeats the last of `count` entries of a size: `equals_entry` there, compiled into its one caller.
 fn repeats_number(
     max_states: States,
     states: States,
@@ -131,11 +133,33 @@ fn repeats_number(
     ensures { λ r. ⌜ r ≡ repeats (entrySize (length (now (value .entry))) «max_states») count (part «byte_start» (count * entrySize (length (now (value .entry))) «max_states») (now (bytes .entry))) (entryFrom «max_states» states (now (value .entry))) ⌝ }
 {
     if count == 0 {
-        false
-    } else {
-        let at = byte_start + (count as usize - 1) * size;
-        equals_entry(max_states, states, value, size, number, bytes, at)
+        return false;
     }
+    let at = byte_start + (count as usize - 1) * size;
+    if 8 < size {
+        return entry_equals(max_states, states, value, bytes, at);
+    }
+    number_at(bytes, at, size) == number
+}
+
+// `store_entry`, compiled into its one caller.
+fn store_number(
+    max_states: States,
+    states: States,
+    value: &[u8],
+    size: usize,
+    number: u64,
+    bytes: &mut [u8],
+    at: usize,
+)
+    requires { ⌜ Writable «max_states» states (now value) (length (now bytes)) at × Numbered «max_states» states (now value) size number ⌝ }
+    ensures { λ _. ⌜ now (bytes .exit) ≡ overlay (now (bytes .entry)) at (entryFrom «max_states» states (now (value .entry))) ⌝ }
+{
+    if 8 < size {
+        write_entry(max_states, states, value, bytes, at);
+        return;
+    }
+    write_number(number, size, bytes, at);
 }
 
 // The entries with a change.
@@ -193,6 +217,8 @@ impl Description {
         mut self,
         max_states: States,
         states: States,
+        size: usize,
+        levels: u64,
         bytes: &mut [u8],
         byte_start: usize,
         indices: &mut [u32],
@@ -200,12 +226,11 @@ impl Description {
         index: u32,
         value: &[u8],
     ) -> Added
-        requires { ⌜ Levels self (record { bytes = now bytes; byteStart = «byte_start»; indices = now indices; indexStart = «index_start» }) index «max_states» states (now value) × (markOf states ≤ markOf «max_states») ⌝ }
+        requires { ⌜ Levels self (record { bytes = now bytes; byteStart = «byte_start»; indices = now indices; indexStart = «index_start» }) index «max_states» states (now value) × (markOf states ≤ markOf «max_states») × Leveled «max_states» states (now value) size levels ⌝ }
         ensures { λ r. ⌜ leftBy r (now (bytes .exit)) (now (indices .exit)) ≡ addChange self (record { bytes = now (bytes .entry); byteStart = «byte_start»; indices = now (indices .entry); indexStart = «index_start» }) index (text (now (value .entry))) ⌝ }
     {
         let count = self.count;
-        let size = entry_size(max_states, value.len() as u32);
-        let number = entry_number(max_states, states, value, size);
+        let number = marked_number(states, size, levels);
         if repeats_number(
             max_states,
             states,
@@ -224,7 +249,7 @@ impl Description {
         self.count += 1;
         let entries = count as usize;
         let at = byte_start + entries * size;
-        store_entry(max_states, states, value, size, number, bytes, at);
+        store_number(max_states, states, value, size, number, bytes, at);
         indices[index_start + entries] = index;
         accepted(self)
     }
@@ -233,6 +258,8 @@ impl Description {
         self,
         max_states: States,
         states: States,
+        size: usize,
+        levels: u64,
         bytes: &mut [u8],
         byte_start: usize,
         indices: &mut [u32],
@@ -240,7 +267,7 @@ impl Description {
         index: u32,
         value: &[u8],
     ) -> Added
-        requires { ⌜ Levels self (record { bytes = now bytes; byteStart = «byte_start»; indices = now indices; indexStart = «index_start» }) index «max_states» states (now value) ⌝ }
+        requires { ⌜ Levels self (record { bytes = now bytes; byteStart = «byte_start»; indices = now indices; indexStart = «index_start» }) index «max_states» states (now value) × (markOf states ≤ markOf «max_states» → Leveled «max_states» states (now value) size levels) ⌝ }
         ensures { λ r. ⌜ leftBy r (now (bytes .exit)) (now (indices .exit)) ≡ addChange self (record { bytes = now (bytes .entry); byteStart = «byte_start»; indices = now (indices .entry); indexStart = «index_start» }) index (text (now (value .entry))) ⌝ }
     {
         if max_states.mark() < states.mark() {
@@ -258,6 +285,8 @@ impl Description {
         self.append_levels(
             max_states,
             states,
+            size,
+            levels,
             bytes,
             byte_start,
             indices,
@@ -268,6 +297,47 @@ impl Description {
     }
 
     // Numbers 4 to 6 of a string for a bit vector.
+    fn add_text(
+        self,
+        width: u32,
+        max_states: States,
+        size: usize,
+        bytes: &mut [u8],
+        byte_start: usize,
+        indices: &mut [u32],
+        index_start: usize,
+        index: u32,
+        value: &[u8],
+    ) -> Added
+        requires { ⌜ (isBad self (record { bytes = now bytes; byteStart = «byte_start»; indices = now indices; indexStart = «index_start» }) ≡ false) × (self .encoding ≡ encoding.BitVector width «max_states») × (size ≡ entrySize width «max_states») ⌝ }
+        ensures { λ r. ⌜ leftBy r (now (bytes .exit)) (now (indices .exit)) ≡ addChange self (record { bytes = now (bytes .entry); byteStart = «byte_start»; indices = now (indices .entry); indexStart = «index_start» }) index (text (now (value .entry))) ⌝ }
+    {
+        if value.len() != width as usize {
+            return refused(self, Refusal::WrongLength);
+        }
+        let scanned = scan(value, size);
+        let answer = scanned.answer;
+        let StatesAnswer::Least(states) = answer else {
+            return refused(self, Refusal::ForeignCharacter);
+        };
+        if is_below_last(index, indices, index_start, self.count) {
+            return refused(self, Refusal::IndexBelowLast);
+        }
+        self.add_levels(
+            max_states,
+            states,
+            size,
+            scanned.levels,
+            bytes,
+            byte_start,
+            indices,
+            index_start,
+            index,
+            value,
+        )
+    }
+
+    // Number 2, and the size of the entries.
     fn add_string(
         self,
         width: u32,
@@ -279,21 +349,17 @@ impl Description {
         index: u32,
         value: &[u8],
     ) -> Added
-        requires { ⌜ (isBad self (record { bytes = now bytes; byteStart = «byte_start»; indices = now indices; indexStart = «index_start» }) ≡ false) × (self .encoding ≡ encoding.BitVector width «max_states») ⌝ }
+        requires { ⌜ self .encoding ≡ encoding.BitVector width «max_states» ⌝ }
         ensures { λ r. ⌜ leftBy r (now (bytes .exit)) (now (indices .exit)) ≡ addChange self (record { bytes = now (bytes .entry); byteStart = «byte_start»; indices = now (indices .entry); indexStart = «index_start» }) index (text (now (value .entry))) ⌝ }
     {
-        if value.len() != width as usize {
-            return refused(self, Refusal::WrongLength);
+        let size = entry_size(max_states, width);
+        if is_bad_vector(self, width, size, bytes, byte_start, indices, index_start) {
+            return refused(self, Refusal::BadRecord);
         }
-        let StatesAnswer::Least(states) = States::from_ascii(value) else {
-            return refused(self, Refusal::ForeignCharacter);
-        };
-        if is_below_last(index, indices, index_start, self.count) {
-            return refused(self, Refusal::IndexBelowLast);
-        }
-        self.add_levels(
+        self.add_text(
+            width,
             max_states,
-            states,
+            size,
             bytes,
             byte_start,
             indices,
@@ -303,8 +369,8 @@ impl Description {
         )
     }
 
-    // A string for an event: every change is kept.
-    fn add_event(
+    // Numbers 4 to 7 of a string for an event: every change is kept.
+    fn keep_event(
         mut self,
         bytes: &[u8],
         byte_start: usize,
@@ -331,6 +397,26 @@ impl Description {
         accepted(self)
     }
 
+    // A string for an event.
+    fn add_event(
+        self,
+        bytes: &[u8],
+        byte_start: usize,
+        indices: &mut [u32],
+        index_start: usize,
+        index: u32,
+        value: &[u8],
+    ) -> Added
+        requires { ⌜ self .encoding ≡ encoding.Event ⌝ }
+        ensures { λ r. ⌜ leftBy r (now (bytes .entry)) (now (indices .exit)) ≡ addChange self (record { bytes = now (bytes .entry); byteStart = «byte_start»; indices = now (indices .entry); indexStart = «index_start» }) index (text (now (value .entry))) ⌝ }
+    {
+        if is_bad(self, bytes, byte_start, indices, index_start) {
+            return refused(self, Refusal::BadRecord);
+        }
+        self.keep_event(bytes, byte_start, indices, index_start, index, value)
+    }
+
+    // Number 2 is tried in each arm, so that a bit vector's size is worked out once.
     pub fn add_change(
         mut self,
         bytes: &mut [u8],
@@ -342,9 +428,6 @@ impl Description {
     ) -> Added
         ensures { λ r. ⌜ leftBy r (now (bytes .exit)) (now (indices .exit)) ≡ addChange self (record { bytes = now (bytes .entry); byteStart = «byte_start»; indices = now (indices .entry); indexStart = «index_start» }) index (text (now (value .entry))) ⌝ }
     {
-        if is_bad(self, bytes, byte_start, indices, index_start) {
-            return refused(self, Refusal::BadRecord);
-        }
         let encoding = self.encoding;
         match encoding {
             Encoding::Event => self.add_event(
@@ -355,7 +438,12 @@ impl Description {
                 index,
                 value,
             ),
-            Encoding::Real => refused(self, Refusal::WrongKind),
+            Encoding::Real => {
+                if is_bad(self, bytes, byte_start, indices, index_start) {
+                    return refused(self, Refusal::BadRecord);
+                }
+                refused(self, Refusal::WrongKind)
+            }
             Encoding::BitVector { width, max_states } => self.add_string(
                 width,
                 max_states,

@@ -1,10 +1,12 @@
 // Fresh records, and what a description asks of the slices that it is lent with.
 ghost use mathlib.Core.Path.{_≡_};
-ghost use mathlib.Core.Bool.{_&&_, false};
+ghost use mathlib.Core.Bool.{_&&_, not, false};
 ghost use Prim.Native.Nat.{_+_, _*_, _≤_};
 ghost use lib.Dec.{leb};
+ghost use lib.ListN.{length};
 ghost use Rattle.fst.specs.Refusal.{madeOf};
-ghost use Rattle.fst.specs.Record.{maximum, sizeOf, isBadBytes, isBad, fresh, freshReal};
+ghost use Rattle.fst.specs.Record.{maximum, maxWidth, sizeOf, isBadBytes, isBad, fresh, freshReal};
+ghost use Rattle.fst.specs.Adding.{Vector};
 use crate::Description;
 use crate::Encoding;
 use crate::Made;
@@ -60,6 +62,20 @@ fn has_room(count: u32, size: usize, bytes: usize, byte_start: usize) -> bool
     count as usize * size <= bytes - byte_start
 }
 
+// Whether so many bytes from a start are no bit vector's of a width, whose entries have a size.
+fn is_bad_levels(width: u32, size: usize, count: u32, bytes: usize, byte_start: usize) -> bool
+    requires { ⌜ (width ≤ maxWidth → size ≤ 4096) ⌝ }
+    ensures { λ r. ⌜ r ≡ not ((leb 1 width && leb width maxWidth) && (leb count maximum && leb («byte_start» + count * size) bytes)) ⌝ }
+{
+    if width < 1 {
+        return true;
+    }
+    if MAX_WIDTH < width {
+        return true;
+    }
+    !has_room(count, size, bytes, byte_start)
+}
+
 // Number 2 of the calls that are lent no indices: whether a description asks for more bytes than it is lent, or for what no record has.
 pub fn is_bad_bytes(description: Description, bytes: &[u8], byte_start: usize) -> bool
     ensures { λ r. ⌜ r ≡ isBadBytes description «byte_start» (now (bytes .entry)) ⌝ }
@@ -70,16 +86,20 @@ pub fn is_bad_bytes(description: Description, bytes: &[u8], byte_start: usize) -
         Encoding::Event => !has_room(count, 0, bytes.len(), byte_start),
         Encoding::Real => !has_room(count, 8, bytes.len(), byte_start),
         Encoding::BitVector { width, max_states } => {
-            if width < 1 {
-                return true;
-            }
-            if MAX_WIDTH < width {
-                return true;
-            }
             let size = entry_size(max_states, width);
-            !has_room(count, size, bytes.len(), byte_start)
+            is_bad_levels(width, size, count, bytes.len(), byte_start)
         }
     }
+}
+
+// Whether fewer indices are lent from a start on.
+fn lacks_indices(count: u32, indices: &[u32], index_start: usize) -> bool
+    ensures { λ r. ⌜ r ≡ not (leb («index_start» + count) (length (now (indices .entry)))) ⌝ }
+{
+    if indices.len() < index_start {
+        return true;
+    }
+    indices.len() - index_start < count as usize
 }
 
 // Number 2: the same, or more indices than are lent.
@@ -95,10 +115,27 @@ pub fn is_bad(
     if is_bad_bytes(description, bytes, byte_start) {
         return true;
     }
-    if indices.len() < index_start {
+    lacks_indices(description.count, indices, index_start)
+}
+
+// Number 2 of a bit vector, whose size is worked out once for all that follows.
+pub fn is_bad_vector(
+    description: Description,
+    width: u32,
+    size: usize,
+    bytes: &[u8],
+    byte_start: usize,
+    indices: &[u32],
+    index_start: usize,
+) -> bool
+    requires { ⌜ Vector description width size ⌝ }
+    ensures { λ r. ⌜ r ≡ isBad description (record { bytes = now (bytes .entry); byteStart = «byte_start»; indices = now (indices .entry); indexStart = «index_start» }) ⌝ }
+{
+    let count = description.count;
+    if is_bad_levels(width, size, count, bytes.len(), byte_start) {
         return true;
     }
-    indices.len() - index_start < description.count as usize
+    lacks_indices(count, indices, index_start)
 }
 
 // Number 7 of one entry more, where the record is not bad and its entries have a size.

@@ -14,6 +14,15 @@ use Rattle.fst.proofs.Description.add_change.Tie as tie
 abbrev lent : tie.Start → Lent
 lent x = record { bytes = now (x .args .bytes); byteStart = x .args .byte-start; indices = now (x .args .indices); indexStart = x .args .index-start }
 
+enum-told : tie.Need-enum-told
+enum-told c = search needs
+
+add-event-requires : tie.Need-add-event-requires
+add-event-requires c κs = search needs
+
+enum-told-2 : tie.Need-enum-told-2
+enum-told-2 c = search needs
+
 is-bad-requires : tie.Need-is-bad-requires
 is-bad-requires c κs = search needs
 
@@ -28,18 +37,10 @@ same-length-2 c = search needs
 
 returns : tie.Need-returns
 returns c =
-    let x = c .before .before .before .before .before .before .before .before in
+    let b = c .before .before in
+    let x = b .before .before .before .before .before .before .before .before in
     untouched (lent x) (c .refused .ensures)
-    ∙ two (x .args .self) (lent x) (x .args .index) (text (now (x .args .value))) (sym (c .before .before .is-bad .ensures) ∙ c .before .if1 .taken)
-
-enum-told : tie.Need-enum-told
-enum-told c = search needs
-
-add-event-requires : tie.Need-add-event-requires
-add-event-requires c κs = (sym (c .before .before .before .before .before .is-bad .ensures) ∙ c .before .before .before .before .if1 .left, c .before .before .enum-told .given .1)
-
-enum-told-2 : tie.Need-enum-told-2
-enum-told-2 c = search needs
+    ∙ two (x .args .self) (lent x) (x .args .index) (text (now (x .args .value))) (sym (b .is-bad .ensures) ∙ c .before .if1 .taken)
 
 refused-requires-2 : tie.Need-refused-requires-2
 refused-requires-2 c κs = search needs
@@ -48,7 +49,7 @@ enum-known-encoding : tie.Need-enum-known-encoding
 enum-known-encoding c = search needs
 
 add-string-requires : tie.Need-add-string-requires
-add-string-requires c κs = (sym (c .before .before .before .before .before .before .is-bad .ensures) ∙ c .before .before .before .before .before .if1 .left, c .before .before .before .encoding .given .1)
+add-string-requires c κs = search needs
 
 same-length-3 : tie.Need-same-length-3
 same-length-3 c = search needs
@@ -67,9 +68,11 @@ same-length-6 c = search needs
 
 returns-3 : tie.Need-returns-3
 returns-3 c =
-    let x = c .before .before .before .before .before .before .before .before .before .before in
+    let b = c .before .before in
+    let e = b .before .before .before in
+    let x = e .before .before .before .before .before in
     untouched (lent x) (c .refused2 .ensures)
-    ∙ real-three (x .args .self) (lent x) (x .args .index) (now (x .args .value)) (sym (c .before .before .before .before .is-bad .ensures) ∙ c .before .before .before .if1 .left) (c .before .enum-told2 .given .1)
+    ∙ real-three (x .args .self) (lent x) (x .args .index) (now (x .args .value)) (sym (b .is-bad .ensures) ∙ c .before .if1 .left) (e .enum-told2 .given .1)
 
 same-length-7 : tie.Need-same-length-7
 same-length-7 c = search needs
@@ -84,14 +87,14 @@ pub add-change-spec : {M : Type 1} → statement M
 add-change-spec =
     tie.close
     (tie.spec
+    enum-told
+    add-event-requires
+    enum-told-2
     is-bad-requires
     refused-requires
     same-length
     same-length-2
     returns
-    enum-told
-    add-event-requires
-    enum-told-2
     refused-requires-2
     enum-known-encoding
     add-string-requires

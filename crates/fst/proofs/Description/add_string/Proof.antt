@@ -1,14 +1,10 @@
 -- `fst::Description::add_string` meets its contract.
 -- Assumes nothing.
-use mathlib.Core.Path.{_≡_, sym, _∙_}
+use mathlib.Core.Path.{sym, _∙_}
 use denote.Ref.{now}
-use lib.ListN.{length}
 use Rattle.fst.specs.Record.{Lent}
 use Rattle.fst.specs.Change.{text}
-use Rattle.value.specs.declared.StatesAnswer.the-variants as answer
-use Rattle.value.specs.Answer.{leastStates}
-use Rattle.fst.proofs.Adding.{Suited, standing, six, admits, untouched}
-use Rattle.fst.proofs.AddingStrings.{string-four, string-five, string-suited, string-levels}
+use Rattle.fst.proofs.Adding.{two, untouched}
 use borrow.Author.Needs.{needs}
 use Rattle.fst.proofs.Description.add_string.Statement.{statement}
 use Rattle.fst.proofs.Description.add_string.Tie as tie
@@ -17,97 +13,57 @@ use Rattle.fst.proofs.Description.add_string.Tie as tie
 abbrev lent : tie.Start → Lent
 lent x = record { bytes = now (x .args .bytes); byteStart = x .args .byte-start; indices = now (x .args .indices); indexStart = x .args .index-start }
 
--- what is known once the index is tried
-module _ (b : tie.After-is-below-last) where
-  abbrev start : tie.Start
-  start = b .before .before .before .before .before .before .before .before .before .before
+entry-size-requires : tie.Need-entry-size-requires
+entry-size-requires c κs = search needs
 
-  long : length (now (start .args .value)) ≡ start .args .width
-  long = b .before .before .before .before .before .before .if1 .left
-
-  least : leastStates (now (start .args .value)) ≡ answer.Least (b .before .before .before .states .given .0 .0)
-  least = sym (b .before .before .before .before .before .from-ascii .ensures) ∙ b .before .before .before .states .given .1
-
-  suited : Suited (start .args .self) (lent start) (text (now (start .args .value)))
-  suited = string-suited (start .args .self) (lent start) (start .args .index) (now (start .args .value)) (start .args .width) (start .args .max-states) (start .pre .0) (start .pre .1) long _ least
+is-bad-vector-requires : tie.Need-is-bad-vector-requires
+is-bad-vector-requires c κs =
+    let e = c .before .before in
+    let x = e .before .before .before .before in
+    record { largest = x .args .max-states; vector = x .pre; sized = e .entry-size .ensures }
 
 refused-requires : tie.Need-refused-requires
 refused-requires c κs = search needs
 
-returns : tie.Need-returns
-returns c =
-    let x = c .before .before .before .before .before in
-    untouched (lent x) (c .refused .ensures)
-    ∙ string-four (x .args .self) (lent x) (x .args .index) (now (x .args .value)) (x .args .width) (x .args .max-states) (x .pre .0) (x .pre .1) (c .before .if1 .taken)
-
-from-ascii-requires : tie.Need-from-ascii-requires
-from-ascii-requires c κs = search needs
-
-enum-known-states : tie.Need-enum-known-states
-enum-known-states c = search needs
-
-enum-told : tie.Need-enum-told
-enum-told c = search needs
-
-refused-requires-2 : tie.Need-refused-requires-2
-refused-requires-2 c κs = search needs
-
-returns-2 : tie.Need-returns-2
-returns-2 c =
-    let x = c .before .before .before .before .before .before .before .before in
-    untouched (lent x) (c .refused2 .ensures)
-    ∙ string-five (x .args .self) (lent x) (x .args .index) (now (x .args .value)) (x .args .width) (x .args .max-states) (x .pre .0) (x .pre .1) (c .before .before .before .before .if1 .left) (sym (c .before .before .before .from-ascii .ensures) ∙ c .before .enum-told .given .1)
-
-is-below-last-requires : tie.Need-is-below-last-requires
-is-below-last-requires c κs =
-    let x = c .before .before .before .before .before .before .before .before .before in
-    (standing (x .args .self) (lent x) (x .pre .0)) .indices
-
-refused-requires-3 : tie.Need-refused-requires-3
-refused-requires-3 c κs = search needs
-
 same-length : tie.Need-same-length
 same-length c = search needs
-
-returns-3 : tie.Need-returns-3
-returns-3 c =
-    let b = c .before .before in
-    let x = start b in
-    untouched (lent x) (c .refused3 .ensures)
-    ∙ six (x .args .self) (lent x) (x .args .index) (text (now (x .args .value))) (suited b) (sym (c .before .if2 .taken) ∙ b .is-below-last .ensures)
-
-add-levels-requires : tie.Need-add-levels-requires
-add-levels-requires c κs =
-    let b = c .before .before .before in
-    let x = start b in
-    string-levels (x .args .self) (lent x) (x .args .index) (now (x .args .value)) (x .args .width) (x .args .max-states) (x .pre .0) (x .pre .1) (long b) _ (least b)
-    (admits (x .args .self) (lent x) (x .args .index) (text (now (x .args .value))) (suited b) (sym (c .before .before .if2 .left) ∙ b .is-below-last .ensures))
 
 same-length-2 : tie.Need-same-length-2
 same-length-2 c = search needs
 
+returns : tie.Need-returns
+returns c =
+    let b = c .before .before in
+    let x = b .before .before .before .before .before .before .before in
+    untouched (lent x) (c .refused .ensures)
+    ∙ two (x .args .self) (lent x) (x .args .index) (text (now (x .args .value))) (sym (b .is-bad-vector .ensures) ∙ c .before .if1 .taken)
+
+add-text-requires : tie.Need-add-text-requires
+add-text-requires c κs =
+    let i = c .before .before in
+    let e = i .before .before .before .before in
+    (sym (i .before .is-bad-vector .ensures) ∙ i .if1 .left, e .before .before .before .before .pre, e .entry-size .ensures)
+
 same-length-3 : tie.Need-same-length-3
 same-length-3 c = search needs
 
-returns-4 : tie.Need-returns-4
-returns-4 c = search needs
+same-length-4 : tie.Need-same-length-4
+same-length-4 c = search needs
+
+returns-2 : tie.Need-returns-2
+returns-2 c = search needs
 
 pub add-string-spec : {M : Type 1} → statement M
 add-string-spec =
     tie.close
     (tie.spec
+    entry-size-requires
+    is-bad-vector-requires
     refused-requires
-    returns
-    from-ascii-requires
-    enum-known-states
-    enum-told
-    refused-requires-2
-    returns-2
-    is-below-last-requires
-    refused-requires-3
     same-length
-    returns-3
-    add-levels-requires
     same-length-2
+    returns
+    add-text-requires
     same-length-3
-    returns-4)
+    same-length-4
+    returns-2)

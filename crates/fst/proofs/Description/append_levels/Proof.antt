@@ -9,13 +9,13 @@ use denote.Ref.{now}
 use lib.ListN.{length, set}
 use Rattle.value.specs.Slice.{overlay}
 use Rattle.layout.specs.Entry.{entrySize}
-use Rattle.layout.specs.Writable.{entryFrom}
+use Rattle.layout.specs.Writable.{Numbered, entryFrom}
 use Rattle.fst.specs.declared.Added.{Added}
 use Rattle.fst.specs.Record.{Lent, isBad}
 use Rattle.fst.specs.Change.{leftBy}
 use Rattle.fst.proofs.Adding.{standing}
 use Rattle.fst.proofs.AddingPlain.{oneMore}
-use Rattle.fst.proofs.AddingStrings.{same-comparable, repeated, append-stays, append-full, append-more, append-roomier, append-size}
+use Rattle.fst.proofs.AddingStrings.{same-comparable, repeated, append-stays, append-full, append-more, append-roomier, append-size, levels-numbered, size-some}
 use borrow.Author.Needs.{needs}
 use Rattle.fst.proofs.Description.append_levels.Statement.{statement}
 use Rattle.fst.proofs.Description.append_levels.Tie as tie
@@ -38,10 +38,10 @@ product a n k b h l = omega arith
 -- what is known once the room is tried
 module _ (z : tie.After-lacks-room) where
   abbrev start : tie.Start
-  start = z .before .before .before .before .before .before .before .before .before .before .before
+  start = z .before .before .before .before .before .before .before .before .before .before
 
-  sized : z .before .before .before .before .before .before .before .entry-size .result ≡ entrySize (length (now (start .args .value))) (start .args .max-states)
-  sized = z .before .before .before .before .before .before .before .entry-size .ensures
+  sized : start .args .size ≡ entrySize (length (now (start .args .value))) (start .args .max-states)
+  sized = start .pre .2 .sized
 
   other : false ≡ repeated (start .args .self) (lent start) (start .args .index) (now (start .args .value)) (start .args .max-states) (start .args .states) (start .pre .0) (start .pre .1)
   other = sym (z .before .before .before .if1 .left) ∙ z .before .before .before .before .repeats-number .ensures
@@ -55,28 +55,24 @@ module _ (z : tie.After-lacks-room) where
   places h =
       append-roomier (start .args .self) (lent start) (start .args .index) (now (start .args .value)) (start .args .max-states) (start .args .states) (start .pre .0) (start .pre .1) (roomy h)
 
-cast-entry-size : tie.Need-cast-entry-size
-cast-entry-size c =
+marked-number-requires : tie.Need-marked-number-requires
+marked-number-requires c κs =
     let x = c .before .before .before in
-    let p = same-comparable (x .args .self) (lent x) (x .args .index) (now (x .args .value)) (x .args .max-states) (x .args .states) (x .pre .0) (x .pre .1) in
-    omega (arith, p .short)
+    size-some (x .args .self) (lent x) (x .args .index) (now (x .args .value)) (x .args .max-states) (x .args .states) (x .pre .0) (x .pre .1) _ _ (x .pre .2)
 
-entry-size-requires : tie.Need-entry-size-requires
-entry-size-requires c κs = search needs
-
-entry-number-requires : tie.Need-entry-number-requires
-entry-number-requires c κs =
-    let x = c .before .before .before .before in
-    let p = same-comparable (x .args .self) (lent x) (x .args .index) (now (x .args .value)) (x .args .max-states) (x .args .states) (x .pre .0) (x .pre .1) in (
-      record { under = p .under; codes = p .codes; wide = p .wide; short = p .short; fits = omega (arith, c .entry-size .ensures) },
-      c .entry-size .ensures,
-    )
+-- the entry's number
+numbered : (n : tie.After-marked-number) →
+    let a = n .before .before .before .before .args in
+    Numbered (a .max-states) (a .states) (now (a .value)) (a .size) (n .marked-number .result)
+numbered n =
+    let x = n .before .before .before .before in
+    levels-numbered (x .args .self) (lent x) (x .args .index) (now (x .args .value)) (x .args .max-states) (x .args .states) (x .pre .0) (x .pre .1) _ _ _ (x .pre .2) (n .marked-number .ensures)
 
 repeats-number-requires : tie.Need-repeats-number-requires
 repeats-number-requires c κs =
     let n = c .before in
-    let x = n .before .before .before .before .before in
-    (same-comparable (x .args .self) (lent x) (x .args .index) (now (x .args .value)) (x .args .max-states) (x .args .states) (x .pre .0) (x .pre .1), n .entry-number .ensures)
+    let x = n .before .before .before .before in
+    (same-comparable (x .args .self) (lent x) (x .args .index) (now (x .args .value)) (x .args .max-states) (x .args .states) (x .pre .0) (x .pre .1), numbered n)
 
 accepted-requires : tie.Need-accepted-requires
 accepted-requires c κs = search needs
@@ -86,14 +82,14 @@ same-length c = search needs
 
 returns : tie.Need-returns
 returns c =
-    let x = c .before .before .before .before .before .before .before .before .before in
+    let x = c .before .before .before .before .before .before .before .before in
     ap (λ (r : Added). leftBy r ((lent x) .bytes) ((lent x) .indices)) (c .accepted .ensures)
     ∙ append-stays (x .args .self) (lent x) (x .args .index) (now (x .args .value)) (x .args .max-states) (x .args .states) (x .pre .0) (x .pre .1) (sym (c .before .if1 .taken) ∙ c .before .before .repeats-number .ensures)
 
 lacks-room-requires : tie.Need-lacks-room-requires
 lacks-room-requires c κs =
-    let x = c .before .before .before .before .before .before .before .before .before .before in
-    (x .pre .0 .admitted .sound, c .before .before .before .before .before .before .entry-size .ensures ∙ sym (append-size (x .args .self) (lent x) (x .args .index) (now (x .args .value)) (x .args .max-states) (x .args .states) (x .pre .0) (x .pre .1)))
+    let x = c .before .before .before .before .before .before .before .before .before in
+    (x .pre .0 .admitted .sound, x .pre .2 .sized ∙ sym (append-size (x .args .self) (lent x) (x .args .index) (now (x .args .value)) (x .args .max-states) (x .args .states) (x .pre .0) (x .pre .1)))
 
 refused-requires : tie.Need-refused-requires
 refused-requires c κs = search needs
@@ -113,7 +109,7 @@ returns-2 c =
 
 add-self : tie.Need-add-self
 add-self c =
-    let x = c .before .before .before .before .before .before .before .before .before .before .before .before .before in
+    let x = c .before .before .before .before .before .before .before .before .before .before .before .before in
     let f = (standing (x .args .self) (lent x) (x .pre .0 .admitted .sound)) .count in
     omega arith
 
@@ -122,21 +118,21 @@ cast-entries c = search needs
 
 -- the new entry's place
 place : (c : tie.After-struct-known) →
-    let x = c .before .before .before .before .before .before .before .before .before .before .before .before .before in
-    x .args .byte-start + x .args .self .count * c .before .before .before .before .before .before .before .before .before .entry-size .result + c .before .before .before .before .before .before .before .before .before .entry-size .result ≤ length (now (x .args .bytes))
+    let a = (start (c .before .before)) .args in
+    a .byte-start + a .self .count * a .size + a .size ≤ length (now (a .bytes))
 place c =
     let z = c .before .before in
     let a = (start z) .args in
     subst (λ (k : ℕ). a .byte-start + a .self .count * k + k ≤ length (now (a .bytes))) (sym (sized z)) ((places z (c .before .if2 .left)) .0)
 
 mul-at : tie.Need-mul-at
-mul-at c = record { fits = (product _ _ _ _ (place c) (few-bytes (c .before .before .before .before .before .before .before .before .before .before .before .before .before))) .0 }
+mul-at c = record { fits = (product _ _ _ _ (place c) (few-bytes (start (c .before .before)))) .0 }
 
 add-at : tie.Need-add-at
-add-at c = record { fits = (product _ _ _ _ (place c) (few-bytes (c .before .before .before .before .before .before .before .before .before .before .before .before .before))) .1 }
+add-at c = record { fits = (product _ _ _ _ (place c) (few-bytes (start (c .before .before)))) .1 }
 
-store-entry-requires : tie.Need-store-entry-requires
-store-entry-requires c κs =
+store-number-requires : tie.Need-store-number-requires
+store-number-requires c κs =
     let z = c .before .before .before in
     let x = start z in
     let p = same-comparable (x .args .self) (lent x) (x .args .index) (now (x .args .value)) (x .args .max-states) (x .args .states) (x .pre .0) (x .pre .1) in
@@ -148,7 +144,7 @@ store-entry-requires c κs =
         short = p .short;
         fits = subst (λ (k : ℕ). x .args .byte-start + x .args .self .count * k + S ≤ length (now (x .args .bytes))) (sym (sized z)) ((places z (c .before .before .if2 .left)) .0);
       },
-      z .before .before .before .before .before .before .entry-number .ensures,
+      numbered (z .before .before .before .before .before .before),
     )
 
 index-in : (c : tie.After-slice-known3) →
@@ -178,7 +174,7 @@ returns-3 : tie.Need-returns-3
 returns-3 c =
     let z = c .before .before .before .before .before .before .before in
     let x = start z in
-    let w = c .before .before .before .store-entry in
+    let w = c .before .before .before .store-number in
     let E = entryFrom (x .args .max-states) (x .args .states) (now (x .args .value)) in
     ap₂ (λ (r : Added) (b : List ℕ). leftBy r b (set (now (x .args .indices)) (x .args .index-start + x .args .self .count) (x .args .index))) (c .accepted2 .ensures)
     (w .ensures ∙ ap (λ (k : ℕ). overlay (now (x .args .bytes)) (x .args .byte-start + x .args .self .count * k) E) (sized z))
@@ -188,9 +184,7 @@ pub append-levels-spec : {M : Type 1} → statement M
 append-levels-spec =
     tie.close
     (tie.spec
-    cast-entry-size
-    entry-size-requires
-    entry-number-requires
+    marked-number-requires
     repeats-number-requires
     accepted-requires
     same-length
@@ -204,7 +198,7 @@ append-levels-spec =
     cast-entries
     mul-at
     add-at
-    store-entry-requires
+    store-number-requires
     add-indices
     mul-indices
     slice-write-indices

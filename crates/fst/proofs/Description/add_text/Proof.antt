@@ -1,0 +1,127 @@
+-- `fst::Description::add_text` meets its contract.
+-- Assumes nothing.
+use mathlib.Core.Path.{_≡_, sym, ap, _∙_}
+use Prim.Native.Nat.{ℕ}
+use native.Mathlib.Omega.{arith}
+use denote.Ref.{now}
+use lib.ListN.{length}
+use Rattle.layout.specs.Entry.{entrySize}
+use Rattle.fst.specs.Record.{Lent, widthStands}
+use Rattle.fst.specs.Change.{text}
+use Rattle.value.specs.declared.StatesAnswer.the-variants as answer
+use Rattle.value.specs.Answer.{leastStates}
+use Rattle.fst.proofs.Records.{not-bad}
+use Rattle.fst.proofs.Adding.{Suited, standing, width-known, six, admits, untouched}
+use Rattle.fst.proofs.AddingStrings.{string-four, string-five, string-suited, string-levels, levels-told}
+use borrow.Author.Needs.{needs}
+use Rattle.fst.proofs.Description.add_text.Statement.{statement}
+use Rattle.fst.proofs.Description.add_text.Tie as tie
+
+-- the slices that are lent
+abbrev lent : tie.Start → Lent
+lent x = record { bytes = now (x .args .bytes); byteStart = x .args .byte-start; indices = now (x .args .indices); indexStart = x .args .index-start }
+
+-- what is known once the index is tried
+module _ (b : tie.After-is-below-last) where
+  abbrev start : tie.Start
+  start = b .before .before .before .before .before .before .before .before .before .before
+
+  long : length (now (start .args .value)) ≡ start .args .width
+  long = b .before .before .before .before .before .before .if1 .left
+
+  least : leastStates (now (start .args .value)) ≡ answer.Least (b .before .before .before .answer .given .0 .0)
+  least = sym (b .before .before .before .before .before .scan .ensures .least) ∙ b .before .before .before .answer .given .1
+
+  suited : Suited (start .args .self) (lent start) (text (now (start .args .value)))
+  suited = string-suited (start .args .self) (lent start) (start .args .index) (now (start .args .value)) (start .args .width) (start .args .max-states) (start .pre .0) (start .pre .1) long _ least
+
+refused-requires : tie.Need-refused-requires
+refused-requires c κs = search needs
+
+returns : tie.Need-returns
+returns c =
+    let x = c .before .before .before .before .before in
+    untouched (lent x) (c .refused .ensures)
+    ∙ string-four (x .args .self) (lent x) (x .args .index) (now (x .args .value)) (x .args .width) (x .args .max-states) (x .pre .0) (x .pre .1) (c .before .if1 .taken)
+
+scan-requires : tie.Need-scan-requires
+scan-requires c κs =
+    let x = c .before .before .before .before in
+    let w = width-known (x .args .width) (x .args .max-states) (ap widthStands (sym (x .pre .1)) ∙ (not-bad (x .args .self) (lent x) (x .pre .0)) .0) in
+    omega (arith, c .if1 .left, w .1)
+
+enum-known-answer : tie.Need-enum-known-answer
+enum-known-answer c = search needs
+
+enum-told : tie.Need-enum-told
+enum-told c = search needs
+
+refused-requires-2 : tie.Need-refused-requires-2
+refused-requires-2 c κs = search needs
+
+returns-2 : tie.Need-returns-2
+returns-2 c =
+    let x = c .before .before .before .before .before .before .before .before in
+    untouched (lent x) (c .refused2 .ensures)
+    ∙ string-five (x .args .self) (lent x) (x .args .index) (now (x .args .value)) (x .args .width) (x .args .max-states) (x .pre .0) (x .pre .1) (c .before .before .before .before .if1 .left) (sym (c .before .before .before .scan .ensures .least) ∙ c .before .enum-told .given .1)
+
+is-below-last-requires : tie.Need-is-below-last-requires
+is-below-last-requires c κs =
+    let x = c .before .before .before .before .before .before .before .before .before in
+    (standing (x .args .self) (lent x) (x .pre .0)) .indices
+
+refused-requires-3 : tie.Need-refused-requires-3
+refused-requires-3 c κs = search needs
+
+same-length : tie.Need-same-length
+same-length c = search needs
+
+returns-3 : tie.Need-returns-3
+returns-3 c =
+    let b = c .before .before in
+    let x = start b in
+    untouched (lent x) (c .refused3 .ensures)
+    ∙ six (x .args .self) (lent x) (x .args .index) (text (now (x .args .value))) (suited b) (sym (c .before .if2 .taken) ∙ b .is-below-last .ensures)
+
+add-levels-requires : tie.Need-add-levels-requires
+add-levels-requires c κs =
+    let b = c .before .before .before in
+    let x = start b in
+    let v =
+    string-levels (x .args .self) (lent x) (x .args .index) (now (x .args .value)) (x .args .width) (x .args .max-states) (x .pre .0) (x .pre .1) (long b) _ (least b)
+    (admits (x .args .self) (lent x) (x .args .index) (text (now (x .args .value))) (suited b) (sym (c .before .before .if2 .left) ∙ b .is-below-last .ensures)) in
+    let t = b .before .before .before .before .before .scan in (
+      v,
+      λ low.
+          levels-told (x .args .self) (lent x) (x .args .index) (now (x .args .value)) (x .args .max-states) _ v low (x .args .size) (t .result)
+          (x .pre .2 ∙ ap (λ (k : ℕ). entrySize k (x .args .max-states)) (sym (long b))) (b .before .before .before .answer .given .1) (t .ensures),
+    )
+
+same-length-2 : tie.Need-same-length-2
+same-length-2 c = search needs
+
+same-length-3 : tie.Need-same-length-3
+same-length-3 c = search needs
+
+returns-4 : tie.Need-returns-4
+returns-4 c = search needs
+
+pub add-text-spec : {M : Type 1} → statement M
+add-text-spec =
+    tie.close
+    (tie.spec
+    refused-requires
+    returns
+    scan-requires
+    enum-known-answer
+    enum-told
+    refused-requires-2
+    returns-2
+    is-below-last-requires
+    refused-requires-3
+    same-length
+    returns-3
+    add-levels-requires
+    same-length-2
+    same-length-3
+    returns-4)

@@ -1,0 +1,42 @@
+-- `fst::change::store_number` meets its contract.
+-- Assumes nothing.
+use mathlib.Core.Path.{_≡_, ap, _∙_}
+use denote.Ref.{now}
+use Rattle.value.specs.Slice.{overlay}
+use Rattle.layout.proofs.Numbers.{entry-digits}
+use borrow.Author.Needs.{needs}
+use Rattle.fst.proofs.change.store_number.Statement.{statement}
+use Rattle.fst.proofs.change.store_number.Tie as tie
+
+write-entry-requires : tie.Need-write-entry-requires
+write-entry-requires c κs = search needs
+
+same-length : tie.Need-same-length
+same-length c = search needs
+
+returns : tie.Need-returns
+returns c = search needs
+
+write-number-requires : tie.Need-write-number-requires
+write-number-requires c κs = search needs
+
+same-length-2 : tie.Need-same-length-2
+same-length-2 c = search needs
+
+returns-2 : tie.Need-returns-2
+returns-2 c =
+    let w = c .before .before in
+    let i = w .before .before in
+    let s = i .before .before .before in
+    w .write-number .ensures ∙ ap (overlay (now (s .args .bytes)) (s .args .at)) (entry-digits (s .pre .0) (s .pre .1) (i .if1 .left))
+
+pub store-number-spec : {M : Type 1} → statement M
+store-number-spec =
+    tie.close
+    (tie.spec
+    write-entry-requires
+    same-length
+    returns
+    write-number-requires
+    same-length-2
+    returns-2)
