@@ -1,5 +1,6 @@
 //! The packer, the least set, the repeat test, and entries widened.
 
+use crate::by_hand;
 use crate::inner::{self, Packable, entry_size};
 use crate::strings::{SETS, string};
 use crate::timing::{best, in_turn};
@@ -112,11 +113,11 @@ pub fn repeats() {
     });
 }
 
-/// GB/s of widened bytes beside wellen's `expand_entries` and a plain move of as many bytes.
+/// GB/s of widened bytes beside wellen's `expand_entries`, a plain move of as many bytes, and stores of 16 bytes.
 pub fn widen() {
     println!("\nwiden: GB/s of bytes written\n");
     println!(
-        "| from | to | width | yoksimert | wellen | memmove | yoksimert / memmove |\n|---|---|---|---|---|---|---|"
+        "| from | to | width | yoksimert | wellen | memmove | yoksimert / memmove | stores of 16 | yoksimert / stores |\n|---|---|---|---|---|---|---|---|---|"
     );
     let raises = [
         (States::Two, States::Four),
@@ -124,30 +125,31 @@ pub fn widen() {
         (States::Four, States::Nine),
     ];
     for (from, to) in raises {
-        for width in [8u32, 64, 256, 4096] {
-            widen_at(from, to, width);
-        }
+        widen_at::<8>(from, to);
+        widen_at::<64>(from, to);
+        widen_at::<256>(from, to);
+        widen_at::<4096>(from, to);
     }
 }
 
-fn widen_at(from: States, to: States, width: u32) {
-    let (small, large) = (entry_size(width, from), entry_size(width, to));
+fn widen_at<const WIDTH: u32>(from: States, to: States) {
+    let (small, large) = (entry_size(WIDTH, from), entry_size(WIDTH, to));
     let entries = (4_000_000 / large).clamp(1, 1_048_576);
     let old: Vec<u8> = (0..entries * small).map(|i| (i * 7 % 61) as u8).collect();
     let written = entries * large;
     let data = std::cell::RefCell::new(vec![0u8; written]);
     let restore = || data.borrow_mut()[..old.len()].copy_from_slice(&old);
     let mut plain = vec![1u8; written + 64];
-    let [ours, theirs, moved] = in_turn(|| {
+    let [ours, theirs, moved, stored] = in_turn(|| {
         [
             best(restore, || {
-                inner::expand(from, to, &mut data.borrow_mut(), entries, width);
+                inner::expand(from, to, &mut data.borrow_mut(), entries, WIDTH);
                 black_box(&data);
             }),
             best(
                 || (),
                 || {
-                    black_box(reference::expand(from, to, black_box(&old), entries, width));
+                    black_box(reference::expand(from, to, black_box(&old), entries, WIDTH));
                 },
             ),
             best(
@@ -157,14 +159,43 @@ fn widen_at(from: States, to: States, width: u32) {
                     black_box(&plain);
                 },
             ),
+            best(restore, || {
+                let data = &mut data.borrow_mut()[..];
+                match to {
+                    States::Two => store::<WIDTH, 0>(data),
+                    States::Four => store::<WIDTH, 1>(data),
+                    States::Nine => store::<WIDTH, 2>(data),
+                }
+                black_box(data);
+            }),
         ]
     });
     let rate = |time: Duration| written as f64 / time.as_nanos() as f64;
     println!(
-        "| {from:?} | {to:?} | {width} | {:.2} | {:.2} | {:.2} | {:.2} |",
+        "| {from:?} | {to:?} | {WIDTH} | {:.2} | {:.2} | {:.2} | {:.2} | {:.2} | {:.2} |",
         rate(ours),
         rate(theirs),
         rate(moved),
-        rate(ours) / rate(moved)
+        rate(ours) / rate(moved),
+        rate(stored),
+        rate(ours) / rate(stored)
     );
+}
+
+/// Stores something to every entry of a width under the set with a mark, from the last to the first, in as few blocks of 16 bytes as cover it. Nothing
+/// is read: no widening by the base instructions of x86-64, whose widest store this is, does with less.
+fn store<const WIDTH: u32, const SET: u32>(data: &mut [u8]) {
+    let size = const { by_hand::entry_size(WIDTH as usize, SET) };
+    let block: [u8; 16] = black_box(std::array::from_fn(|i| i as u8));
+    for entry in data.chunks_exact_mut(size).rev() {
+        let (last, rest) = (size.saturating_sub(16), size % 16);
+        for to in entry.chunks_exact_mut(16) {
+            to.copy_from_slice(&block);
+        }
+        if rest > 0 {
+            let to = &mut entry[last..];
+            let length = to.len();
+            to.copy_from_slice(&block[..length]);
+        }
+    }
 }

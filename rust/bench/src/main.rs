@@ -1,5 +1,7 @@
-//! `bench [layout | records | derive]`: times of the proved functions beside wellen's, both at release, the best of several rounds.
+//! `bench [layout | add | records | derive]`: times of the proved functions beside wellen's, both at release, the best of several rounds.
 
+#[cfg(all(wellen, archive, inner))]
+mod by_hand;
 #[cfg(all(wellen, archive, inner))]
 mod derive;
 #[cfg(all(wellen, archive, inner))]
@@ -18,9 +20,9 @@ fn main() {
     let arguments: Vec<String> = std::env::args().skip(1).collect();
     let part = match arguments.iter().map(String::as_str).collect::<Vec<_>>()[..] {
         [] => None,
-        [part @ ("layout" | "records" | "derive")] => Some(part),
+        [part @ ("layout" | "add" | "records" | "derive")] => Some(part),
         _ => {
-            eprintln!("usage: bench [layout | records | derive]");
+            eprintln!("usage: bench [layout | add | records | derive]");
             std::process::exit(2);
         }
     };
@@ -33,8 +35,10 @@ fn main() {
         layout::repeats();
         layout::widen();
     }
-    if wanted("records") {
+    if wanted("add") {
         records::add();
+    }
+    if wanted("records") {
         records::raise();
         records::read();
         records::compare();

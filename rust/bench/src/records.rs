@@ -1,5 +1,6 @@
 //! The operations of the archive beside wellen's: changes added, a raise, entries read, records compared, indices looked up.
 
+use crate::by_hand;
 use crate::inner::{self, Rising};
 use crate::strings::{SETS, string, strings_apart};
 use crate::timing::{best, in_turn, per};
@@ -50,7 +51,9 @@ impl Recorder {
 /// ns a change: strings of one set, none of which repeats the last, into a record that has seen the set.
 pub fn add() {
     println!("\nadd a change: ns a change\n");
-    println!("| set | width | yoksimert | wellen | wellen / yoksimert |\n|---|---|---|---|---|");
+    println!(
+        "| set | width | yoksimert | wellen | wellen / yoksimert | by hand |\n|---|---|---|---|---|---|"
+    );
     for states in SETS {
         for width in [1usize, 3, 8, 32, 64, 256, 4096] {
             add_at(states, width);
@@ -69,27 +72,61 @@ fn add_at(states: States, width: usize) {
         }
         black_box(writer);
     };
-    let [ours, theirs] = in_turn(|| [ours(width, turns, changes), per(best(|| (), theirs), turns)]);
+    let mut seen = Recorder::new(width as u32, width / 2 + 2, 1);
+    seen.add(0, &strings[0]);
+    let by_hand = inner::entry_size(width as u32, states) <= 8;
+    let [ours, theirs, by_hand] = in_turn(|| {
+        [
+            added(raw::recorder_add_change, &seen, turns, changes),
+            per(best(|| (), theirs), turns),
+            if by_hand {
+                added(by_hand::add_change, &seen, turns, changes)
+            } else {
+                f64::INFINITY
+            },
+        ]
+    });
     println!(
-        "| {states:?} | {width} | {ours:.1} | {theirs:.1} | {:.1} |",
-        theirs / ours
+        "| {states:?} | {width} | {ours:.1} | {theirs:.1} | {:.1} | {} |",
+        theirs / ours,
+        if by_hand.is_finite() {
+            format!("{by_hand:.1}")
+        } else {
+            "–".to_string()
+        }
     );
 }
 
-/// ns a change of so many.
-fn ours<'a, Changes: Iterator<Item = (u32, &'a Vec<u8>)>>(
-    width: usize,
+/// ns a change of so many, into a record that has seen the set.
+fn added<'a, Changes: Iterator<Item = (u32, &'a Vec<u8>)>>(
+    add_change: impl Fn(&mut FlatDescription, &mut [u8], usize, &mut [u32], usize, u32, &[u8]) -> u32,
+    seen: &Recorder,
     turns: usize,
     changes: impl Fn() -> Changes,
 ) -> f64 {
-    let mut recorder = Recorder::new(width as u32, turns * (width / 2 + 2), turns);
-    let start = recorder.description;
+    let width = seen.description.width;
+    let mut recorder = Recorder::new(width, turns * (width as usize / 2 + 2), turns);
+    let start = FlatDescription {
+        count: 0,
+        ..seen.description
+    };
     let time = best(
         || (),
         || {
             recorder.description = start;
             for (index, value) in changes() {
-                recorder.add(index, black_box(value));
+                let (bytes, indices) = (&mut recorder.bytes, &mut recorder.indices);
+                let value = black_box(value);
+                let number = add_change(
+                    &mut recorder.description,
+                    bytes,
+                    0,
+                    indices,
+                    0,
+                    index,
+                    value,
+                );
+                assert_eq!(number, 0, "the slices have room");
             }
         },
     );
