@@ -1,3 +1,4 @@
 pub mod Compare
 pub mod Words
 pub mod Packing
+pub mod Parts

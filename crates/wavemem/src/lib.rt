@@ -6,6 +6,9 @@ ghost use Rattle.value.specs.Digits.{number};
 ghost use Rattle.value.specs.Slice.{part, overlay, same};
 ghost use Rattle.value.specs.Level.{foldAll, codesOf, bitsOf, lenOf};
 ghost use Rattle.wavemem.specs.Packed.{packedFrom, firstCount, OneWord, OneByte, FullByte, ByLowBits, Whole, Packable};
+
+mod chunks;
+
 use value::CharCode;
 use value::States;
 
@@ -224,7 +227,11 @@ fn write_whole(states: States, value: &[u8], out: &mut [u8], at: usize) -> usize
     match states {
         States::Two => write_bytes(States::Two, &codes, value, out, at),
         States::Four => write_bytes(States::Four, &codes, value, out, at),
-        States::Nine => write_bytes(States::Nine, &codes, value, out, at),
+        States::Nine => {
+            let lead = value.len() % 32;
+            let next = write_bytes(States::Nine, &codes, &value[..lead], out, at);
+            chunks::write_chunks(&value[lead..], out, next)
+        }
     }
 }
 
