@@ -4,4 +4,5 @@ pub mod Squeeze
 pub mod Codes
 pub mod Words
 pub mod Packing
+pub mod Blocks
 pub mod Parts

@@ -3,10 +3,13 @@ ghost use mathlib.Core.Path.{_≡_};
 ghost use Prim.Native.Nat.{_+_, _%_, _<_, _≤_};
 ghost use lib.ListN.{length};
 ghost use Rattle.value.specs.declared.States.{States};
-ghost use Rattle.value.specs.Digits.{Below};
-ghost use Rattle.value.specs.Slice.{part, overlay};
+ghost use Rattle.value.specs.Digits.{number, Below};
+ghost use Rattle.value.specs.Slice.{part, overlay, same};
 ghost use Rattle.value.specs.Level.{fold, foldAll, codeOf, codesOf, lenOf};
 ghost use Rattle.wavemem.specs.Packed.{packedWith, packedFrom, Whole};
+use crate::short::four_of_word;
+use crate::wide;
+use crate::word;
 
 // The code of a character that is not foreign, each of its four bits by bits of the character: no load and no jump, so that a loop over
 // it is compiled to wide instructions.
@@ -80,4 +83,52 @@ pub fn write_chunks(value: &[u8], out: &mut [u8], at: usize) -> usize
         to += 16;
     }
     to
+}
+
+// The number of eight characters of the set Four from a place on.
+fn levels_at(value: &[u8], from: usize) -> u64
+    requires { ⌜ (from + 8 ≤ length (now value)) × Below 4 (codesOf (foldAll (part from 8 (now value)))) ⌝ }
+    ensures { λ r. ⌜ r ≡ number 4 (codesOf (foldAll (part from 8 (now (value .entry))))) ⌝ }
+{
+    let to = from + 8;
+    four_of_word(word(&value[from..to]))
+}
+
+// `write_bytes` of a string of the set Four, eight characters to two bytes.
+pub fn write_words(value: &[u8], out: &mut [u8], at: usize) -> usize
+    requires { ⌜ Whole States.Four (now value) (length (now out)) at × (length (now value) % 8 ≡ 0) ⌝ }
+    ensures { λ r. ⌜ r ≡ at + lenOf (length (now (value .entry))) States.Four ⌝ }
+    ensures { λ _. ⌜ now (out .exit) ≡ overlay (now (out .entry)) at (packedFrom States.Four 0 (now (value .entry))) ⌝ }
+{
+    let mut from = 0;
+    let mut to = at;
+    while from < value.len() {
+        let levels = levels_at(value, from);
+        out[to] = ((levels >> 8) & 255) as u8;
+        out[to + 1] = (levels & 255) as u8;
+        from += 8;
+        to += 2;
+    }
+    to
+}
+
+// `equals_bytes` of such a string.
+pub fn equals_words(value: &[u8], bytes: &[u8], at: usize) -> bool
+    requires { ⌜ Whole States.Four (now value) (length (now bytes)) at × (length (now value) % 8 ≡ 0) ⌝ }
+    ensures { λ r. ⌜ r ≡ same (part at (lenOf (length (now (value .entry))) States.Four) (now (bytes .entry))) (packedFrom States.Four 0 (now (value .entry))) ⌝ }
+{
+    let mut from = 0;
+    let mut to = at;
+    while from < value.len() {
+        let levels = levels_at(value, from);
+        if wide(bytes[to]) != levels >> 8 {
+            return false;
+        }
+        if wide(bytes[to + 1]) != levels & 255 {
+            return false;
+        }
+        from += 8;
+        to += 2;
+    }
+    true
 }

@@ -1,4 +1,5 @@
 // Levels packed into bytes, after wellen's src/wavemem.rs.
+mod chunks;
 pub mod short;
 
 ghost use mathlib.Core.Path.{_≡_};
@@ -8,9 +9,6 @@ ghost use Rattle.value.specs.Digits.{number};
 ghost use Rattle.value.specs.Slice.{part, overlay, same};
 ghost use Rattle.value.specs.Level.{foldAll, codesOf, bitsOf, lenOf};
 ghost use Rattle.wavemem.specs.Packed.{packedFrom, firstCount, OneWord, OneByte, FullByte, ByLowBits, Whole, Packable};
-
-mod chunks;
-
 use value::CharCode;
 use value::States;
 

@@ -1,18 +1,23 @@
 -- `wavemem::write_whole` meets its contract.
 -- Assumes nothing.
-use mathlib.Core.Path.{_≡_, refl, sym, _∙_, subst}
-use Prim.Native.Nat.{ℕ, _+_, _%_}
+use mathlib.Core.Path.{_≡_, refl, sym, subst}
 use borrow.Author.Needs.{needs}
 use denote.Ref.{now}
 use lib.ListN.{length}
 use Rattle.value.specs.declared.States.{States}
 use Rattle.value.specs.declared.States.the-variants.{Nine}
-use Rattle.value.specs.Level.{lenOf}
 use Rattle.wavemem.specs.Packed.{Whole}
 use Rattle.wavemem.proofs.Packing.{by-low-bits}
-use Rattle.wavemem.proofs.Parts.{Passed, passed-length, lead-nine, front-length, front-whole, back-whole, back-is, back-turns, both-sizes, both-stored}
+use Rattle.wavemem.proofs.Parts.{lead-nine, front-length, front-whole, second-lent, both-stored}
 use Rattle.wavemem.proofs.write_whole.Statement.{statement}
 use Rattle.wavemem.proofs.write_whole.Tie as tie
+
+-- the string under a set that is told
+whole : (c : tie.Start) (s : States) → c .args .states ≡ s → Whole s (now (c .args .value)) (length (now (c .args .out))) (c .args .at)
+whole c s e = subst (λ (t : States). Whole t (now (c .args .value)) (length (now (c .args .out))) (c .args .at)) e (c .pre)
+
+whole3 : (c : tie.After-enum-told3) → let x = c .before .before .before .before .args in Whole Nine (now (x .value)) (length (now (x .out))) (x .at)
+whole3 c = whole (c .before .before .before .before) Nine (c .enum-told3 .given .1)
 
 enum-told : tie.Need-enum-told
 enum-told c = search needs
@@ -29,41 +34,11 @@ write-bytes-requires-2 c κs = (rw (c .before .before .enum-told2 .given .1) at 
 enum-told-3 : tie.Need-enum-told-3
 enum-told-3 c = search needs
 
--- the string, and how it is split
-abbrev start : tie.After-enum-told3 → tie.Start
-start c = c .before .before .before .before
-
-whole : (c : tie.After-enum-told3) → Whole Nine (now (start c .args .value)) (length (now (start c .args .out))) (start c .args .at)
-whole c =
-    let x = start c .args in
-    subst (λ (s : States). Whole s (now (x .value)) (length (now (x .out))) (x .at)) (c .enum-told3 .given .1) (start c .pre)
-
-abbrev lead : tie.After-enum-told3 → ℕ
-lead c = length (now (start c .args .value)) % 32
-
-passed : (c : tie.After-enum-told3) → Passed Nine (length (now (start c .args .value))) (start c .args .at) 32 (lead c) (start c .args .at + lenOf (lead c) Nine)
-passed c = lead-nine (whole c .full) refl
-
 slice-aggregate-write-bytes : tie.Need-slice-aggregate-write-bytes
-slice-aggregate-write-bytes c = let e = c .before .before in sym (front-length (whole e) (passed e))
+slice-aggregate-write-bytes c = let ok = whole3 (c .before .before) in sym (front-length ok (lead-nine ok refl))
 
 write-bytes-requires-3 : tie.Need-write-bytes-requires-3
-write-bytes-requires-3 c κs = let e = c .before .before .before in (front-whole (whole e) (passed e), by-low-bits)
-
--- the characters in front are stored: the place behind them, and the length
-abbrev told : tie.After-write-bytes3 → tie.After-enum-told3
-told w = w .before .before .before .before
-
-place : (w : tie.After-write-bytes3) → w .write-bytes3 .result ≡ start (told w) .args .at + lenOf (lead (told w)) Nine
-place w = rw (front-length (whole (told w)) (passed (told w))) at (w .write-bytes3 .ensures .0)
-
-behind : (w : tie.After-write-bytes3)
-    → let x = start (told w) .args in
-    Passed Nine (length (now (x .value))) (x .at) 32 (lead (told w)) (w .write-bytes3 .result)
-behind w = lead-nine (whole (told w) .full) (place w)
-
-long : (w : tie.After-write-bytes3) → length (w .write-bytes3 .last .1 .1 .1 .0) ≡ length (now (start (told w) .args .out))
-long w = passed-length (now (start (told w) .args .out)) (whole (told w)) (passed (told w)) (w .write-bytes3 .ensures .1)
+write-bytes-requires-3 c κs = let ok = whole3 (c .before .before .before) in (front-whole ok (lead-nine ok refl), by-low-bits)
 
 sub-write-chunks : tie.Need-sub-write-chunks
 sub-write-chunks c = search needs
@@ -77,8 +52,9 @@ part-write-chunks-end c = search needs
 write-chunks-requires : tie.Need-write-chunks-requires
 write-chunks-requires c κs =
     let w = c .before .before .before .before in
-    let e = told w in
-    rw (back-is (whole e) (behind w), long w) (back-whole (whole e) (behind w), back-turns (whole e) (behind w))
+    let e = w .before .before .before .before in
+    let ok = whole3 e in
+    second-lent ok (lead-nine ok refl) (now (e .before .before .before .before .args .out)) refl (w .write-bytes3 .ensures)
 
 same-length : tie.Need-same-length
 same-length c = search needs
@@ -103,11 +79,10 @@ returns-3 : tie.Need-returns-3
 returns-3 c =
     let k = c .before .before in
     let w = k .before .before .before .before .before in
-    let e = told w in
-    let a = start e .args in
-    let r = rw (back-is (whole e) (behind w)) at (k .write-chunks .ensures) in
+    let e = w .before .before .before .before in
+    let ok = whole3 e in
     rw (e .enum-told3 .given .1)
-    (r .0 ∙ both-sizes (whole e) (behind w), r .1 ∙ both-stored (whole e) (behind w) (now (a .out)) refl (w .write-bytes3 .ensures .1))
+    (both-stored ok (lead-nine ok refl) (now (e .before .before .before .before .args .out)) refl (w .write-bytes3 .ensures) (k .write-chunks .ensures))
 
 pub write-whole-spec : {M : Type 1} → statement M
 write-whole-spec =

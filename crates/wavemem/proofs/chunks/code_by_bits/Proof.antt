@@ -1,7 +1,7 @@
 -- `wavemem::chunks::code_by_bits` meets its contract.
 -- Assumes nothing.
 use native.Mathlib.Omega.{arith}
-use Rattle.wavemem.proofs.Parts.{by-bits}
+use Rattle.wavemem.proofs.Blocks.{by-bits}
 use Rattle.wavemem.proofs.chunks.code_by_bits.Statement.{statement}
 use Rattle.wavemem.proofs.chunks.code_by_bits.Tie as tie
 

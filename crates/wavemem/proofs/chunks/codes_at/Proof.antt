@@ -11,7 +11,7 @@ use Rattle.value.specs.Level.{fold, foldAll, codeOf, codesOf}
 use Rattle.value.proofs.Digits.{below-at}
 use Rattle.value.proofs.Slices.{part-length, part-at, overlay-nil}
 use Rattle.wavemem.proofs.Packing.{code-at, length-codes}
-use Rattle.wavemem.proofs.Parts.{next-filled, all-filled}
+use Rattle.wavemem.proofs.Blocks.{next-filled, all-filled}
 use Rattle.wavemem.proofs.chunks.codes_at.Statement.{statement}
 use Rattle.wavemem.proofs.chunks.codes_at.Tie as tie
 

@@ -9,7 +9,7 @@ use Rattle.value.specs.Slice.{overlay}
 use Rattle.value.proofs.Slices.{overlay-nil}
 use Rattle.wavemem.specs.Packed.{packedWith}
 use Rattle.wavemem.proofs.Packing.{packed-length}
-use Rattle.wavemem.proofs.Parts.{next-filled, all-filled, two-levels}
+use Rattle.wavemem.proofs.Blocks.{next-filled, all-filled, two-levels}
 use Rattle.wavemem.proofs.chunks.join_pairs.Statement.{statement}
 use Rattle.wavemem.proofs.chunks.join_pairs.Tie as tie
 

@@ -11,7 +11,7 @@ use Rattle.value.specs.declared.States.the-variants.{Nine}
 use Rattle.value.specs.Slice.{overlay}
 use Rattle.value.proofs.Slices.{overlay-nil}
 use Rattle.wavemem.specs.Packed.{packedWith, packedFrom}
-use Rattle.wavemem.proofs.Parts.{Passed, passed-start, passed-end, passed-length, packed-none, turn-within, turn-fits, turn-passed, turn-codes, turn-stored}
+use Rattle.wavemem.proofs.Parts.{Passed, passed-start, passed-end, front-stored, packed-none, turn-within, turn-fits, turn-passed, turn-codes, turn-stored}
 use Rattle.wavemem.proofs.chunks.write_chunks.Statement.{statement}
 use Rattle.wavemem.proofs.chunks.write_chunks.Tie as tie
 
@@ -32,7 +32,7 @@ abbrev start : tie.At-loop Inv-loop μ-loop → tie.Start Inv-loop μ-loop
 start a = a .before .before .before
 
 long : (a : tie.At-loop Inv-loop μ-loop) → length (a .loop .out) ≡ length (now (start a .args .out))
-long a = passed-length (now (start a .args .out)) (start a .pre .0) (a .loop .inv .0) (a .loop .inv .1)
+long a = front-stored (start a .pre .0) (a .loop .inv .0) (now (start a .args .out)) refl (a .loop .inv .1)
 
 within : (c : tie.In-loop Inv-loop μ-loop) → c .before .loop .from + 32 ≤ length (now (start (c .before) .args .value))
 within c = turn-within (start (c .before) .pre .0) 32 refl (c .before .loop .inv .0) (c .loop-test .taken)
