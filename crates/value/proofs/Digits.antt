@@ -3,7 +3,7 @@
 use mathlib.Core.Path.{_≡_, refl, sym, ap, ap₂, _∙_}
 use mathlib.Core.List.{List, [], _∷_, _++_}
 use Prim.Native.Nat.{ℕ, zero, suc, _+_, _-_, _*_, _/_, _%_, _^_, _≤_, _<_}
-use native.Mathlib.Nat.{pow-zero, pow-suc, zero-lt-suc, suc-inj, suc-ne-zero, suc-add, one-le-pow, mod-eq-of-lt, mod-lt, mul-comm, mul-assoc, zero-add, zero-mul, suc-mul, mod-one, add-mul-div-right, add-mul-mod-self-right, div-eq-of-lt, pow-le-pow-right, lt-of-lt-of-le, not-suc-le-zero, le-of-suc-le-suc}
+use native.Mathlib.Nat.{pow-zero, pow-suc, zero-lt-suc, suc-inj, suc-ne-zero, suc-add, one-le-pow, mod-eq-of-lt, mod-lt, add-comm, mul-comm, mul-assoc, div-div-eq-div-mul, zero-add, zero-mul, suc-mul, mod-one, add-mul-div-right, add-mul-mod-self-right, div-eq-of-lt, pow-le-pow-right, lt-of-lt-of-le, not-suc-le-zero, le-of-suc-le-suc}
 use native.Mathlib.Numerals.{add-one}
 use native.Mathlib.Omega.{arith}
 use lib.ListN.{length, getD, take, drop, replicate, length-append, length-drop, take-append-drop}
@@ -139,6 +139,16 @@ module _ (B : ℕ) (pos : 0 < B) where
       let e : q * B ^ suc k ≡ q * B * B ^ k
       = ap (λ (x : ℕ). q * x) (pow-suc B k ∙ mul-comm (B ^ k) B) ∙ sym (mul-assoc q B (B ^ k)) in
       rw (e, add-mul-div-right n (q * B) (base-pos k), add-mul-mod-self-right (n / B ^ k) q B, digits-high k n (q * B))
+
+  -- the digits of two numbers, one behind the other
+  pub digits-append : (k m N n : ℕ) → n < B ^ m → digits B (k + m) (N * B ^ m + n) ≡ digits B k N ++ digits B m n
+  unfolding digits
+  digits-append zero m N n h = rw (zero-add, add-comm (N * B ^ m) n) (digits-high m n N)
+  digits-append (suc k) m N n h =
+      let e : (N * B ^ m + n) / B ^ (k + m) ≡ N / B ^ k
+      = ap (λ (x : ℕ). (N * B ^ m + n) / x) (pow-add B k m ∙ mul-comm (B ^ k) (B ^ m))
+      ∙ sym (div-div-eq-div-mul (N * B ^ m + n) (B ^ m) (B ^ k)) ∙ ap (λ (x : ℕ). x / B ^ k) (digits-div N h) in
+      rw (suc-add k m, e, digits-append k m N n h)
 
   -- high digits of a small number are zeros
   pub digits-zeros : (a c n : ℕ) → n < B ^ c → digits B (a + c) n ≡ replicate a 0 ++ digits B c n

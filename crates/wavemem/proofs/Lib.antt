@@ -1,4 +1,9 @@
 pub mod Compare
+pub mod Lanes
+pub mod Squeeze
+pub mod Codes
 pub mod Words
 pub mod Scanning
 pub mod Packing
+pub mod Blocks
+pub mod Parts

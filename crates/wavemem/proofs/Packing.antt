@@ -4,12 +4,12 @@ use mathlib.Core.Path.{_≡_, refl, sym, ap, ap₂, _∙_, subst}
 use mathlib.Core.Bool.{Bool, true, false, cond, _&&_}
 use mathlib.Core.List.{List, [], _∷_, _++_, map}
 use Prim.Native.Nat.{ℕ, zero, suc, _+_, _-_, _*_, _/_, _%_, _^_, _≤_, _<_}
-use native.Mathlib.Nat.{pow-suc, zero-lt-suc, mod-eq-of-lt, mul-assoc, suc-mul, zero-mul, zero-add, add-zero, add-comm, mul-le-mul-right, lt-of-lt-of-le, add-mul-div-right, add-mul-mod-self-right, div-lt-iff-lt-mul, pow-le-pow-right}
+use native.Mathlib.Nat.{pow-suc, zero-lt-suc, mod-eq-of-lt, add-mul, mul-assoc, suc-mul, zero-mul, zero-add, add-zero, add-comm, mul-le-mul-right, lt-of-lt-of-le, add-mul-div-right, add-mul-mod-self-right, div-lt-iff-lt-mul, pow-le-pow-right}
 use native.Mathlib.Numerals.{add-one}
 use native.Mathlib.Omega.{arith}
 use lib.Dec.{eqb, leb}
-use lib.ListN.{length, getD, take, drop, set, length-set, length-map, length-drop, take-append-drop, List·getD-map}
-use lib.Seq.{length-take-le, take-add, take-suc, take-all, drop-cons}
+use lib.ListN.{length, getD, take, drop, set, length-append, length-set, length-map, length-drop, take-append-drop, List·getD-map}
+use lib.Seq.{length-take-le, take-add, take-suc, take-all, drop-at, drop-cons}
 use lib.Bits.{bitOr, or-shifted, or-shifted-r, or-zero-r}
 use lib.Pow.{pow-add, pow-pos, pow-mono, shl-exact}
 use lib.Arith.{digits-mod}
@@ -26,7 +26,7 @@ use Rattle.value.proofs.Tests.{by-le}
 use Rattle.value.proofs.Slices.{part-length, part-at, overlay-nil, overlay-one, overlay-overlay, overlay-store}
 use Rattle.value.proofs.Levels.{len-bits}
 use Rattle.value.proofs.Classes.{lowBits, low-bits}
-use Rattle.value.proofs.Digits.{below-at, below-take, below-drop, pow-pow, number-lt, number-append, number-more, number-prefix, digits-at, digits-length, digits-high, base-pos}
+use Rattle.value.proofs.Digits.{below-at, below-take, below-drop, pow-pow, number-lt, number-append, number-more, number-prefix, digits-at, digits-length, digits-append, base-pos}
 use Rattle.wavemem.proofs.Compare.{same-is, same-not}
 use Rattle.wavemem.specs.Packed.{packedWith, packedFrom, firstCount, Codes, OneWord, OneByte, FullByte, ByLowBits, Whole, Packable}
 
@@ -241,6 +241,14 @@ part-codes {s} m f v ok =
       below = rw codes-part (below-take (2 ^ bitsOf s) _ (below-drop (2 ^ bitsOf s) _ (ok .below) f) m);
     }
 
+-- how many bytes levels take
+pub packed-length : (b meta : ℕ) (cs : List ℕ) → length (packedWith b meta cs) ≡ (length cs * b + 7) / 8
+unfolding packedWith
+packed-length b meta cs = digits-length 256 _ _
+
+pub packed-from-length : (s : States) (meta : ℕ) (v : List ℕ) → length (packedFrom s meta v) ≡ lenOf (length v) s
+packed-from-length s meta v = packed-length (bitsOf s) meta (codesOf (foldAll v)) ∙ sym (len-bits (length (codesOf (foldAll v))) s) ∙ rw length-codes
+
 pub one-word : {s : States} {v : List ℕ} → OneByte s v → OneWord s v
 one-word ok = record { codes = ok .codes; short = omega (arith, ok .short) }
 
@@ -251,10 +259,6 @@ byte-small {s} {v} ok =
     (pow-mono {j = 8} (rw length-codes (ok .short)))
 
 module _ {s : States} {v : List ℕ} {room at meta : ℕ} (ok : Packable s v room at meta) where
-  pub packed-from-length : length (packedFrom s meta v) ≡ lenOf (length v) s
-  unfolding packedWith
-  packed-from-length = digits-length 256 _ _ ∙ sym (len-bits (length (codesOf (foldAll v))) s) ∙ rw length-codes
-
   module _ {k from to : ℕ} (walk : Walk (length v) (perByte s) (lenOf (length v) s) k from to) (more : k < lenOf (length v) s) where
     pub one-byte : OneByte s (take (to - from) (drop from v))
     one-byte =
@@ -275,6 +279,14 @@ module _ {s : States} {v : List ℕ} {room at meta : ℕ} (ok : Packable s v roo
 
 -- ---- bytes that are stored
 
+-- one element more
+pub next-stored : (l new : List ℕ) (at k x d : ℕ) {out : List ℕ} → at + k < length l → k < length new → out ≡ overlay l at (take k new) → x ≡ getD new k d
+    → set out (at + k) x ≡ overlay l at (take (k + 1) new)
+next-stored l new at k x d h more so-far e =
+    ap₂ (λ (o : List ℕ) (y : ℕ). set o (at + k) y) so-far e
+    ∙ overlay-store l at (take k new) (at + k) (getD new k d) (ap (λ (i : ℕ). at + i) (length-take-le k new (omega arith))) h
+    ∙ ap (overlay l at) (sym (rw add-one (take-suc new k d more)))
+
 pub record Stored (s : States) (v d : List ℕ) (at meta : ℕ) (out : List ℕ) (now from to k : ℕ) : Type 0 where
   pub walk : Walk (length v) (perByte s) (lenOf (length v) s) k from to
   pub mark : MetaAt meta k now
@@ -289,21 +301,17 @@ module _ {s : States} {v d : List ℕ} {at meta : ℕ} (ok : Packable s v (lengt
       → x ≡ getD (packedFrom s meta v) k 0 → Stored s v d at meta (set out (at + k) x) 0 to (to + perByte s) (k + 1)
   stored-on {out} {now} {from} {to} {k} x h more e =
       let P = packedFrom s meta v in
-      let n : length P ≡ lenOf (length v) s = packed-from-length ok in
-      let l : length (take k P) ≡ k = length-take-le k P (omega arith) in
+      let n : length P ≡ lenOf (length v) s = packed-from-length s meta v in
       let f = ok .fits in
       record {
         walk = walk-on (h .walk) more;
         mark = meta-on meta k;
-        bytes =
-            ap₂ (λ (o : List ℕ) (y : ℕ). set o (at + k) y) (h .bytes) e
-            ∙ overlay-store d at (take k P) (at + k) (getD P k 0) (ap (λ (i : ℕ). at + i) l) (omega arith)
-            ∙ ap (overlay d at) (sym (rw add-one (take-suc P k 0 (omega arith))));
+        bytes = next-stored d P at k x 0 (omega arith) (omega arith) (h .bytes) e;
         long = length-set out (at + k) x ∙ h .long;
       }
 
   pub stored-end : {out : List ℕ} {now from to k : ℕ} → Stored s v d at meta out now from to k → lenOf (length v) s ≤ k → out ≡ overlay d at (packedFrom s meta v)
-  stored-end {k = k} h left = h .bytes ∙ ap (overlay d at) (take-all k (packedFrom s meta v) (rw (packed-from-length ok) left))
+  stored-end {k = k} h left = h .bytes ∙ ap (overlay d at) (take-all k (packedFrom s meta v) (rw (packed-from-length s meta v) left))
 
 -- ---- bytes that are compared
 
@@ -327,7 +335,7 @@ module _ (bytes : List ℕ) {s : States} {v : List ℕ} {at meta : ℕ} (ok : Pa
       → getD bytes (at + k) 0 ≡ x → Agrees s v bytes at meta 0 to (to + perByte s) (k + 1)
   agrees-on {k = k} x h more e g =
       let P = packedFrom s meta v in
-      let n : length P ≡ lenOf (length v) s = packed-from-length ok in
+      let n : length P ≡ lenOf (length v) s = packed-from-length s meta v in
       record {
         walk = walk-on (h .walk) more;
         mark = meta-on meta k;
@@ -342,7 +350,7 @@ module _ (bytes : List ℕ) {s : States} {v : List ℕ} {at meta : ℕ} (ok : Pa
   agrees-end {k = k} h left =
       let P = packedFrom s meta v in
       let t = there s v bytes at in
-      sym (same-is t P (sym (take-all k t (rw there-length left)) ∙ h .equal ∙ take-all k P (rw (packed-from-length ok) left)))
+      sym (same-is t P (sym (take-all k t (rw there-length left)) ∙ h .equal ∙ take-all k P (rw (packed-from-length s meta v) left)))
 
   pub differs : {k : ℕ} (x : ℕ) → k < lenOf (length v) s → x ≡ getD (packedFrom s meta v) k 0 → (getD bytes (at + k) 0 ≡ x → ⊥) → false ≡ same (there s v bytes at) (packedFrom s meta v)
   differs {k} x more e f =
@@ -396,6 +404,35 @@ stored-whole {s} {v} {d} {at} ok = subst (λ (t : ℕ). Stored s v d at 0 d 0 0 
 pub agrees-whole : {s : States} {v : List ℕ} {at : ℕ} (bytes : List ℕ) → Whole s v (length bytes) at → Agrees s v bytes at 0 0 0 (0 + perByte s) 0
 agrees-whole {s} {v} {at} bytes ok = subst (λ (t : ℕ). Agrees s v bytes at 0 0 0 t 0) (first-whole ok) (agrees-start bytes (plain ok))
 
+-- ---- levels in two parts
+
+-- levels that fill whole bytes, behind others
+pub packed-append : (b meta m : ℕ) (xs ys : List ℕ) → Below (2 ^ b) ys → length ys * b ≡ m * 8 → (0 < meta → 0 < length xs * b)
+    → packedWith b meta (xs ++ ys) ≡ packedWith b meta xs ++ packedWith b 0 ys
+unfolding packedWith
+packed-append b meta m xs ys below g top =
+    let n = (length xs * b + 7) / 8 in
+    let N = number (2 ^ b) xs in
+    let M = number (2 ^ b) ys in
+    let far : (2 ^ b) ^ length ys ≡ 256 ^ m = pow-pow 2 b (length ys) ∙ ap (λ (x : ℕ). 2 ^ x) g ∙ sym (pow-pow 2 8 m) in
+    let l : length (xs ++ ys) * b ≡ length xs * b + m * 8 = rw (length-append, add-mul, g) in
+    let size : (length (xs ++ ys) * b + 7) / 8 ≡ n + m = omega arith in
+    let own : (length ys * b + 7) / 8 ≡ m = omega arith in
+    let up : meta * 256 ^ (n + m - 1) ≡ meta * 256 ^ (n - 1) * 256 ^ m =
+    by-le 1 meta
+    (λ h.
+    let z : n + m - 1 ≡ n - 1 + m = omega (arith, top h) in
+    ap (λ (x : ℕ). meta * 256 ^ x) z ∙ ap (λ (x : ℕ). meta * x) (pow-add 256 (n - 1) m) ∙ sym (mul-assoc meta (256 ^ (n - 1)) (256 ^ m)))
+    (λ h. let z : meta ≡ 0 = omega arith in rw z (simp zero-mul)) in
+    let sum : meta * 256 ^ (n + m - 1) + number (2 ^ b) (xs ++ ys) ≡ (meta * 256 ^ (n - 1) + N) * 256 ^ m + M =
+    rw (up, number-append (2 ^ b) xs ys, far) (omega arith) in
+    let none : 0 * 256 ^ (m - 1) + M ≡ M = omega arith in
+    ap (λ (k : ℕ). digits 256 k (meta * 256 ^ (k - 1) + number (2 ^ b) (xs ++ ys))) size
+    ∙ ap (digits 256 (n + m)) sum
+    ∙ digits-append 256 (zero-lt-suc 255) n m (meta * 256 ^ (n - 1) + N) M (rw (← far) (number-lt (2 ^ b) ys below))
+    ∙ ap (λ (l : List ℕ). digits 256 n (meta * 256 ^ (n - 1) + N) ++ l)
+    (sym (ap (λ (k : ℕ). digits 256 k (0 * 256 ^ (k - 1) + M)) own ∙ ap (digits 256 m) none))
+
 -- ---- a first byte that is not full
 
 pub codes-drop : (f : ℕ) (v : List ℕ) → codesOf (foldAll (drop f v)) ≡ drop f (codesOf (foldAll v))
@@ -404,26 +441,15 @@ codes-drop (suc f) [] = refl
 codes-drop (suc f) (c ∷ v) = codes-drop f v
 
 -- the bytes behind the first are those of the levels behind it
-packed-tail : (b meta f m : ℕ) (cs : List ℕ) → f ≤ length cs → (length cs * b + 7) / 8 ≡ suc m → (length cs - f) * b ≡ m * 8
+packed-tail : (b meta f m : ℕ) (cs : List ℕ) → Below (2 ^ b) cs → f ≤ length cs → (length cs * b + 7) / 8 ≡ suc m → (length cs - f) * b ≡ m * 8
     → drop 1 (packedWith b meta cs) ≡ packedWith b 0 (drop f cs)
-unfolding packedWith digits
-packed-tail b meta f m cs h e g =
-    let ys = drop f cs in
-    let N = number (2 ^ b) (take f cs) in
-    let l : length ys ≡ length cs - f = length-drop f cs in
-    let far : (2 ^ b) ^ length ys ≡ 256 ^ m = rw l (pow-pow 2 b (length cs - f) ∙ ap (λ (x : ℕ). 2 ^ x) g ∙ sym (pow-pow 2 8 m)) in
-    let n : number (2 ^ b) cs ≡ N * 256 ^ m + number (2 ^ b) ys =
-    ap (number (2 ^ b)) (sym (take-append-drop f cs)) ∙ number-append (2 ^ b) (take f cs) ys ∙ ap (λ (x : ℕ). N * x + number (2 ^ b) ys) far in
-    let q : (length ys * b + 7) / 8 ≡ m = ap (λ (x : ℕ). (x * b + 7) / 8) l ∙ ap (λ (x : ℕ). (x + 7) / 8) g ∙ (let z : (m * 8 + 7) / 8 ≡ m = omega arith in z) in
-    let o : suc m - 1 ≡ m = omega arith in
-    let sum : meta * 256 ^ m + (N * 256 ^ m + number (2 ^ b) ys) ≡ number (2 ^ b) ys + (meta + N) * 256 ^ m = omega arith in
-    let none : 0 * 256 ^ (m - 1) + number (2 ^ b) ys ≡ number (2 ^ b) ys = omega arith in
-    ap (λ (k : ℕ). drop 1 (digits 256 k (meta * 256 ^ (k - 1) + number (2 ^ b) cs))) e
-    ∙ ap (λ (k : ℕ). digits 256 m (meta * 256 ^ k + number (2 ^ b) cs)) o
-    ∙ ap (λ (x : ℕ). digits 256 m (meta * 256 ^ m + x)) n
-    ∙ ap (digits 256 m) sum
-    ∙ digits-high 256 (zero-lt-suc 255) m (number (2 ^ b) ys) (meta + N)
-    ∙ sym (ap (λ (k : ℕ). digits 256 k (0 * 256 ^ (k - 1) + number (2 ^ b) ys)) q ∙ ap (digits 256 m) none)
+packed-tail b meta f m cs below h e g =
+    let l : length (take f cs) ≡ f = length-take-le f cs h in
+    let w : length cs * b ≡ f * b + (length cs - f) * b = ap (λ (x : ℕ). x * b) (omega arith) ∙ add-mul f (length cs - f) b in
+    let one : (f * b + 7) / 8 ≡ 1 = omega arith in
+    ap (λ (x : List ℕ). drop 1 (packedWith b meta x)) (sym (take-append-drop f cs))
+    ∙ ap (drop 1) (packed-append b meta m (take f cs) (drop f cs) (below-drop (2 ^ b) cs below f) (rw (length-drop f cs) g) (λ p. rw l (omega arith)))
+    ∙ drop-at (packedWith b meta (take f cs)) (packedWith b 0 (drop f cs)) 1 (packed-length b meta (take f cs) ∙ rw l one)
 
 len-full : (m : ℕ) (s : States) → lenOf (m * perByte s) s ≡ m
 len-full m Two = omega arith
@@ -434,7 +460,7 @@ empty : (l : List ℕ) → length l ≡ 0 → l ≡ []
 empty [] e = refl
 empty (x ∷ l) e = absurd (omega arith)
 
-len-none : (s : States) → lenOf 0 s ≡ 0
+pub len-none : (s : States) → lenOf 0 s ≡ 0
 len-none Two = refl
 len-none Four = refl
 len-none Nine = refl
@@ -516,9 +542,9 @@ module _ {s : States} {v : List ℕ} {room at meta : ℕ} (ok : Packable s v roo
         ap (λ (y : ℕ). y * bitsOf s) (let z : length cs - first ≡ later * perByte s = omega (arith, behind-first) in z)
         ∙ mul-assoc later (perByte s) (bitsOf s) ∙ ap (λ (y : ℕ). later * y) (per-bits s) in
         let t : drop 1 P ≡ packedFrom s 0 (drop first v) =
-        packed-tail (bitsOf s) meta first later cs (omega (arith, first-fits)) (sym (len-bits (length cs) s) ∙ rw l (omega (arith, some))) g
+        packed-tail (bitsOf s) meta first later cs (ok .codes .below) (omega (arith, first-fits)) (sym (len-bits (length cs) s) ∙ rw l (omega (arith, some))) g
         ∙ ap (packedWith (bitsOf s) 0) (sym (codes-drop first v)) in
-        drop-cons P 0 0 (rw (packed-from-length ok) some) ∙ ap₂ (λ (y : ℕ) (ys : List ℕ). y ∷ ys) (sym x) t
+        drop-cons P 0 0 (rw (packed-from-length s meta v) some) ∙ ap₂ (λ (y : ℕ) (ys : List ℕ). y ∷ ys) (sym x) t
 
     -- the part of the string that is lent
     pub rest-is : take (length v - first) (drop first v) ≡ drop first v
@@ -548,7 +574,7 @@ module _ {s : States} {v : List ℕ} {room at meta : ℕ} (ok : Packable s v roo
         none-behind = length-drop first v ∙ omega (arith, only)
 
         no-rest : rest ≡ []
-        no-rest = empty rest (packed-from-length (plain rest-whole) ∙ ap (λ (n : ℕ). lenOf n s) none-behind ∙ len-none s)
+        no-rest = empty rest (packed-from-length s 0 (drop first v) ∙ ap (λ (n : ℕ). lenOf n s) none-behind ∙ len-none s)
 
         pub only-size : lenOf (length v) s ≡ 1
         only-size = rest-size ∙ ap (λ (n : ℕ). suc (lenOf n s)) none-behind ∙ ap suc (len-none s)

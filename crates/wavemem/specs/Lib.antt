@@ -1,2 +1,2 @@
 pub mod Packed
-pub mod Short
+pub mod Scan

@@ -9,6 +9,8 @@ ghost use Rattle.wavemem.specs.Packed.{packedFrom, firstCount, OneWord, 
 use value::CharCode;
 use value::States;
 
+mod chunks;
+pub mod scan;
 pub mod short;
 
 // How many levels a byte holds.
@@ -225,8 +227,16 @@ fn write_whole(states: States, value: &[u8], out: &mut [u8], at: usize) -> usize
     let codes = value::LOW_BITS;
     match states {
         States::Two => write_bytes(States::Two, &codes, value, out, at),
-        States::Four => write_bytes(States::Four, &codes, value, out, at),
-        States::Nine => write_bytes(States::Nine, &codes, value, out, at),
+        States::Four => {
+            let lead = value.len() % 8;
+            let next = write_bytes(States::Four, &codes, &value[..lead], out, at);
+            chunks::write_words(&value[lead..], out, next)
+        }
+        States::Nine => {
+            let lead = value.len() % 32;
+            let next = write_bytes(States::Nine, &codes, &value[..lead], out, at);
+            chunks::write_chunks(&value[lead..], out, next)
+        }
     }
 }
 
@@ -238,7 +248,14 @@ fn equals_whole(states: States, value: &[u8], bytes: &[u8], at: usize) -> bool
     let codes = value::LOW_BITS;
     match states {
         States::Two => equals_bits(value, bytes, at),
-        States::Four => equals_bytes(States::Four, &codes, value, bytes, at),
+        States::Four => {
+            let lead = value.len() % 8;
+            if equals_bytes(States::Four, &codes, &value[..lead], bytes, at) {
+                chunks::equals_words(&value[lead..], bytes, at + lead / 4)
+            } else {
+                false
+            }
+        }
         States::Nine => equals_bytes(States::Nine, &codes, value, bytes, at),
     }
 }

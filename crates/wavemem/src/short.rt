@@ -1,48 +1,22 @@
-// What is told of a string before it is stored: its least set, and its levels as one number where its entry is short.
+// Strings of at most eight characters, each read once, as one word: the first character in the highest byte.
 ghost use mathlib.Core.Path.{_≡_};
-ghost use Prim.Native.Nat.{_*_, _^_, _≤_};
-ghost use lib.ListN.{length};
-ghost use Rattle.value.specs.Digits.{number};
-ghost use Rattle.value.specs.Level.{foldAll, codesOf, bitsOf};
-ghost use Rattle.wavemem.specs.Packed.{Codes};
-ghost use Rattle.wavemem.specs.Short.{Scan};
-use crate::number_from_ascii;
-use value::States;
-use value::StatesAnswer;
+ghost use Rattle.value.specs.Digits.{number, digits, Below};
+ghost use Rattle.value.specs.Level.{foldAll, codesOf};
 
-pub struct Scanned {
-    pub answer: StatesAnswer,
-    pub levels: u64,
+// Levels of two bits, a byte apart, pushed together.
+fn squeeze_2(x: u64) -> u64
+    requires { ⌜ Below 4 (digits 256 8 x) ⌝ }
+    ensures { λ r. ⌜ r ≡ number 4 (digits 256 8 x) ⌝ }
+{
+    let y = (x | (x >> 6)) & 0x000f_000f_000f_000f;
+    let z = (y | (y >> 12)) & 0x0000_00ff_0000_00ff;
+    (z | (z >> 24)) & 0xffff
 }
 
-// The number of a string's levels, and 0 where 64 bits don't hold them or the entry has more than eight bytes.
-fn levels_for(states: States, value: &[u8], size: usize) -> u64
-    requires { ⌜ Codes states (codesOf (foldAll (now value))) × (length (now value) ≤ 4096) ⌝ }
-    ensures { λ r. ⌜ (size ≤ 8 → length (now (value .entry)) * bitsOf states ≤ 64 → r ≡ number (2 ^ bitsOf states) (codesOf (foldAll (now (value .entry))))) ⌝ }
+// The number of eight characters 0 1 x z. Bits tell each one's code.
+pub fn four_of_word(w: u64) -> u64
+    requires { ⌜ Below 4 (codesOf (foldAll (digits 256 8 w))) ⌝ }
+    ensures { λ r. ⌜ r ≡ number 4 (codesOf (foldAll (digits 256 8 w))) ⌝ }
 {
-    if 8 < size {
-        return 0;
-    }
-    if 64 < value.len() * states.bits() as usize {
-        return 0;
-    }
-    number_from_ascii(states, value)
-}
-
-// Of a string for an entry of a size.
-pub fn scan(value: &[u8], size: usize) -> Scanned
-    requires { ⌜ length (now value) ≤ 4096 ⌝ }
-    ensures { λ r. ⌜ Scan (now (value .entry)) size r ⌝ }
-{
-    let answer = States::from_ascii(value);
-    let StatesAnswer::Least(states) = answer else {
-        return Scanned {
-            answer: StatesAnswer::Foreign,
-            levels: 0,
-        };
-    };
-    Scanned {
-        answer: StatesAnswer::Least(states),
-        levels: levels_for(states, value, size),
-    }
+    squeeze_2(((w >> 2) & 0x0202_0202_0202_0202) | ((w | (w >> 1)) & 0x0101_0101_0101_0101))
 }

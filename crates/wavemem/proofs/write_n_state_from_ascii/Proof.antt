@@ -117,7 +117,7 @@ same-length-3 : tie.Need-same-length-3
 same-length-3 c =
     let w = c .before .before in
     let s = start (entry w .before) in
-    ap length (stored w) ∙ overlay-length (now (s .args .out)) _ (s .args .at) (rw (packed-from-length (s .pre)) (s .pre .fits))
+    ap length (stored w) ∙ overlay-length (now (s .args .out)) _ (s .args .at) (rw packed-from-length (s .pre .fits))
 
 returns-3 : tie.Need-returns-3
 returns-3 c =

@@ -1,9 +1,32 @@
 -- `wavemem::write_whole` meets its contract.
 -- Assumes nothing.
+use mathlib.Core.Path.{_≡_, refl, sym, subst}
 use borrow.Author.Needs.{needs}
+use denote.Ref.{now}
+use lib.ListN.{length}
+use Rattle.value.specs.declared.States.{States}
+use Rattle.value.specs.declared.States.the-variants.{Four, Nine}
+use Rattle.wavemem.specs.Packed.{Whole}
 use Rattle.wavemem.proofs.Packing.{by-low-bits}
+use Rattle.wavemem.proofs.Parts.{lead-four, lead-nine, front-length, front-whole, second-lent, both-stored}
 use Rattle.wavemem.proofs.write_whole.Statement.{statement}
 use Rattle.wavemem.proofs.write_whole.Tie as tie
+
+-- the string under a set that is told
+whole : (c : tie.Start) (s : States) → c .args .states ≡ s → Whole s (now (c .args .value)) (length (now (c .args .out))) (c .args .at)
+whole c s e = subst (λ (t : States). Whole t (now (c .args .value)) (length (now (c .args .out))) (c .args .at)) e (c .pre)
+
+abbrev start2 : tie.After-enum-told2 → tie.Start
+start2 c = c .before .before .before .before
+
+abbrev start3 : tie.After-enum-told3 → tie.Start
+start3 c = c .before .before .before .before
+
+four : (c : tie.After-enum-told2) → let x = start2 c .args in Whole Four (now (x .value)) (length (now (x .out))) (x .at)
+four c = whole (start2 c) Four (c .enum-told2 .given .1)
+
+nine : (c : tie.After-enum-told3) → let x = start3 c .args in Whole Nine (now (x .value)) (length (now (x .out))) (x .at)
+nine c = whole (start3 c) Nine (c .enum-told3 .given .1)
 
 enum-told : tie.Need-enum-told
 enum-told c = search needs
@@ -14,14 +37,50 @@ write-bytes-requires c κs = (rw (c .before .before .enum-told .given .1) at (c 
 enum-told-2 : tie.Need-enum-told-2
 enum-told-2 c = search needs
 
+slice-aggregate-write-bytes : tie.Need-slice-aggregate-write-bytes
+slice-aggregate-write-bytes c = let ok = four (c .before .before) in sym (front-length ok (lead-four ok refl))
+
 write-bytes-requires-2 : tie.Need-write-bytes-requires-2
-write-bytes-requires-2 c κs = (rw (c .before .before .enum-told2 .given .1) at (c .before .before .before .before .before .before .pre), by-low-bits)
+write-bytes-requires-2 c κs = let ok = four (c .before .before .before) in (front-whole ok (lead-four ok refl), by-low-bits)
+
+sub-write-words : tie.Need-sub-write-words
+sub-write-words c = search needs
+
+part-write-words-start : tie.Need-part-write-words-start
+part-write-words-start c = search needs
+
+part-write-words-end : tie.Need-part-write-words-end
+part-write-words-end c = search needs
+
+write-words-requires : tie.Need-write-words-requires
+write-words-requires c κs =
+    let w = c .before .before .before .before in
+    let e = w .before .before .before .before in
+    second-lent (four e) (lead-four (four e) refl) (now (start2 e .args .out)) refl (w .write-bytes2 .ensures)
 
 enum-told-3 : tie.Need-enum-told-3
 enum-told-3 c = search needs
 
+slice-aggregate-write-bytes-2 : tie.Need-slice-aggregate-write-bytes-2
+slice-aggregate-write-bytes-2 c = let ok = nine (c .before .before) in sym (front-length ok (lead-nine ok refl))
+
 write-bytes-requires-3 : tie.Need-write-bytes-requires-3
-write-bytes-requires-3 c κs = (rw (c .before .before .enum-told3 .given .1) at (c .before .before .before .before .before .before .pre), by-low-bits)
+write-bytes-requires-3 c κs = let ok = nine (c .before .before .before) in (front-whole ok (lead-nine ok refl), by-low-bits)
+
+sub-write-chunks : tie.Need-sub-write-chunks
+sub-write-chunks c = search needs
+
+part-write-chunks-start : tie.Need-part-write-chunks-start
+part-write-chunks-start c = search needs
+
+part-write-chunks-end : tie.Need-part-write-chunks-end
+part-write-chunks-end c = search needs
+
+write-chunks-requires : tie.Need-write-chunks-requires
+write-chunks-requires c κs =
+    let w = c .before .before .before .before in
+    let e = w .before .before .before .before in
+    second-lent (nine e) (lead-nine (nine e) refl) (now (start3 e .args .out)) refl (w .write-bytes3 .ensures)
 
 same-length : tie.Need-same-length
 same-length c = search needs
@@ -36,16 +95,22 @@ same-length-2 c = search needs
 
 returns-2 : tie.Need-returns-2
 returns-2 c =
-    let w = c .before .before in
-    rw (w .before .before .before .enum-told2 .given .1) (w .write-bytes2 .ensures)
+    let k = c .before .before in
+    let w = k .before .before .before .before .before in
+    let e = w .before .before .before .before in
+    rw (e .enum-told2 .given .1)
+    (both-stored (four e) (lead-four (four e) refl) (now (start2 e .args .out)) refl (w .write-bytes2 .ensures) (k .write-words .ensures))
 
 same-length-3 : tie.Need-same-length-3
 same-length-3 c = search needs
 
 returns-3 : tie.Need-returns-3
 returns-3 c =
-    let w = c .before .before in
-    rw (w .before .before .before .enum-told3 .given .1) (w .write-bytes3 .ensures)
+    let k = c .before .before in
+    let w = k .before .before .before .before .before in
+    let e = w .before .before .before .before in
+    rw (e .enum-told3 .given .1)
+    (both-stored (nine e) (lead-nine (nine e) refl) (now (start3 e .args .out)) refl (w .write-bytes3 .ensures) (k .write-chunks .ensures))
 
 pub write-whole-spec : {M : Type 1} → statement M
 write-whole-spec =
@@ -54,9 +119,19 @@ write-whole-spec =
     enum-told
     write-bytes-requires
     enum-told-2
+    slice-aggregate-write-bytes
     write-bytes-requires-2
+    sub-write-words
+    part-write-words-start
+    part-write-words-end
+    write-words-requires
     enum-told-3
+    slice-aggregate-write-bytes-2
     write-bytes-requires-3
+    sub-write-chunks
+    part-write-chunks-start
+    part-write-chunks-end
+    write-chunks-requires
     same-length
     returns
     same-length-2

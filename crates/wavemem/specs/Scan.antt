@@ -1,4 +1,4 @@
--- Inner: what one reading tells of a string.
+-- Inner: what is told of a string before it is stored.
 -- Assumes nothing.
 use Prim.Native.Nat.{ℕ, _*_, _^_, _≤_}
 use mathlib.Core.Path.{_≡_}
@@ -12,7 +12,7 @@ use Rattle.value.specs.Answer.{leastStates}
 use Rattle.wavemem.specs.declared.short.Scanned.{Scanned}
 
 -- a string's least set, and the number of its levels for an entry of at most eight bytes, where 64 bits hold them
-pub record Scan (value : List ℕ) (size : ℕ) (r : Scanned) : Type 0 where
+pub record ScanFor (value : List ℕ) (size : ℕ) (r : Scanned) : Type 0 where
   pub least : r .answer ≡ leastStates value
   pub levels : (s : States) → r .answer ≡ answer.Least s → size ≤ 8 → length value * bitsOf s ≤ 64
       → r .levels ≡ number (2 ^ bitsOf s) (codesOf (foldAll value))

@@ -1,4 +1,4 @@
--- `wavemem::short::levels_for` meets its contract.
+-- `wavemem::scan::levels_for` meets its contract.
 -- Assumes nothing.
 use mathlib.Core.Path.{_≡_, ap}
 use Prim.Native.Nat.{ℕ, _*_, _≤_, _<_}
@@ -8,8 +8,8 @@ use borrow.Author.Needs.{needs}
 use denote.Ref.{now}
 use lib.ListN.{length}
 use Rattle.value.proofs.Levels.{bits-small}
-use Rattle.wavemem.proofs.short.levels_for.Statement.{statement}
-use Rattle.wavemem.proofs.short.levels_for.Tie as tie
+use Rattle.wavemem.proofs.scan.levels_for.Statement.{statement}
+use Rattle.wavemem.proofs.scan.levels_for.Tie as tie
 
 returns : tie.Need-returns
 returns c = λ h k. absurd (omega arith)

@@ -1,4 +1,4 @@
--- `wavemem::short::scan` meets its contract.
+-- `wavemem::scan::scan` meets its contract.
 -- Assumes nothing.
 use mathlib.Core.Path.{_≡_, sym, subst, _∙_}
 use Prim.Native.Nat.{_*_, _^_, _≤_}
@@ -9,8 +9,8 @@ use Rattle.value.specs.declared.States.{States}
 use Rattle.value.specs.Digits.{number}
 use Rattle.value.specs.Level.{foldAll, codesOf, bitsOf}
 use Rattle.wavemem.proofs.Scanning.{codes-told, foreign-least, least-inj}
-use Rattle.wavemem.proofs.short.scan.Statement.{statement}
-use Rattle.wavemem.proofs.short.scan.Tie as tie
+use Rattle.wavemem.proofs.scan.scan.Statement.{statement}
+use Rattle.wavemem.proofs.scan.scan.Tie as tie
 
 from-ascii-requires : tie.Need-from-ascii-requires
 from-ascii-requires c κs = search needs

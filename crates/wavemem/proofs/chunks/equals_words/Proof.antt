@@ -1,0 +1,130 @@
+-- `wavemem::chunks::equals_words` meets its contract: each turn compares the bytes of the next eight characters, and what is left decides.
+-- Assumes nothing.
+use mathlib.Core.Path.{_≡_, refl, sym, _∙_}
+use mathlib.Core.Bool.{_&&_}
+use Prim.Native.Nat.{_-_, _+_, _/_, _≤_}
+use native.Mathlib.Omega.{arith}
+use borrow.Author.Needs.{needs}
+use borrow.Author.Tests.{eq-eqb, ne-eqb}
+use denote.Ref.{now}
+use lib.Dec.{eqb}
+use lib.Bits.{bitAnd}
+use lib.ListN.{length, getD, drop}
+use Rattle.value.specs.declared.States.the-variants.{Four}
+use Rattle.wavemem.proofs.Parts.{Passed, passed-start, passed-agree, agree, turn-within, turn-fits, turn-passed, turn-codes, word-compared}
+use Rattle.wavemem.proofs.chunks.equals_words.Statement.{statement}
+use Rattle.wavemem.proofs.chunks.equals_words.Tie as tie
+
+abbrev Inv-loop : tie.InvT-loop
+Inv-loop value bytes at from₀ to₀ from to = Passed Four (length value) at 8 from to × (agree Four bytes to (drop from value) ≡ agree Four bytes at value)
+
+abbrev μ-loop : tie.MeasureT-loop
+μ-loop value bytes at from₀ to₀ from to = length value - from
+
+loop-holds : tie.Need-loop-holds Inv-loop μ-loop
+loop-holds c =
+    let s = c .before .before in
+    (passed-start Four (length (now (s .args .value))) (s .args .at) 8 (s .pre .1), refl)
+
+-- the function's entry
+abbrev start : tie.At-loop Inv-loop μ-loop → tie.Start Inv-loop μ-loop
+start a = a .before .before .before
+
+within : (c : tie.In-loop Inv-loop μ-loop) → c .before .loop .from + 8 ≤ length (now (start (c .before) .args .value))
+within c = turn-within (start (c .before) .pre .0) 8 refl (c .before .loop .inv .0) (c .loop-test .taken)
+
+fits : (c : tie.In-loop Inv-loop μ-loop) → c .before .loop .to + 2 ≤ length (now (start (c .before) .args .bytes))
+fits c = turn-fits (start (c .before) .pre .0) 8 refl (c .before .loop .inv .0) (c .loop-test .taken)
+
+levels-at-requires : tie.Need-levels-at-requires Inv-loop μ-loop
+levels-at-requires c κs =
+    (within c, turn-codes (start (c .before) .pre .0) 8 refl (c .before .loop .inv .0) (c .loop-test .taken) .below)
+
+shared-slice-read-wide : tie.Need-shared-slice-read-wide Inv-loop μ-loop
+shared-slice-read-wide c = omega (arith, fits (c .before .before))
+
+wide-requires : tie.Need-wide-requires Inv-loop μ-loop
+wide-requires c κs = search needs
+
+-- the comparison of the whole, by that of the next two bytes and of what is behind them
+compared : (l : tie.After-levels-at Inv-loop μ-loop)
+    → let a = l .before .before in
+    let v = now (start a .args .value) in
+    let b = now (start a .args .bytes) in
+    let x = l .levels-at .result in
+    agree Four b (start a .args .at) v
+    ≡ eqb (getD b (a .loop .to) 0) (x / 256) && (eqb (getD b (a .loop .to + 1) 0) (bitAnd x 255) && agree Four b (a .loop .to + 2) (drop (a .loop .from + 8) v))
+compared l =
+    let i = l .before in
+    let s = start (i .before) in
+    let h = i .before .loop .inv in
+    sym (h .1) ∙ word-compared (s .pre .0) (h .0) (i .loop-test .taken) (l .levels-at .result) (l .levels-at .ensures) (now (s .args .bytes)) refl
+
+returns : tie.Need-returns Inv-loop μ-loop
+returns c =
+    let w = c .before in
+    sym (compared (w .before .before) ∙ rw (ne-eqb _ _ (λ e. c .if1 .taken (w .wide .ensures ∙ e))))
+
+add-wide : tie.Need-add-wide Inv-loop μ-loop
+add-wide c = omega (arith, fits (c .before .before .before .before))
+
+shared-slice-read-wide-2 : tie.Need-shared-slice-read-wide-2 Inv-loop μ-loop
+shared-slice-read-wide-2 c = omega (arith, fits (c .before .before .before .before .before))
+
+wide-requires-2 : tie.Need-wide-requires-2 Inv-loop μ-loop
+wide-requires-2 c κs = search needs
+
+returns-2 : tie.Need-returns-2 Inv-loop μ-loop
+returns-2 c =
+    let w = c .before in
+    let e = w .before .before in
+    let v = e .before in
+    sym (compared (v .before .before) ∙ rw (eq-eqb _ _ (sym (v .wide .ensures) ∙ e .if1 .left), ne-eqb _ _ (λ g. c .if2 .taken (w .wide2 .ensures ∙ g))))
+
+add-from : tie.Need-add-from Inv-loop μ-loop
+add-from c =
+    let i = c .before .before .before .before .before .before .before in
+    omega (arith, within i, start (i .before) .pre .0 .short)
+
+add-to : tie.Need-add-to Inv-loop μ-loop
+add-to c = omega (arith, fits (c .before .before .before .before .before .before .before))
+
+loop-less : tie.Need-loop-less Inv-loop μ-loop
+loop-less c = omega (arith, c .before .before .before .before .before .before .before .loop-test .taken)
+
+loop-again : tie.Need-loop-again Inv-loop μ-loop
+loop-again c =
+    let w = c .before in
+    let e = w .before .before in
+    let v = e .before in
+    let l = v .before .before in
+    let i = l .before in (
+      turn-passed (start (i .before) .pre .0) 8 refl (i .before .loop .inv .0) (i .loop-test .taken),
+      sym (compared l ∙ rw (eq-eqb _ _ (sym (v .wide .ensures) ∙ e .if1 .left), eq-eqb _ _ (sym (w .wide2 .ensures) ∙ c .if2 .left))),
+    )
+
+returns-3 : tie.Need-returns-3 Inv-loop μ-loop
+returns-3 c =
+    let h = c .before .loop .inv in
+    sym (passed-agree (now (start (c .before) .args .bytes)) (now (start (c .before) .args .value)) (h .0) (c .loop-test .left)) ∙ h .1
+
+pub equals-words-spec : {M : Type 1} → statement M
+equals-words-spec =
+    tie.close
+    (tie.spec
+    Inv-loop
+    μ-loop
+    loop-holds
+    levels-at-requires
+    shared-slice-read-wide
+    wide-requires
+    returns
+    add-wide
+    shared-slice-read-wide-2
+    wide-requires-2
+    returns-2
+    add-from
+    add-to
+    loop-less
+    loop-again
+    returns-3)
