@@ -1,4 +1,6 @@
 // Levels packed into bytes, after wellen's src/wavemem.rs.
+pub mod short;
+
 ghost use mathlib.Core.Path.{_≡_};
 ghost use Prim.Native.Nat.{_+_, _/_, _^_, _≤_};
 ghost use lib.ListN.{length};

@@ -1,0 +1,125 @@
+-- Words by their lanes: fields of one width side by side, as the bytes of a word.
+-- Assumes nothing.
+use mathlib.Core.Path.{_≡_, refl, sym, ap, ap₂, _∙_}
+use mathlib.Core.List.{List, [], _∷_, map}
+use Prim.Native.Nat.{ℕ, zero, suc, _+_, _-_, _*_, _/_, _%_, _^_, _≤_, _<_}
+use native.Mathlib.Nat.{add-comm, zero-mul, zero-add, mod-lt, mod-eq-of-lt, le-refl, lt-of-le-of-lt, lt-of-lt-of-le}
+use native.Mathlib.Omega.{arith}
+use lib.Bits.{bitAnd, bitOr, bitXor, and-lt, or-lt, xor-lt, and-shr, or-shr, xor-shr, and-mod, or-mod, xor-mod, and-block, and-zero-r, and-le-l, and-le-r}
+use lib.Pow.{pow-pos, pow-mono, split, field, shr-shr, shr-le, mod-mod-pow}
+use lib.ListN.{length, getD, replicate, length-replicate, getD-replicate}
+use Rattle.value.specs.Digits.{number, digits, Below}
+use Rattle.value.proofs.Digits.{pow-pow, number-at, number-digits}
+
+-- In each of n lanes of L bits the low j bits of `a` are those of F of what `w` has there.
+pub record Lows (L n w j : ℕ) (F : ℕ → ℕ) (a : ℕ) : Type 0 where
+  pub small : a < 2 ^ (n * L)
+  pub here : (k : ℕ) → k < n → a / 2 ^ (k * L) % 2 ^ j ≡ F (w / 2 ^ (k * L) % 2 ^ L) % 2 ^ j
+
+-- a mask takes only low bits
+and-low : (y m j : ℕ) → m < 2 ^ j → bitAnd y m ≡ bitAnd (y % 2 ^ j) m
+and-low y m j h =
+    let e : y / 2 ^ j * 2 ^ j + y % 2 ^ j ≡ y = split y j in
+    let z : 0 * 2 ^ j + m ≡ m = omega arith in
+    ap₂ bitAnd (sym e) (sym z)
+    ∙ and-block j (y / 2 ^ j) 0 (y % 2 ^ j) m (mod-lt y (pow-pos j)) h
+    ∙ ap (λ (n : ℕ). n * 2 ^ j + bitAnd (y % 2 ^ j) m) (and-zero-r (y / 2 ^ j))
+    ∙ omega arith
+
+below-replicate : (B m n : ℕ) → m < B → Below B (replicate n m)
+below-replicate B m zero h = tt
+below-replicate B m (suc n) h = (h, below-replicate B m n h)
+
+-- one number in every lane
+mask-at : (L n m k : ℕ) → m < 2 ^ L → k < n → number (2 ^ L) (replicate n m) / 2 ^ (k * L) % 2 ^ L ≡ m
+mask-at L n m k h i =
+    rw (← pow-pow 2 L k)
+    (number-at (2 ^ L) (replicate n m) (n - suc k) k (below-replicate (2 ^ L) m n h) (rw length-replicate (omega arith))
+    ∙ getD-replicate n (n - suc k) m 0 (omega arith))
+
+module _ {L n w : ℕ} where
+  pub itself : w < 2 ^ (n * L) → Lows L n w L (λ (x : ℕ). x) w
+  itself h = record { small = h; here = λ k i. sym (mod-eq-of-lt (mod-lt (w / 2 ^ (k * L)) (pow-pos L))) }
+
+  module _ (op : ℕ → ℕ → ℕ)
+      (lt : (k a b : ℕ) → a < 2 ^ k → b < 2 ^ k → op a b < 2 ^ k)
+      (shr : (a b k : ℕ) → op a b / 2 ^ k ≡ op (a / 2 ^ k) (b / 2 ^ k))
+      (low : (a b k : ℕ) → op a b % 2 ^ k ≡ op (a % 2 ^ k) (b % 2 ^ k)) where
+    by-op : {j a b : ℕ} {F G : ℕ → ℕ} → Lows L n w j F a → Lows L n w j G b → Lows L n w j (λ (x : ℕ). op (F x) (G x)) (op a b)
+    by-op {j} {a} {b} {F} {G} p q =
+        record {
+          small = lt (n * L) a b (p .small) (q .small);
+          here = λ k i.
+              let s = k * L in
+              let x = w / 2 ^ s % 2 ^ L in
+              ap (λ (y : ℕ). y % 2 ^ j) (shr a b s)
+              ∙ low (a / 2 ^ s) (b / 2 ^ s) j
+              ∙ ap₂ op (p .here k i) (q .here k i)
+              ∙ sym (low (F x) (G x) j);
+        }
+
+  pub by-and : {j a b : ℕ} {F G : ℕ → ℕ} → Lows L n w j F a → Lows L n w j G b → Lows L n w j (λ (x : ℕ). bitAnd (F x) (G x)) (bitAnd a b)
+  by-and = by-op bitAnd and-lt and-shr and-mod
+
+  pub by-or : {j a b : ℕ} {F G : ℕ → ℕ} → Lows L n w j F a → Lows L n w j G b → Lows L n w j (λ (x : ℕ). bitOr (F x) (G x)) (bitOr a b)
+  by-or = by-op bitOr or-lt or-shr or-mod
+
+  pub by-xor : {j a b : ℕ} {F G : ℕ → ℕ} → Lows L n w j F a → Lows L n w j G b → Lows L n w j (λ (x : ℕ). bitXor (F x) (G x)) (bitXor a b)
+  by-xor = by-op bitXor xor-lt xor-shr xor-mod
+
+  pub fewer : {i a : ℕ} {F : ℕ → ℕ} (j : ℕ) → j ≤ i → Lows L n w i F a → Lows L n w j F a
+  fewer {i} {a} {F} j h p =
+      let e : i ≡ i - j + j = omega arith in
+      let low : (y : ℕ) → y % 2 ^ i % 2 ^ j ≡ y % 2 ^ j = λ y. rw e (mod-mod-pow y (i - j) j) in
+      record {
+        small = p .small;
+        here = λ k m. sym (low (a / 2 ^ (k * L))) ∙ ap (λ (y : ℕ). y % 2 ^ j) (p .here k m) ∙ low (F (w / 2 ^ (k * L) % 2 ^ L));
+      }
+
+  pub shifted : {a : ℕ} {F : ℕ → ℕ} (j k : ℕ) → Lows L n w (j + k) F a → Lows L n w j (λ (x : ℕ). F x / 2 ^ k) (a / 2 ^ k)
+  shifted {a} {F} j k p =
+      record {
+        small = lt-of-le-of-lt (shr-le a k) (p .small);
+        here = λ i m.
+            let s = i * L in
+            ap (λ (y : ℕ). y % 2 ^ j) (shr-shr a k s ∙ ap (λ (t : ℕ). a / 2 ^ t) (add-comm k s) ∙ sym (shr-shr a s k))
+            ∙ sym (field (a / 2 ^ s) j k)
+            ∙ ap (λ (y : ℕ). y / 2 ^ k) (p .here i m)
+            ∙ field (F (w / 2 ^ s % 2 ^ L)) j k;
+      }
+
+  -- a mask of low bits, after which the lanes are known whole
+  pub kept : {j a : ℕ} {F : ℕ → ℕ} (m : ℕ) → j ≤ L → m < 2 ^ j → Lows L n w j F a
+      → Lows L n w L (λ (x : ℕ). bitAnd (F x) m) (bitAnd a (number (2 ^ L) (replicate n m)))
+  kept {j} {a} {F} m h l p =
+      let M = number (2 ^ L) (replicate n m) in
+      let e : L ≡ L - j + j = omega arith in
+      let low : (y : ℕ) → y % 2 ^ L % 2 ^ j ≡ y % 2 ^ j = λ y. rw e (mod-mod-pow y (L - j) j) in
+      let wide : m < 2 ^ L = lt-of-lt-of-le l (pow-mono h) in
+      record {
+        small = lt-of-le-of-lt (and-le-l a M) (p .small);
+        here = λ k i.
+            let y = a / 2 ^ (k * L) in
+            let x = F (w / 2 ^ (k * L) % 2 ^ L) in
+            ap (λ (z : ℕ). z % 2 ^ L) (and-shr a M (k * L))
+            ∙ and-mod y (M / 2 ^ (k * L)) L
+            ∙ ap (bitAnd (y % 2 ^ L)) (mask-at L n m k wide i)
+            ∙ and-low (y % 2 ^ L) m j l
+            ∙ ap (λ (z : ℕ). bitAnd z m) (low y ∙ p .here k i)
+            ∙ sym (and-low x m j l)
+            ∙ sym (mod-eq-of-lt (lt-of-le-of-lt (and-le-r x m) wide));
+      }
+
+  -- the lanes as digits
+  first-lanes : {a : ℕ} {F : ℕ → ℕ} → Lows L n w L F a → (i : ℕ) → i ≤ n → digits (2 ^ L) i a ≡ map (λ (x : ℕ). F x % 2 ^ L) (digits (2 ^ L) i w)
+  unfolding digits
+  first-lanes p zero h = refl
+  first-lanes p (suc i) h = ap₂ (λ (x : ℕ) (xs : List ℕ). x ∷ xs) (rw (pow-pow 2 L i) (p .here i h)) (first-lanes p i (omega arith))
+
+  pub lanes : {a : ℕ} {F : ℕ → ℕ} → Lows L n w L F a → digits (2 ^ L) n a ≡ map (λ (x : ℕ). F x % 2 ^ L) (digits (2 ^ L) n w)
+  lanes p = first-lanes p n (le-refl n)
+
+  pub in-lanes : {a : ℕ} {F : ℕ → ℕ} → Lows L n w L F a → a ≡ number (2 ^ L) (map (λ (x : ℕ). F x % 2 ^ L) (digits (2 ^ L) n w))
+  in-lanes {a} p =
+      let h : a < (2 ^ L) ^ n = rw (pow-pow 2 L n) (p .small) in
+      sym (mod-eq-of-lt h) ∙ sym (number-digits (2 ^ L) (pow-pos L) n a) ∙ ap (number (2 ^ L)) (lanes p)
