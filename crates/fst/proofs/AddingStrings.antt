@@ -21,7 +21,7 @@ use Rattle.value.proofs.Levels as levels
 use Rattle.value.proofs.Classes.{foreign-told, least-told}
 use Rattle.value.proofs.Slices.{part-length}
 use Rattle.wavemem.specs.Packed.{Codes}
-use Rattle.wavemem.specs.Short.{Scan}
+use Rattle.wavemem.specs.Scan.{ScanFor}
 use Rattle.wavemem.specs.declared.short.Scanned.{Scanned}
 use Rattle.fst.specs.declared.Encoding.{Encoding}
 use Rattle.fst.specs.declared.Encoding.the-variants.{BitVector}
@@ -243,7 +243,7 @@ module _ (d : Description) (l : Lent) (i : ℕ) (s : List ℕ) (M own : States) 
       record { under = p .under; codes = p .codes; wide = p .wide; short = p .short; fits = omega arith }
 
   -- the levels of a short entry are told by a scan
-  pub levels-told : (size : ℕ) (r : Scanned) → size ≡ entrySize (length s) M → r .answer ≡ answer.Least own → Scan s size r → Leveled M own s size (r .levels)
+  pub levels-told : (size : ℕ) (r : Scanned) → size ≡ entrySize (length s) M → r .answer ≡ answer.Least own → ScanFor s size r → Leveled M own s size (r .levels)
   levels-told size r e a t =
       record { sized = e; is = λ h. t .levels own a h ((one-word entry-writable (omega arith)) .short) }
 

@@ -29,7 +29,7 @@ use layout::number::number_at;
 use layout::number::write_number;
 use value::States;
 use value::StatesAnswer;
-use wavemem::short::scan;
+use wavemem::scan::scan;
 
 pub fn accepted(next: Description) -> Added
     ensures { λ r. ⌜ r ≡ record { verdict = verdict.Accepted; next = next } ⌝ }

@@ -12,6 +12,12 @@ use Rattle.wavemem.proofs.Scanning.{codes-told, foreign-least, least-in
 use Rattle.wavemem.proofs.scan.scan.Statement.{statement}
 use Rattle.wavemem.proofs.scan.scan.Tie as tie
 
+scan-short-requires : tie.Need-scan-short-requires
+scan-short-requires c κs = c .if1 .taken
+
+returns : tie.Need-returns
+returns c = record { least = c .scan-short .ensures .least; levels = λ s e h k. c .scan-short .ensures .levels s e }
+
 from-ascii-requires : tie.Need-from-ascii-requires
 from-ascii-requires c κs = search needs
 
@@ -21,18 +27,18 @@ enum-known-answer c = search needs
 enum-told : tie.Need-enum-told
 enum-told c = search needs
 
-returns : tie.Need-returns
-returns c = record { least = sym (c .enum-told .given .1) ∙ c .before .before .from-ascii .ensures; levels = λ s e. absurd (foreign-least s e) }
+returns-2 : tie.Need-returns-2
+returns-2 c = record { least = sym (c .enum-told .given .1) ∙ c .before .before .from-ascii .ensures; levels = λ s e. absurd (foreign-least s e) }
 
 levels-for-requires : tie.Need-levels-for-requires
 levels-for-requires c κs =
-    let x = c .before .before .before .before .before in
+    let x = c .before .before .before .before .before .before in
     (codes-told (now (x .args .value)) _ (sym (c .before .before .before .from-ascii .ensures) ∙ c .before .answer .given .1), x .pre)
 
-returns-2 : tie.Need-returns-2
-returns-2 c =
+returns-3 : tie.Need-returns-3
+returns-3 c =
     let a = c .before .before in
-    let x = a .before .before .before .before in
+    let x = a .before .before .before .before .before in
     let v = now (x .args .value) in
     record {
       least = sym (a .answer .given .1) ∙ a .before .before .from-ascii .ensures;
@@ -44,4 +50,5 @@ returns-2 c =
 
 pub scan-spec : {M : Type 1} → statement M
 scan-spec =
-    tie.close (tie.spec from-ascii-requires enum-known-answer enum-told returns levels-for-requires returns-2)
+    tie.close
+    (tie.spec scan-short-requires returns from-ascii-requires enum-known-answer enum-told returns-2 levels-for-requires returns-3)
