@@ -17,6 +17,13 @@ pub record Lows (L n w j : ℕ) (F : ℕ → ℕ) (a : ℕ) : Type 0 where
   pub small : a < 2 ^ (n * L)
   pub here : (k : ℕ) → k < n → a / 2 ^ (k * L) % 2 ^ j ≡ F (w / 2 ^ (k * L) % 2 ^ L) % 2 ^ j
 
+-- a number below Bⁿ is that of its n digits
+pub number-back : (B n x : ℕ) → 0 < B → x < B ^ n → x ≡ number B (digits B n x)
+number-back B n x pos h = sym (number-digits B pos n x ∙ mod-eq-of-lt h)
+
+low-of-low : (y i j : ℕ) → j ≤ i → y % 2 ^ i % 2 ^ j ≡ y % 2 ^ j
+low-of-low y i j h = let e : i ≡ i - j + j = omega arith in rw e (mod-mod-pow y (i - j) j)
+
 -- a mask takes only low bits
 and-low : (y m j : ℕ) → m < 2 ^ j → bitAnd y m ≡ bitAnd (y % 2 ^ j) m
 and-low y m j h =
@@ -91,11 +98,9 @@ module _ {L n w : ℕ} where
 
   pub fewer : {i a : ℕ} {F : ℕ → ℕ} (j : ℕ) → j ≤ i → Lows L n w i F a → Lows L n w j F a
   fewer {i} {a} {F} j h p =
-      let e : i ≡ i - j + j = omega arith in
-      let low : (y : ℕ) → y % 2 ^ i % 2 ^ j ≡ y % 2 ^ j = λ y. rw e (mod-mod-pow y (i - j) j) in
       record {
         small = p .small;
-        here = λ k m. sym (low (a / 2 ^ (k * L))) ∙ ap (λ (y : ℕ). y % 2 ^ j) (p .here k m) ∙ low (F (w / 2 ^ (k * L) % 2 ^ L));
+        here = λ k m. sym (low-of-low (a / 2 ^ (k * L)) i j h) ∙ ap (λ (y : ℕ). y % 2 ^ j) (p .here k m) ∙ low-of-low (F (w / 2 ^ (k * L) % 2 ^ L)) i j h;
       }
 
   pub shifted : {a : ℕ} {F : ℕ → ℕ} (j k : ℕ) → Lows L n w (j + k) F a → Lows L n w j (λ (x : ℕ). F x / 2 ^ k) (a / 2 ^ k)
@@ -122,8 +127,6 @@ module _ {L n w : ℕ} where
       → Lows L n w L (λ (x : ℕ). bitAnd (F x) m) (bitAnd a (number (2 ^ L) (replicate n m)))
   kept {j} {a} {F} m h l p =
       let M = number (2 ^ L) (replicate n m) in
-      let e : L ≡ L - j + j = omega arith in
-      let low : (y : ℕ) → y % 2 ^ L % 2 ^ j ≡ y % 2 ^ j = λ y. rw e (mod-mod-pow y (L - j) j) in
       let wide : m < 2 ^ L = lt-of-lt-of-le l (pow-mono h) in
       record {
         small = lt-of-le-of-lt (and-le-l a M) (p .small);
@@ -134,7 +137,7 @@ module _ {L n w : ℕ} where
             ∙ and-mod y (M / 2 ^ (k * L)) L
             ∙ ap (bitAnd (y % 2 ^ L)) (mask-at L n m k wide i)
             ∙ and-low (y % 2 ^ L) m j l
-            ∙ ap (λ (z : ℕ). bitAnd z m) (low y ∙ p .here k i)
+            ∙ ap (λ (z : ℕ). bitAnd z m) (low-of-low y L j h ∙ p .here k i)
             ∙ sym (and-low x m j l)
             ∙ sym (mod-eq-of-lt (lt-of-le-of-lt (and-le-r x m) wide));
       }
@@ -149,9 +152,7 @@ module _ {L n w : ℕ} where
   lanes p = first-lanes p n (le-refl n)
 
   pub in-lanes : {a : ℕ} {F : ℕ → ℕ} → Lows L n w L F a → a ≡ number (2 ^ L) (map (λ (x : ℕ). F x % 2 ^ L) (digits (2 ^ L) n w))
-  in-lanes {a} p =
-      let h : a < (2 ^ L) ^ n = rw (pow-pow 2 L n) (p .small) in
-      sym (mod-eq-of-lt h) ∙ sym (number-digits (2 ^ L) (pow-pos L) n a) ∙ ap (number (2 ^ L)) (lanes p)
+  in-lanes {a} p = number-back (2 ^ L) n a (pow-pos L) (rw (pow-pow 2 L n) (p .small)) ∙ ap (number (2 ^ L)) (lanes p)
 
   pub of-lanes : (F : ℕ → ℕ) → ((x : ℕ) → x < 2 ^ L → F x < 2 ^ L) → Lows L n w L F (number (2 ^ L) (map F (digits (2 ^ L) n w)))
   of-lanes F h =

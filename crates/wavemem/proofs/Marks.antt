@@ -4,7 +4,7 @@ use mathlib.Core.Path.{_≡_, refl, sym, ap, ap₂, _∙_}
 use mathlib.Core.Bool.{Bool, true, false, cond, not, _&&_, _||_}
 use mathlib.Core.List.{List, [], _∷_, map, map-map}
 use Prim.Native.Nat.{ℕ, _+_, _*_, _%_, _^_, _<_}
-use native.Mathlib.Nat.{zero-lt-suc, mod-eq-of-lt, one-le-pow, le-mul-of-pos-right}
+use native.Mathlib.Nat.{zero-lt-suc, one-le-pow, le-mul-of-pos-right}
 use native.Mathlib.Omega.{arith}
 use borrow.Author.Tests.{eqb-true, eq-eqb, ne-eqb}
 use lib.Dec.{T, eqb, leb}
@@ -17,9 +17,9 @@ use Rattle.value.specs.Level.{fold, foldAll, codeOf, codesOf, codesIn}
 use Rattle.value.specs.Answer.{holdsOne, holdsAll}
 use Rattle.value.proofs.Tests.{allBelow, implies, both, by-eq}
 use Rattle.value.proofs.Classes.{each-byte, same-tests, not-or}
-use Rattle.value.proofs.Digits.{number-digits, digits-below}
+use Rattle.value.proofs.Digits.{digits-below}
 use Rattle.wavemem.specs.Short.{zeros, marks}
-use Rattle.wavemem.proofs.Lanes.{Lows, by-and, lanes, in-lanes, of-lanes}
+use Rattle.wavemem.proofs.Lanes.{Lows, by-and, lanes, in-lanes, of-lanes, number-back}
 
 map-below : {A : Type 0} (B : ℕ) (f g : ℕ → A) → ((x : ℕ) → x < B → f x ≡ g x) → (v : List ℕ) → Below B v → map f v ≡ map g v
 map-below B f g h [] b = refl
@@ -43,7 +43,7 @@ mark-and false true = refl
 mark-and false false = refl
 
 module _ (w : ℕ) where
-  pub bytes-below : Below 256 (digits 256 8 w)
+  bytes-below : Below 256 (digits 256 8 w)
   bytes-below = digits-below 256 (zero-lt-suc 255) 8 w
 
   -- two functions of a byte, computed at each
@@ -105,7 +105,7 @@ module _ (s : States) (w r : ℕ) (h : r < 2 ^ 64) (e : zeros r ≡ map (holdsOn
   none-beside : eqb r 0 ≡ holdsAll s (digits 256 8 w)
   unfolding zeros
   none-beside =
-      ap (λ (n : ℕ). eqb n 0) (sym (number-digits 256 (zero-lt-suc 255) 8 r ∙ mod-eq-of-lt h))
+      ap (λ (n : ℕ). eqb n 0) (number-back 256 8 r (zero-lt-suc 255) h)
       ∙ number-zero (digits 256 8 r)
       ∙ ap every e
       ∙ sym (holds-every s (digits 256 8 w))
