@@ -1,15 +1,19 @@
 -- Digits that stand in the low bits of a word's bytes, pushed together: neighbours are joined, three times.
 -- Assumes nothing.
 use mathlib.Core.Path.{_≡_, refl, sym, ap, ap₂, _∙_}
+use mathlib.Core.Bool.{true}
 use mathlib.Core.List.{List, [], _∷_, map}
 use Prim.Native.Nat.{ℕ, zero, suc, _+_, _-_, _*_, _/_, _%_, _^_, _≤_, _<_}
 use native.Mathlib.Nat.{pow-zero, pow-suc, mul-assoc, mod-eq-of-lt, zero-lt-suc, lt-of-lt-of-le}
 use native.Mathlib.Omega.{arith}
+use borrow.Author.Tests.{eqb-true}
+use lib.Dec.{eqb}
 use lib.Arith.{digits-lt}
 use lib.Bits.{bitAnd, bitOr, and-mask, or-mod, or-shifted-r}
 use lib.Pow.{pow-add, pow-pos, pow-mono, ones-lt, shl-lt, high, low}
 use lib.ListN.{length, replicate}
 use Rattle.value.specs.Digits.{number, digits, Below}
+use Rattle.value.proofs.Classes.{each-byte}
 use Rattle.value.proofs.Digits.{below-mono, pow-pow, number-lt, digits-number, digits-length}
 use Rattle.wavemem.proofs.Lanes.{Lows, itself, by-or, fewer, shifted, kept, in-lanes, number-back}
 
@@ -137,3 +141,24 @@ pub squeezed : (b x : ℕ) → b ≤ 4 → x < 2 ^ 64 → Below (2 ^ b) (digits 
 squeezed b x h m k =
     ap (squeeze b) (number-back 256 8 x (zero-lt-suc 255) m)
     ∙ squeezed-digits b (digits 256 8 x) h (digits-length 256 8 x) k
+
+-- ---- digits of one bit need no masks, computed at each byte
+
+abbrev unmasked : ℕ → ℕ
+unmasked x =
+    let y = bitOr x (x / 2 ^ 7) in
+    let z = bitOr y (y / 2 ^ 14) in
+    bitAnd (bitOr z (z / 2 ^ 28)) 255
+
+computed : (n : ℕ) → n < 256 → unmasked (number 256 (digits 2 8 n)) ≡ n
+unfolding number digits
+computed n h =
+    eqb-true (unmasked (number 256 (digits 2 8 n))) n
+    (each-byte (λ (k : ℕ). true) (λ (k : ℕ). eqb (unmasked (number 256 (digits 2 8 k))) k) tt n h refl)
+
+pub bits-squeezed : (x : ℕ) → x < 2 ^ 64 → Below 2 (digits 256 8 x) → unmasked x ≡ number 2 (digits 256 8 x)
+bits-squeezed x m k =
+    let ds = digits 256 8 x in
+    let l = digits-length 256 8 x in
+    ap unmasked (number-back 256 8 x (zero-lt-suc 255) m ∙ ap (number 256) (sym (digits-number 2 (zero-lt-suc 1) 8 ds l k)))
+    ∙ computed (number 2 ds) (rw l at (number-lt 2 ds k))

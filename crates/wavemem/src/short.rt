@@ -35,17 +35,17 @@ fn padded_word(value: &[u8]) -> u64
     w
 }
 
-// Levels of one bit, a byte apart, pushed together.
+// Levels of one bit, a byte apart, pushed together: with no masks between the steps, so that a loop over words is compiled to wide instructions.
 fn squeeze_1(x: u64) -> u64
     requires { ⌜ Below 2 (digits 256 8 x) ⌝ }
     ensures { λ r. ⌜ r ≡ number 2 (digits 256 8 x) ⌝ }
 {
-    let y = (x | (x >> 7)) & 0x0003_0003_0003_0003;
-    let z = (y | (y >> 14)) & 0x0000_000f_0000_000f;
-    (z | (z >> 28)) & 0xff
+    let y = x | (x >> 7);
+    let z = y | (y >> 14);
+    (z | (z >> 28)) & 255
 }
 
-// The same of two bits.
+// Levels of two bits, where masks are needed.
 fn squeeze_2(x: u64) -> u64
     requires { ⌜ Below 4 (digits 256 8 x) ⌝ }
     ensures { λ r. ⌜ r ≡ number 4 (digits 256 8 x) ⌝ }
