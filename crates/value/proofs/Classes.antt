@@ -102,7 +102,7 @@ or-none a b =
     let l : bitAnd a b ≤ b = and-le-r a b in
     rw (ne-eqb a 0 e, ne-eqb (bitOr a b) 0 (λ z. e (omega arith))))
 
-not-or : (a b : Bool) → not (a || b) ≡ not a && not b
+pub not-or : (a b : Bool) → not (a || b) ≡ not a && not b
 not-or true b = refl
 not-or false b = refl
 
@@ -160,7 +160,7 @@ module _ (v : List ℕ) where
   abbrev codes : List ℕ
   codes = codesOf (foldAll v)
 
-  within : (N : States) → true ≡ holdsAll N v → Below (codesIn N) codes
+  pub within : (N : States) → true ≡ holdsAll N v → Below (codesIn N) codes
   unfolding holdsAll
   within N e = below-any (codesIn N) codes (not-true (any (leb (codesIn N)) codes) e)
 

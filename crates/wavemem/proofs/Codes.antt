@@ -3,7 +3,7 @@
 use mathlib.Core.Path.{_≡_, refl, ap₂, _∙_}
 use mathlib.Core.Bool.{Bool}
 use mathlib.Core.List.{List, [], _∷_, map}
-use Prim.Native.Nat.{ℕ, _%_, _<_}
+use Prim.Native.Nat.{ℕ, _%_}
 use native.Mathlib.Nat.{zero-lt-suc}
 use borrow.Author.Tests.{eqb-true, lt-ltb}
 use lib.Dec.{T, eqb, ltb}

@@ -2,7 +2,9 @@ pub mod Compare
 pub mod Lanes
 pub mod Squeeze
 pub mod Codes
+pub mod Marks
 pub mod Words
+pub mod Scans
 pub mod Packing
 pub mod Blocks
 pub mod Parts

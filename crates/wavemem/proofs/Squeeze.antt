@@ -10,8 +10,8 @@ use lib.Bits.{bitAnd, bitOr, and-mask, or-mod, or-shifted-r}
 use lib.Pow.{pow-add, pow-pos, pow-mono, ones-lt, shl-lt, high, low}
 use lib.ListN.{length, replicate}
 use Rattle.value.specs.Digits.{number, digits, Below}
-use Rattle.value.proofs.Digits.{below-mono, pow-pow, number-lt, number-digits, digits-number, digits-length}
-use Rattle.wavemem.proofs.Lanes.{Lows, itself, by-or, fewer, shifted, kept, in-lanes}
+use Rattle.value.proofs.Digits.{below-mono, pow-pow, number-lt, digits-number, digits-length}
+use Rattle.wavemem.proofs.Lanes.{Lows, itself, by-or, fewer, shifted, kept, in-lanes, number-back}
 
 -- two digits to the base B as one
 unfoldable pairs : ℕ → List ℕ → List ℕ
@@ -135,5 +135,5 @@ squeezed-digits b ds h l k =
 
 pub squeezed : (b x : ℕ) → b ≤ 4 → x < 2 ^ 64 → Below (2 ^ b) (digits 256 8 x) → squeeze b x ≡ number (2 ^ b) (digits 256 8 x)
 squeezed b x h m k =
-    ap (squeeze b) (sym (number-digits 256 (zero-lt-suc 255) 8 x ∙ mod-eq-of-lt m))
+    ap (squeeze b) (number-back 256 8 x (zero-lt-suc 255) m)
     ∙ squeezed-digits b (digits 256 8 x) h (digits-length 256 8 x) k

@@ -1,7 +1,4 @@
 // Levels packed into bytes, after wellen's src/wavemem.rs.
-mod chunks;
-pub mod short;
-
 ghost use mathlib.Core.Path.{_≡_};
 ghost use Prim.Native.Nat.{_+_, _/_, _^_, _≤_};
 ghost use lib.ListN.{length};
@@ -11,6 +8,9 @@ ghost use Rattle.value.specs.Level.{foldAll, codesOf, bitsOf, lenOf};
 ghost use Rattle.wavemem.specs.Packed.{packedFrom, firstCount, OneWord, OneByte, FullByte, ByLowBits, Whole, Packable};
 use value::CharCode;
 use value::States;
+
+mod chunks;
+pub mod short;
 
 // How many levels a byte holds.
 fn bits_in_a_byte(states: States) -> usize
@@ -88,15 +88,12 @@ fn wide(byte: u8) -> u64
     byte as u64
 }
 
-// The byte of eight characters 0 and 1: their lowest bits, pushed together.
+// The byte of eight characters 0 and 1.
 fn byte_of_bits(value: &[u8]) -> u8
     requires { ⌜ FullByte States.Two (now value) ⌝ }
     ensures { λ r. ⌜ r ≡ number 2 (codesOf (foldAll (now (value .entry)))) ⌝ }
 {
-    let x = word(value) & 0x0101_0101_0101_0101;
-    let y = x | (x >> 7);
-    let z = y | (y >> 14);
-    ((z | (z >> 28)) & 255) as u8
+    short::two_of_word(word(value)) as u8
 }
 
 // The number of at most 64 characters 0 and 1, by their lowest bits.

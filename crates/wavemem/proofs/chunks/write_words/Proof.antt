@@ -12,7 +12,7 @@ use Rattle.value.specs.declared.States.the-variants.{Four}
 use Rattle.value.specs.Slice.{overlay}
 use Rattle.value.proofs.Slices.{overlay-nil}
 use Rattle.wavemem.specs.Packed.{packedFrom}
-use Rattle.wavemem.proofs.Words.{low-byte}
+use Rattle.wavemem.proofs.Blocks.{low-byte}
 use Rattle.wavemem.proofs.Parts.{Passed, passed-start, passed-end, front-stored, packed-none, turn-within, turn-fits, turn-passed, turn-codes, word-stored}
 use Rattle.wavemem.proofs.chunks.write_words.Statement.{statement}
 use Rattle.wavemem.proofs.chunks.write_words.Tie as tie
