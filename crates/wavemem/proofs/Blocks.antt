@@ -9,7 +9,7 @@ use native.Mathlib.Omega.{arith}
 use native.Mathlib.Numerals.{add-one}
 use borrow.Author.Tests.{eqb-true, lt-ltb}
 use lib.Dec.{eqb, ltb}
-use lib.Bits.{and-mask, bitAnd, bitOr, bitXor, or-shifted, or-zero-r}
+use lib.Bits.{mask-lt, and-mask, bitAnd, bitOr, bitXor, or-shifted, or-zero-r}
 use lib.Pow.{shl-exact}
 use lib.ListN.{length, getD, take, drop, set}
 use lib.Seq.{take-all, drop-cons}
@@ -18,10 +18,11 @@ use Rattle.value.specs.Digits.{number, digits, Below}
 use Rattle.value.specs.Slice.{part, overlay, same}
 use Rattle.value.specs.Level.{fold, foldAll, codeOf, codesOf, placeIn, lenOf}
 use Rattle.value.proofs.Classes.{each-byte}
-use Rattle.value.proofs.Digits.{digits-number, number-lt, below-at}
+use Rattle.value.proofs.Digits.{number-lt, below-at}
 use Rattle.value.proofs.Backward.{below-part, part-cons, overlay-whole}
 use Rattle.value.proofs.Slices.{part-length, part-nil, overlay-one, overlay-store}
 use Rattle.wavemem.specs.Packed.{packedWith, packedFrom}
+use Rattle.wavemem.proofs.Words.{word-bytes}
 use Rattle.wavemem.proofs.Packing.{perByte, byte-at, Walk, next-stored, length-codes}
 
 -- ---- the code of a character
@@ -79,8 +80,7 @@ pub word-digits : (v : List ℕ) (from w : ℕ) → from + 8 ≤ length v → Be
 unfolding part
 word-digits v from w h below e =
     let z : from + 8 - from ≡ 8 = omega arith in
-    ap (digits 256 8) (e ∙ ap (λ (n : ℕ). number 256 (take n (drop from v))) z)
-    ∙ digits-number 256 (omega arith) 8 (part from 8 v) (part-length v from 8 h) (below-part 256 v below from 8)
+    word-bytes (part from 8 v) w (part-length v from 8 h) (below-part 256 v below from 8) (e ∙ ap (λ (n : ℕ). number 256 (take n (drop from v))) z)
 
 -- ---- the two bytes of eight levels of two bits
 
@@ -102,6 +102,9 @@ module _ (v : List ℕ) (long : length v ≡ 8) (below : Below 4 (codesOf (foldA
   two-bytes =
       ap (λ (k : ℕ). let n = (k * 2 + 7) / 8 in digits 256 n (0 * 256 ^ (n - 1) + number 4 cs)) length-cs
       ∙ ap₂ (λ (a b : ℕ). a ∷ b ∷ []) (omega (arith, word-small)) (let e : (0 * 256 + number 4 cs) / 1 % 256 ≡ x % 256 = omega arith in e ∙ sym (and-mask x 8))
+
+pub low-byte : (x : ℕ) → bitAnd x 255 < 256
+low-byte x = mask-lt x 8
 
 -- stores of two elements, one behind the other
 pub two-stored : (l : List ℕ) (at a b : ℕ) → at + 1 < length l → set (set l at a) (at + 1) b ≡ overlay l at (a ∷ b ∷ [])

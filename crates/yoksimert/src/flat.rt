@@ -49,13 +49,14 @@ pub fn set_number(states: States) -> u32
     wide(states.mark())
 }
 
-// The set of a number; those above 2 are none's.
+// The set of a number; those above 2 are none's. With an arm for each set the compiler sees that the numbers are the same.
 fn states_of(set: u32) -> States
     ensures { λ r. ⌜ r ≡ setAt set ⌝ }
 {
     match set {
         0 => States::Two,
         1 => States::Four,
+        2 => States::Nine,
         _ => States::Nine,
     }
 }

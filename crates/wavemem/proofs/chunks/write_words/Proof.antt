@@ -2,23 +2,20 @@
 -- Assumes nothing.
 use mathlib.Core.Path.{_≡_, refl, sym, ap, _∙_}
 use mathlib.Core.List.{List}
-use Prim.Native.Nat.{ℕ, _-_, _+_, _≤_, _<_}
+use Prim.Native.Nat.{ℕ, _-_, _+_, _≤_}
 use native.Mathlib.Omega.{arith}
 use borrow.Author.Needs.{needs}
 use denote.Ref.{now}
-use lib.Bits.{bitAnd, mask-lt}
 use lib.ListN.{length, take, length-set}
 use lib.Seq.{take-all}
 use Rattle.value.specs.declared.States.the-variants.{Four}
 use Rattle.value.specs.Slice.{overlay}
 use Rattle.value.proofs.Slices.{overlay-nil}
 use Rattle.wavemem.specs.Packed.{packedFrom}
+use Rattle.wavemem.proofs.Blocks.{low-byte}
 use Rattle.wavemem.proofs.Parts.{Passed, passed-start, passed-end, front-stored, packed-none, turn-within, turn-fits, turn-passed, turn-codes, word-stored}
 use Rattle.wavemem.proofs.chunks.write_words.Statement.{statement}
 use Rattle.wavemem.proofs.chunks.write_words.Tie as tie
-
-low-byte : (x : ℕ) → bitAnd x 255 < 256
-low-byte x = mask-lt x 8
 
 abbrev Inv-loop : tie.InvT-loop
 Inv-loop value out₀ at from₀ to₀ out from to =
