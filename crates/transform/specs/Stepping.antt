@@ -180,20 +180,7 @@ pub record Stepped (inputs : Inputs) (bytes p packed : List ℕ) (S : States) (w
   pub wide : 1 ≤ width
   pub narrow : width ≤ 4096
 
--- ---- a step taken, and kept unless it repeats the last
-
--- what taking the step at an index asks, wherever the inputs then stand
-pub record Takeable (inputs : Inputs) (bytes indices p packed : List ℕ) (room index : ℕ) : Type 0 where
-  pub indexed : Indexable inputs indices
-  pub places : length p ≡ 8
-  pub steps : (q : List ℕ) → length q ≡ 8 → cursorsOf inputs q ≡ map (advanced indices index) (cursorsOf inputs p) → Pickable inputs bytes q packed room
-
--- where it then stands, its set and its characters
-pub record Taken (inputs : Inputs) (bytes indices p packed : List ℕ) (index : ℕ) (text q : List ℕ) (S : States) (text′ : List ℕ) : Type 0 where
-  pub places : length q ≡ 8
-  pub on : cursorsOf inputs q ≡ map (advanced indices index) (cursorsOf inputs p)
-  pub set : S ≡ largestNow bytes (cursorsOf inputs q)
-  pub stored : text′ ≡ overlay text 0 (textOf (pickedNow bytes (cursorsOf inputs q) (map extractOf packed)))
+-- ---- a step kept unless it repeats the last
 
 -- does an entry repeat the last of so many
 unfoldable pub repeatsLast : ℕ → List ℕ → List ℕ → Bool
