@@ -20,6 +20,8 @@ use Rattle.fst.specs.declared.Encoding.{Encoding}
 use Rattle.fst.specs.declared.Encoding.the-variants.{Event, Real, BitVector}
 use Rattle.fst.specs.Record.{Kept, largestIn, keptIn, widthStands, fits, fitsBytes, isBadBytes}
 use Rattle.fst.proofs.Records.{Fits, not-bad}
+use Rattle.runs.specs.All.{All}
+use Rattle.runs.proofs.All.{all-of, all-both}
 use Rattle.signal.specs.Decode.{Indexed, entryAt, entriesIn, setIn, markIn, levelsIn, hasBadMark}
 use Rattle.signal.specs.Read.{widthOf, hasNoText}
 use Rattle.signal.proofs.Reading.{inside, whole}
@@ -30,7 +32,7 @@ use Rattle.transform.specs.declared.DerivedBitVecSignal.{DerivedBitVecSi
 use Rattle.transform.specs.Piece.{endOf, piecesOf, extractOf, isBadPiece, widthOf as pieceWidth}
 use Rattle.transform.specs.Derive.{inputsOf, inputKept, lentTo, isBadInput, isNoBitVector, isBeyond, isLate, startsLate, entryIsBad, markIsBad, pickedOf, pickIsBad, codeIsBad, largestAmong}
 use Rattle.transform.specs.Tests.{keptAll, Derivable}
-use Rattle.transform.specs.Stepping.{All, Cursor, cursor, cursors, cursorsOf, Vectors, Reaches, Indexable, shownBytes, setNow, levelsNow, widthNow, largestNow, largestOver, pickedNow, Showing, AllShowing, PieceIn, Under, Stepped}
+use Rattle.transform.specs.Stepping.{Cursor, cursor, cursors, cursorsOf, Vectors, Reaches, Indexable, shownBytes, setNow, levelsNow, widthNow, largestNow, largestOver, pickedNow, Showing, AllShowing, PieceIn, Under, Stepped}
 use Rattle.transform.proofs.Pieces.{Sized, Sound, sound, good-piece}
 use Rattle.transform.proofs.InputTests.{any-map, noInput, input-fits, indexed, entries-each, Fit, fit, beyond-told, code-told, pieces-count}
 use Rattle.transform.proofs.Stepping.{count-is, shown-at, cursor-at}
@@ -46,14 +48,6 @@ all-none test (x ∷ l) h = (or-left (test x) (any test l) h, all-none test l (o
 
 all-none-map : {A B : Type 0} (test : B → Bool) (f : A → B) (l : List A) → any test (map f l) ≡ false → All (λ x. test (f x) ≡ false) l
 all-none-map test f l h = all-none (λ x. test (f x)) l (sym (any-map test f l) ∙ h)
-
-pub all-both : {A : Type 0} (P Q R : A → Type 0) → ((x : A) → P x → Q x → R x) → (l : List A) → All P l → All Q l → All R l
-all-both P Q R f [] ps qs = tt
-all-both P Q R f (x ∷ l) ps qs = (f x (ps .0) (qs .0), all-both P Q R f l (ps .1) (qs .1))
-
-pub all-of : {A : Type 0} (P Q : A → Type 0) → ((x : A) → P x → Q x) → (l : List A) → All P l → All Q l
-all-of P Q f [] ps = tt
-all-of P Q f (x ∷ l) ps = (f x (ps .0), all-of P Q f l (ps .1))
 
 pub all-inputs : (P : Input → Type 0) (is : List Input) (ks : List ℕ) → All P is → All (λ c. P (c .input)) (cursors is ks)
 all-inputs P [] ks ps = tt

@@ -21,6 +21,7 @@ use Rattle.value.proofs.Slices.{part-length}
 use Rattle.fst.specs.Record.{Kept, keptIn, sizeOf, usedSize}
 use Rattle.fst.proofs.Records.{Fits}
 use Rattle.fst.proofs.LastEntry.{part-part}
+use Rattle.runs.specs.All.{All}
 use Rattle.signal.specs.declared.NextIndex.{NextIndex}
 use Rattle.signal.specs.declared.NextIndex.the-variants.{Absent, At}
 use Rattle.signal.specs.Offset.{headOf}
@@ -29,7 +30,7 @@ use Rattle.transform.specs.declared.Input.{Input}
 use Rattle.transform.specs.declared.Extract.{Extract}
 use Rattle.transform.specs.Steps.{Shown, shownBy, indexOf, Track, unbegun, nowOf, smaller, smallest, moved, countOf}
 use Rattle.transform.specs.Derive.{codesShown, setShown, picked, pickedOf, largestShown, shownIn, lentTo, inputKept}
-use Rattle.transform.specs.Stepping.{All, Cursor, cursor, cursors, Reaches, nextIn, soonest, begunAt, advanced, shownBytes, setNow, levelsNow, largestNow, pickedNow}
+use Rattle.transform.specs.Stepping.{Cursor, cursor, cursors, Reaches, nextIn, soonest, begunAt, advanced, shownBytes, setNow, levelsNow, largestNow, pickedNow}
 use Rattle.transform.proofs.InputTests.{indexed, entries-count, entry-is}
 
 -- ---- lists

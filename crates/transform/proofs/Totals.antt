@@ -15,7 +15,9 @@ use Rattle.value.proofs.Tests.{to-T, and-left, and-right}
 use Rattle.value.proofs.Slices.{part-length}
 use Rattle.fst.specs.Record.{maximum, keptIn}
 use Rattle.fst.proofs.Records.{Fits}
+use Rattle.runs.specs.All.{All}
 use Rattle.runs.specs.Runs.{joined}
+use Rattle.runs.proofs.All.{all-of}
 use Rattle.signal.specs.declared.NextIndex.{NextIndex}
 use Rattle.signal.specs.declared.NextIndex.the-variants.{Absent, At}
 use Rattle.signal.specs.Decode.{entriesIn}
@@ -26,11 +28,10 @@ use Rattle.transform.specs.Piece.{piecesOf}
 use Rattle.transform.specs.Steps.{Shown, shownBy, Track, unbegun, countOf, smallest, moved, momentsFrom, momentsOf}
 use Rattle.transform.specs.Derive.{inputsOf, inputKept, lentTo, yielded, sameStep, shownIn, derivedList}
 use Rattle.transform.specs.Tests.{keptAll, Derivable}
-use Rattle.transform.specs.Stepping.{All}
 use Rattle.transform.specs.Room.{Few, totalOver, roomFor}
 use Rattle.transform.proofs.Pieces.{Sized}
 use Rattle.transform.proofs.InputTests.{noInput, input-fits, entries-count}
-use Rattle.transform.proofs.SteppingSources.{Source, all-of, sources}
+use Rattle.transform.proofs.SteppingSources.{Source, sources}
 use Rattle.transform.proofs.SteppingWalk.{joined-length}
 
 -- ---- the loop from the last input to the first

@@ -14,6 +14,7 @@ use Rattle.layout.specs.Entry.{entrySize}
 use Rattle.layout.specs.Writable.{Writable, entryFrom}
 use Rattle.fst.specs.declared.Encoding.the-variants.{BitVector}
 use Rattle.fst.specs.Record.{largestIn, sizeOf}
+use Rattle.runs.specs.All.{All}
 use Rattle.runs.specs.Runs.{Step, indexOf, entriesOf}
 use Rattle.signal.specs.declared.NextIndex.{NextIndex}
 use Rattle.signal.specs.declared.NextIndex.the-variants.{Absent, At}
@@ -29,11 +30,6 @@ use Rattle.transform.specs.Piece.{extractOf, endOf, widthOf as pieceWidt
 use Rattle.transform.specs.Steps.{smaller}
 use Rattle.transform.specs.Derive.{inputsOf, pickedOf, largestAmong}
 use Rattle.transform.specs.Tests.{keptAll, Derivable}
-
--- each element of a list has a property
-abbrev pub All : {A : Type 0} → (A → Type 0) → List A → Type 0
-All P [] = Unit
-All P (x ∷ l) = P x × All P l
 
 -- an input of which so many entries have begun: it shows the last of them, and the others are to come
 pub record Cursor : Type 0 where
