@@ -48,9 +48,9 @@ partOf (refused n) = []
 partOf (given e) = e .part
 
 -- the small answer, by number and values, with the part that is returned beside it
-abbrev pub entryOf : EntryAnswer → List ℕ → Reply Entry
-entryOf (answer.Entry k s) p = given (record { kind = k; set = s; part = p })
-entryOf (answer.Refused r) p = refused (number r)
+abbrev pub replyOf : EntryAnswer → List ℕ → Reply Entry
+replyOf (answer.Entry k s) p = given (record { kind = k; set = s; part = p })
+replyOf (answer.Refused r) p = refused (number r)
 
 -- "a real or event is 3"
 unfoldable pub hasNoText : Encoding → Bool

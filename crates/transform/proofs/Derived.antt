@@ -41,8 +41,7 @@ use Rattle.signal.proofs.ReadBack.{Tells}
 use Rattle.transform.specs.declared.Extract.{Extract}
 use Rattle.transform.specs.declared.DerivedBitVecSignal.{DerivedBitVecSignal}
 use Rattle.transform.specs.declared.Inputs.{Inputs}
-use Rattle.transform.specs.Piece as piece
-use Rattle.transform.specs.Piece.{endOf, extractOf, piecesOf, isBadPiece}
+use Rattle.transform.specs.Piece.{endOf, extractOf, piecesOf, pieceWidth, isBadPiece}
 use Rattle.transform.specs.Steps.{Shown, shownBy, indexOf, Track, unbegun, nowOf, smaller, smallest, moved, Moment, momentsFrom, countOf, momentsOf}
 use Rattle.transform.specs.Derive.{pickedOf, codesShown, setShown, picked, largestShown, yielded, sameStep, shownIn, derivedList, largestAmong, lentOut, encodingOf, isBeyond, isUnfit, startsLate, isLate, indicesFall, entryIsBad, markIsBad, pickIsBad, codeIsBad, deriveRefusals, Derived, derivedBy, derive}
 use Rattle.transform.specs.Tests.{keptAll, Derivable}
@@ -378,7 +377,7 @@ set-under (o ∷ sh) zero = omega (arith, mark-join (setShown o) (largestShown s
 set-under (o ∷ sh) (suc j) = omega (arith, mark-join (setShown o) (largestShown sh), set-under sh j)
 
 record Whole (es : List Extract) (sh : List (Option Shown)) : Type 0 where
-  long : length (picked es sh) ≡ sum (map piece.widthOf es)
+  long : length (picked es sh) ≡ sum (map pieceWidth es)
   letters : Below 9 (picked es sh)
   below : Below (2 ^ bitsOf (largestShown sh)) (picked es sh)
 
@@ -475,7 +474,7 @@ module _ (d : DerivedBitVecSignal) (count : ℕ) (ks : List Kept) (p : Passes d 
         let s = sound d (f .sound) in
         rw (s .whole) (go es first-piece (s .pieces))
       where
-        go : (l : List Extract) → 0 < length l → any (isBadPiece (d .«input_count»)) l ≡ false → 1 ≤ sum (map piece.widthOf l)
+        go : (l : List Extract) → 0 < length l → any (isBadPiece (d .«input_count»)) l ≡ false → 1 ≤ sum (map pieceWidth l)
         go [] h b = absurd (omega arith)
         go (e ∷ l) h b = omega (arith, good-piece (d .«input_count») e (or-left (isBadPiece (d .«input_count») e) (any (isBadPiece (d .«input_count»)) l) b) .0)
 

@@ -29,7 +29,7 @@ use Rattle.transform.specs.declared.Input.{Input}
 use Rattle.transform.specs.declared.Inputs.{Inputs}
 use Rattle.transform.specs.declared.Extract.{Extract}
 use Rattle.transform.specs.declared.DerivedBitVecSignal.{DerivedBitVecSignal}
-use Rattle.transform.specs.Piece.{endOf, piecesOf, extractOf, isBadPiece, widthOf as pieceWidth}
+use Rattle.transform.specs.Piece.{endOf, piecesOf, extractOf, isBadPiece, pieceWidth}
 use Rattle.transform.specs.Derive.{inputsOf, inputKept, lentTo, isBadInput, isNoBitVector, isBeyond, isLate, startsLate, entryIsBad, markIsBad, pickedOf, pickIsBad, codeIsBad, largestAmong}
 use Rattle.transform.specs.Tests.{keptAll, Derivable}
 use Rattle.transform.specs.Stepping.{Cursor, cursor, cursors, cursorsOf, Vectors, Reaches, Indexable, shownBytes, setNow, levelsNow, widthNow, largestNow, largestOver, pickedNow, Showing, AllShowing, PieceIn, Under, Stepped}

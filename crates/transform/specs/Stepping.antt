@@ -26,7 +26,7 @@ use Rattle.transform.specs.declared.Input.{Input}
 use Rattle.transform.specs.declared.Inputs.{Inputs}
 use Rattle.transform.specs.declared.Extract.{Extract}
 use Rattle.transform.specs.declared.DerivedBitVecSignal.{DerivedBitVecSignal}
-use Rattle.transform.specs.Piece.{extractOf, endOf, widthOf as pieceWidth}
+use Rattle.transform.specs.Piece.{extractOf, endOf, pieceWidth}
 use Rattle.transform.specs.Steps.{smaller}
 use Rattle.transform.specs.Derive.{inputsOf, pickedOf, largestAmong}
 use Rattle.transform.specs.Tests.{keptAll, Derivable}
