@@ -10,7 +10,7 @@ use Rattle.value.specs.Slice.{overlay}
 use Rattle.fst.specs.declared.Encoding.{Encoding}
 use Rattle.fst.specs.declared.Encoding.the-variants.{Event, Real, BitVector}
 use Rattle.fst.specs.declared.Description.{Description}
-use Rattle.fst.specs.Refusal.{Reply, refused, given, Test, _⇐_, tried, Outcome, outcome, number}
+use Rattle.fst.specs.Refusal.{Reply, refused, given, _⇐_, tried, Outcome, outcome, number}
 use Rattle.fst.specs.Record.{isBadBytes}
 use Rattle.signal.specs.declared.Kind.{Kind}
 use Rattle.signal.specs.declared.Kind.the-variants as kind

@@ -13,13 +13,13 @@ use lib.Dec.{eqb, ltb}
 use lib.ListN.{length, getD, length-map, length-append, List·getD-map, List·getD-eq-default}
 use Rattle.value.specs.Slice.{part, any, sum}
 use Rattle.value.specs.Level.{markOf, bitsOf, hasNoCode, joinAll}
-use Rattle.value.specs.Digits.{number, Below}
-use Rattle.value.proofs.Digits.{base-pos, digits-length, digits-below, below-take, below-drop, below-mono, below-append}
+use Rattle.value.specs.Digits.{Below}
+use Rattle.value.proofs.Digits.{below-take, below-drop, below-mono, below-append}
 use Rattle.value.proofs.Tests.{or-left, or-right, or-both, by-le}
-use Rattle.value.proofs.Levels.{mark-join, mark-set, mark-small, bits-up, codes-text, all-below}
+use Rattle.value.proofs.Levels.{mark-join, bits-up, codes-text, all-below}
 use Rattle.value.proofs.Slices.{any-none, part-length}
 use Rattle.fst.specs.declared.Encoding.{Encoding}
-use Rattle.fst.specs.declared.Encoding.the-variants.{Event, Real, BitVector}
+use Rattle.fst.specs.declared.Encoding.the-variants.{Event}
 use Rattle.fst.specs.declared.Description.{Description}
 use Rattle.fst.specs.Refusal.{Reply, refused, given, Test, tried}
 use Rattle.fst.specs.Record.{Lent, Kept, largestIn, keptIn}
@@ -33,7 +33,7 @@ use Rattle.runs.proofs.Laid.{Sound, equal-same, laid-same, laid-found}
 use Rattle.fst.proofs.Refusals.{Result, through, stopped, result}
 use Rattle.signal.specs.declared.NextIndex.{NextIndex}
 use Rattle.signal.specs.declared.NextIndex.the-variants.{Absent, At}
-use Rattle.signal.specs.Decode.{entriesFrom, entriesIn, entryAt, markIn, setIn, levelPart, levelsIn, hasBadMark}
+use Rattle.signal.specs.Decode.{entriesFrom, entriesIn, entryAt, setIn, levelsIn}
 use Rattle.signal.specs.Offset.{falls, headOf}
 use Rattle.signal.specs.Read.{widthOf}
 use Rattle.signal.proofs.ReadBack as back

@@ -1,15 +1,12 @@
 -- Loops over the inputs from the last to the first: what each turn keeps.
 -- Assumes nothing.
 use mathlib.Core.Path.{_≡_, refl, sym, ap, ap₂, _∙_}
-use mathlib.Core.Bool.{Bool, true, false, cond}
-use mathlib.Core.List.{List, [], _∷_, _++_, map}
-use Prim.Native.Nat.{ℕ, zero, suc, min, _+_, _-_, _*_, _≤_, _<_}
-use native.Mathlib.Numerals.{add-one}
+use mathlib.Core.List.{List, [], _∷_, map}
+use Prim.Native.Nat.{ℕ, zero, suc, min, _+_, _-_, _≤_, _<_}
 use native.Mathlib.Omega.{arith}
 use borrow.Author.Tests.{eq-eqb, ne-eqb}
-use lib.Dec.{eqb}
-use lib.ListN.{length, take, drop, getD, set, length-map, length-take, length-set, length-drop, drop-of-length-le}
-use lib.Seq.{length-take-le, drop-cons, getD-take, getD-drop, drop-set-lt, take-set-le, getD-set-same, take-take}
+use lib.ListN.{length, take, drop, getD, set, length-set, drop-of-length-le}
+use lib.Seq.{length-take-le, drop-cons, getD-take, drop-set-lt, take-set-le, getD-set-same, take-take}
 use Rattle.value.specs.declared.States.{States}
 use Rattle.value.specs.declared.States.the-variants.{Two}
 use Rattle.value.specs.Slice.{part}
@@ -26,7 +23,7 @@ use Rattle.transform.specs.declared.Input.{Input}
 use Rattle.transform.specs.declared.Inputs.{Inputs}
 use Rattle.transform.specs.Steps.{smaller}
 use Rattle.transform.specs.Derive.{inputsOf}
-use Rattle.transform.specs.Stepping.{Cursor, cursor, cursors, cursorsOf, Reaches, Indexable, nextIn, soonest, begunAt, advanced, setNow, largestNow, largestOver}
+use Rattle.transform.specs.Stepping.{Cursor, cursor, cursors, Reaches, nextIn, soonest, begunAt, advanced, setNow, largestNow, largestOver}
 
 -- ---- the smaller of two indices
 

@@ -1,23 +1,22 @@
 -- A walk over the steps: what is kept so far and what the steps to come add make the derived list.
 -- Assumes nothing.
 use mathlib.Core.Path.{_≡_, refl, sym, ap, ap₂, _∙_, subst}
-use mathlib.Core.Bool.{Bool, true, false, cond, _&&_}
+use mathlib.Core.Bool.{Bool, true, false, cond}
 use mathlib.Core.List.{List, [], _∷_, _++_, map, foldl}
 use Prim.Native.Nat.{ℕ, zero, suc, min, _+_, _-_, _*_, _≤_, _<_}
 use native.Mathlib.Omega.{arith}
 use borrow.Author.Tests.{eq-eqb, ne-eqb}
 use lib.Dec.{T, eqb, eqb→eq, eqb-refl}
-use lib.ListN.{length, take, drop, getD, replicate, length-drop, length-map, length-append}
+use lib.ListN.{length, drop, replicate, length-drop, length-map, length-append}
 use lib.Seq.{length-take-le}
 use Rattle.value.specs.declared.States.{States}
 use Rattle.value.specs.Slice.{part, same, sum}
 use Rattle.value.specs.Level.{markOf, codesOf, textOf}
-use Rattle.value.specs.Digits.{Below}
 use Rattle.value.proofs.Levels.{mark-inj, codes-text}
 use Rattle.value.proofs.Tests.{and-left, and-right, and-both, both-ways, by-eq}
 use Rattle.value.proofs.Slices.{same-sound, same-refl, part-length}
-use Rattle.layout.specs.Entry.{entrySize, entryOf}
-use Rattle.fst.specs.Record.{Kept, keptIn, maximum}
+use Rattle.layout.specs.Entry.{entryOf}
+use Rattle.fst.specs.Record.{Kept, keptIn}
 use Rattle.runs.specs.All.{All}
 use Rattle.runs.specs.Runs.{Step, endsLike, joined}
 use Rattle.runs.proofs.All.{all-of, all-both, all-map}
@@ -32,13 +31,12 @@ use Rattle.signal.specs.Offset.{headOf}
 use Rattle.signal.specs.Decode.{entriesIn}
 use Rattle.transform.specs.declared.Input.{Input}
 use Rattle.transform.specs.declared.Inputs.{Inputs}
-use Rattle.transform.specs.declared.Extract.{Extract}
 use Rattle.transform.specs.declared.DerivedBitVecSignal.{DerivedBitVecSignal}
 use Rattle.transform.specs.Piece.{piecesOf}
-use Rattle.transform.specs.Steps.{Shown, shownBy, Track, unbegun, nowOf, smaller, smallest, moved, countOf, momentsFrom, momentsOf}
+use Rattle.transform.specs.Steps.{shownBy, Track, unbegun, nowOf, smaller, smallest, moved, momentsFrom, momentsOf}
 use Rattle.transform.specs.Derive.{inputsOf, inputKept, lentTo, isLate, yielded, sameStep, shownIn, derivedList, largestAmong}
 use Rattle.transform.specs.Tests.{keptAll, Derivable}
-use Rattle.transform.specs.Stepping.{Cursor, cursor, cursors, cursorsOf, Reaches, nextIn, soonest, begunAt, advanced, largestNow, pickedNow}
+use Rattle.transform.specs.Stepping.{Cursor, cursors, cursorsOf, Reaches, nextIn, soonest, begunAt, advanced, largestNow, pickedNow}
 use Rattle.transform.proofs.Pieces.{Sized}
 use Rattle.transform.proofs.InputTests.{input-fits, entries-count}
 use Rattle.transform.proofs.Stepping.{next-within, cursors-length}

@@ -5,11 +5,11 @@ use Prim.Native.Nat.{ℕ, zero, suc, _+_, _-_, _*_, _≤_, _<_}
 use mathlib.Core.Bool.{Bool, false, cond}
 use mathlib.Core.List.{List, [], _∷_, _++_, map}
 use lib.Dec.{eqb}
-use lib.ListN.{length, drop, getD, set}
+use lib.ListN.{length, drop, getD}
 use Rattle.value.specs.declared.States.{States}
 use Rattle.value.specs.Digits.{Below}
 use Rattle.value.specs.Slice.{part, overlay, same, sum}
-use Rattle.value.specs.Level.{markOf, setAt, joinAll, textOf}
+use Rattle.value.specs.Level.{markOf, setAt, joinAll}
 use Rattle.layout.specs.Entry.{entrySize}
 use Rattle.layout.specs.Writable.{Writable, entryFrom}
 use Rattle.fst.specs.declared.Encoding.the-variants.{BitVector}

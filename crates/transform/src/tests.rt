@@ -13,7 +13,7 @@ ghost use Rattle.signal.specs.Decode.{entriesIn, levelsIn, codesAt};
 ghost use Rattle.signal.specs.Parts.{Levels};
 ghost use Rattle.signal.specs.Read.{hasNoText};
 ghost use Rattle.transform.specs.Piece.{endOf, piecesOf};
-ghost use Rattle.transform.specs.Derive.{inputsOf, isBadInput, inputKept, startsLate, isLate, indicesFall, isUnfit, isBeyond, markIsBad, pickIsBad, pickedOf, codeIsBad};
+ghost use Rattle.transform.specs.Derive.{inputsOf, isBadInput, isLate, isUnfit, isBeyond, markIsBad, pickIsBad, pickedOf, codeIsBad};
 ghost use Rattle.transform.specs.Tests.{failsBy, isFirst, TwoCodes, Pickable, Picking, Numbered, Readable, keptWith, keptAll, firstTests, verdictReply};
 use crate::DerivedBitVecSignal;
 use crate::Extract;

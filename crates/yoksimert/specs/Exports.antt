@@ -1,9 +1,7 @@
 -- What each exported operation does with any numbers: the operation's definition where they are a description, and else 2.
 -- Assumes nothing.
 use Prim.Native.Nat.{ℕ, _+_, _*_}
-use mathlib.Core.Bool.{Bool}
 use mathlib.Core.List.{List}
-use Rattle.fst.specs.declared.Description.{Description}
 use Rattle.fst.specs.Refusal.{Outcome, refused}
 use Rattle.fst.specs.Record.{Lent, Held, sizeOf}
 use Rattle.fst.specs.Change.{Change, Recorder, addChange}
