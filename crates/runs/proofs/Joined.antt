@@ -30,11 +30,11 @@ ends-by like alike [] x ps f = refl
 ends-by like alike (p ∷ []) x ps f = f p (ps .0)
 ends-by like alike (p ∷ q ∷ l) x ps f = ends-by like alike (q ∷ l) x (ps .1) f
 
-pub ends-snoc : {A : Type 0} (like : A → A → Bool) (l : List A) (x : A) → endsLike like (l ++ (x ∷ [])) x ≡ like x x
+pub ends-snoc : {A : Type 0} (like : A → A → Bool) (l : List A) (s x : A) → endsLike like (l ++ (s ∷ [])) x ≡ like s x
 unfolding endsLike
-ends-snoc like [] x = refl
-ends-snoc like (p ∷ []) x = refl
-ends-snoc like (p ∷ q ∷ l) x = ends-snoc like (q ∷ l) x
+ends-snoc like [] s x = refl
+ends-snoc like (p ∷ []) s x = refl
+ends-snoc like (p ∷ q ∷ l) s x = ends-snoc like (q ∷ l) s x
 
 -- ---- what joins a list
 
@@ -54,7 +54,7 @@ joined-ends like l x r = go (endsLike like l x) refl
   where
     go : (b : Bool) → endsLike like l x ≡ b → endsLike like (cond b l (l ++ (x ∷ []))) x ≡ true
     go true e = e
-    go false e = ends-snoc like l x ∙ r
+    go false e = ends-snoc like l x x ∙ r
 
 pub joined-map : {A B : Type 0} (f : A → B) (like : B → B → Bool) (l : List A) (x : A)
     → joined like (map f l) (f x) ≡ map f (joined (λ p q. like (f p) (f q)) l x)

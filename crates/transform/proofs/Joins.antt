@@ -2,7 +2,7 @@
 -- Assumes nothing.
 use mathlib.Core.Path.{_≡_, refl, sym, ap, ap₂, _∙_}
 use mathlib.Core.Bool.{Bool, true, false, cond, not, _&&_, _||_, true≢false}
-use mathlib.Core.List.{List, [], _∷_, _++_, map}
+use mathlib.Core.List.{List, [], _∷_, _++_, map, map-append}
 use Prim.Native.Nat.{ℕ, zero, suc, _+_, _-_, _≤_, _<_}
 use native.Mathlib.Nat.{zero-add}
 use native.Mathlib.Omega.{arith}
@@ -22,7 +22,7 @@ use Rattle.transform.specs.declared.Side.{Side}
 use Rattle.transform.specs.declared.Side.the-variants.{Left, Right}
 use Rattle.transform.specs.Piece.{packedOf, extractOf, piecesOf, namesOf, pieceWidth, isBadDerivation, adjoin, merged, merging, pieceAdded, nameAdded, pieceOf, derivationWith, isBadRange, isOverfull, addPiece}
 use Rattle.transform.specs.Answer.{inputNumber, merges, hasNoRoom, Joining, Named, withPieces, withNames}
-use Rattle.transform.proofs.Pieces.{packed-all, place-le, name-known, name-new, map-append, sum-added, Sized, Sound, sound, refused-full, accepted}
+use Rattle.transform.proofs.Pieces.{packed-all, place-le, name-known, name-new, sum-added, Sized, Sound, sound, refused-full, accepted}
 
 -- ---- the number of a name
 

@@ -19,7 +19,7 @@ use Rattle.layout.specs.Writable.{entryFrom}
 use Rattle.runs.specs.Runs.{Step, indexOf, endsLike, joined, entriesOf}
 use Rattle.layout.proofs.EntryLaws.{EntryLaws}
 use Rattle.layout.proofs.Entries.{laws}
-use Rattle.runs.proofs.Joined.{length-snoc}
+use Rattle.runs.proofs.Joined.{length-snoc, ends-snoc}
 use Rattle.runs.proofs.Laid.{entryFor, sameEntry, entries-snoc, entries-length}
 use Rattle.signal.specs.declared.NextIndex.{NextIndex}
 use Rattle.signal.specs.declared.NextIndex.the-variants.{Absent, At}
@@ -34,12 +34,6 @@ use Rattle.transform.proofs.SteppingEntry.{pickable, front-long, writab
 use Rattle.transform.proofs.SteppingTracks.{tracks, toCome}
 use Rattle.transform.proofs.SteppingSources.{stepped, set-in, wide}
 use Rattle.transform.proofs.SteppingWalk.{M, stepAt, Walk, walk-start, walk-done, walk-on, on-begun, on-within, step-entry, dropped, added, come-fewer, walk-few}
-
-ends-last : {A : Type 0} (like : A → A → Bool) (l : List A) (s x : A) → endsLike like (l ++ (s ∷ [])) x ≡ like s x
-unfolding endsLike
-ends-last like [] s x = refl
-ends-last like (p ∷ []) s x = refl
-ends-last like (p ∷ q ∷ l) s x = ends-last like (q ∷ l) s x
 
 repeats-more : (n : ℕ) (last entry : List ℕ) → repeatsLast (n + 1) last entry ≡ same last entry
 unfolding repeatsLast
@@ -242,7 +236,7 @@ module _ (d : DerivedBitVecSignal) (inputs : Inputs) (bytes indices : List ℕ) 
                   ended =
                       λ o.
                       rw (n, m)
-                      (ends-last (sameEntry w N) kept s o
+                      (ends-snoc (sameEntry w N) kept s o
                       ∙ ap (λ (l : List ℕ). same l (entryFor w N o)) (sym (there ∙ entry-is))
                       ∙ sym (repeats-more count (lastAt sz stride (count + 1) (overlay nowBytes (count * stride) entry)) (entryFor w N o)));
                   long = ap length m ∙ overlay-length nowBytes entry (count * stride) (rw entry-long f) ∙ long;
