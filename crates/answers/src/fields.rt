@@ -1,7 +1,5 @@
 // Fields of a line, by their number from 0, with one space between two: read, and compared with what a call gave.
 ghost use Prim.Native.Nat.{_<_};
-ghost use mathlib.Core.Path.{_≡_};
-ghost use lib.ListN.{length};
 ghost use Rattle.io.specs.Counts.{Counts};
 
 // Digits that were read: the number that they make, and how many there were.

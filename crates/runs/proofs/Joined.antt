@@ -1,25 +1,13 @@
--- Lists whose end is looked at and added to: which elements they have, what they end in, what joins them.
+-- Lists whose end is looked at and added to: what they end in, what joins them.
 -- Assumes nothing.
 use mathlib.Core.Path.{_≡_, refl, sym, ap, _∙_}
 use Prim.Native.Nat.{suc}
 use mathlib.Core.Bool.{Bool, true, false, cond}
 use mathlib.Core.List.{List, [], _∷_, _++_, map, append-nil, map-append}
 use lib.ListN.{length}
+use Rattle.runs.specs.All.{All}
 use Rattle.runs.specs.Runs.{endsLike, joined}
-
--- each element of a list has a property
-abbrev pub Every : {A : Type 0} → (A → Type 0) → List A → Type 0
-Every P [] = Unit
-Every P (x ∷ l) = P x × Every P l
-
-pub every-snoc : {A : Type 0} (P : A → Type 0) (l : List A) (x : A) → Every P l → P x → Every P (l ++ (x ∷ []))
-every-snoc P [] x ps p = (p, tt)
-every-snoc P (y ∷ l) x ps p = (ps .0, every-snoc P l x (ps .1) p)
-
-pub every-map : {A B : Type 0} (P : A → Type 0) (Q : B → Type 0) (f : A → B) (l : List A) → ((x : A) → P x → Q (f x)) → Every P l
-    → Every Q (map f l)
-every-map P Q f [] g ps = tt
-every-map P Q f (x ∷ l) g ps = (g x (ps .0), every-map P Q f l g (ps .1))
+use Rattle.runs.proofs.All.{all-snoc}
 
 pub length-snoc : {A : Type 0} (l : List A) (x : A) → length (l ++ (x ∷ [])) ≡ suc (length l)
 length-snoc [] x = refl
@@ -35,18 +23,18 @@ ends-map f like (p ∷ []) x = refl
 ends-map f like (p ∷ q ∷ l) x = ends-map f like (q ∷ l) x
 
 -- the same by two tests that agree on each element
-pub ends-by : {A : Type 0} {P : A → Type 0} (like alike : A → A → Bool) (l : List A) (x : A) → Every P l
+pub ends-by : {A : Type 0} {P : A → Type 0} (like alike : A → A → Bool) (l : List A) (x : A) → All P l
     → ((p : A) → P p → like p x ≡ alike p x) → endsLike like l x ≡ endsLike alike l x
 unfolding endsLike
 ends-by like alike [] x ps f = refl
 ends-by like alike (p ∷ []) x ps f = f p (ps .0)
 ends-by like alike (p ∷ q ∷ l) x ps f = ends-by like alike (q ∷ l) x (ps .1) f
 
-pub ends-snoc : {A : Type 0} (like : A → A → Bool) (l : List A) (x : A) → endsLike like (l ++ (x ∷ [])) x ≡ like x x
+pub ends-snoc : {A : Type 0} (like : A → A → Bool) (l : List A) (s x : A) → endsLike like (l ++ (s ∷ [])) x ≡ like s x
 unfolding endsLike
-ends-snoc like [] x = refl
-ends-snoc like (p ∷ []) x = refl
-ends-snoc like (p ∷ q ∷ l) x = ends-snoc like (q ∷ l) x
+ends-snoc like [] s x = refl
+ends-snoc like (p ∷ []) s x = refl
+ends-snoc like (p ∷ q ∷ l) s x = ends-snoc like (q ∷ l) s x
 
 -- ---- what joins a list
 
@@ -66,7 +54,7 @@ joined-ends like l x r = go (endsLike like l x) refl
   where
     go : (b : Bool) → endsLike like l x ≡ b → endsLike like (cond b l (l ++ (x ∷ []))) x ≡ true
     go true e = e
-    go false e = ends-snoc like l x ∙ r
+    go false e = ends-snoc like l x x ∙ r
 
 pub joined-map : {A B : Type 0} (f : A → B) (like : B → B → Bool) (l : List A) (x : A)
     → joined like (map f l) (f x) ≡ map f (joined (λ p q. like (f p) (f q)) l x)
@@ -78,7 +66,15 @@ joined-map f like l x =
     go true = refl
     go false = sym (map-append f l (x ∷ []))
 
-pub joined-by : {A : Type 0} {P : A → Type 0} (like alike : A → A → Bool) (l : List A) (x : A) → Every P l
+pub joined-by : {A : Type 0} {P : A → Type 0} (like alike : A → A → Bool) (l : List A) (x : A) → All P l
     → ((p : A) → P p → like p x ≡ alike p x) → joined like l x ≡ joined alike l x
 unfolding joined
 joined-by like alike l x ps f = ap (λ (b : Bool). cond b l (l ++ (x ∷ []))) (ends-by like alike l x ps f)
+
+pub joined-all : {A : Type 0} (P : A → Type 0) (like : A → A → Bool) (l : List A) (x : A) → All P l → P x → All P (joined like l x)
+unfolding joined
+joined-all {A} P like l x ps p = go (endsLike like l x)
+  where
+    go : (b : Bool) → All P (cond b l (l ++ (x ∷ [])))
+    go true = ps
+    go false = all-snoc P l x ps p

@@ -18,9 +18,10 @@ use Rattle.fst.specs.declared.Encoding.the-variants.{BitVector}
 use Rattle.layout.specs.Entry.{entrySize, entryOf, widenAll}
 use Rattle.fst.specs.Record.{Lent, Kept, largestIn, keptIn}
 use Rattle.fst.specs.Change.{repeats, appended, stored}
+use Rattle.runs.specs.All.{All}
 use Rattle.runs.specs.Runs.{byValue, leftIn, Step, indexOf, entriesOf, laidOut, endsLike, joined, Same}
 use Rattle.layout.proofs.EntryLaws.{Codes, EntryLaws}
-use Rattle.runs.proofs.Joined.{Every, length-snoc}
+use Rattle.runs.proofs.Joined.{length-snoc}
 
 -- equal records are equal in the sense of demand 3
 pub equal-same : (k l : Kept) → k ≡ l → Same byValue k l
@@ -85,7 +86,7 @@ module _ (w : ℕ) (L : EntryLaws w) where
       part-skip (entryFor w M t) (entriesOf w M l) k (entrySize w M) (long M t) ∙ entry-at M l k s (le-of-suc-le-suc h)
 
   -- entries widened are the entries under the larger set
-  pub widen-entries : (from to : States) (l : List Step) → Every (Sound w from) l → markOf from ≤ markOf to
+  pub widen-entries : (from to : States) (l : List Step) → All (Sound w from) l → markOf from ≤ markOf to
       → widenAll w from to (length l) (entriesOf w from l) ≡ entriesOf w to l
   unfolding entriesOf widenAll
   widen-entries from to [] g b = refl
@@ -118,7 +119,7 @@ module _ (w : ℕ) (L : EntryLaws w) where
       (z .0, codes-inj (s .string) (t .string) (a .letters) (z .1))
 
   -- entries and indices tell the list
-  pub told : (M : States) (l m : List Step) → Every (Sound w M) l → Every (Sound w M) m
+  pub told : (M : States) (l m : List Step) → All (Sound w M) l → All (Sound w M) m
       → map indexOf l ≡ map indexOf m → entriesOf w M l ≡ entriesOf w M m → l ≡ m
   unfolding entriesOf
   told M [] [] a b i e = refl
@@ -137,7 +138,7 @@ module _ (w : ℕ) (L : EntryLaws w) where
       λ j. record { index = i₁ j; string = both .1 j; set = both .0 j } ∷ tail j
 
   -- two lists laid out are equal records only where they are equal lists under one set
-  pub laid-same : (M N : States) (l m : List Step) → Every (Sound w M) l → Every (Sound w N) m
+  pub laid-same : (M N : States) (l m : List Step) → All (Sound w M) l → All (Sound w N) m
       → Same byValue (laidOut w M l) (laidOut w N m) → (M ≡ N) × (l ≡ m)
   unfolding laidOut
   laid-same M N l m a b s = (
@@ -155,7 +156,7 @@ module _ (w : ℕ) (L : EntryLaws w) where
       (part-overlay (lent .indices) (map indexOf l) (lent .indexStart) (length l) b (length-map l indexOf))
 
   -- a step joins the record as it joins the list
-  pub step-appended : (from to : States) (l : List Step) → Every (Sound w from) l → markOf from ≤ markOf to → (s : Step)
+  pub step-appended : (from to : States) (l : List Step) → All (Sound w from) l → markOf from ≤ markOf to → (s : Step)
       → appended (BitVector w to) (length l) (widenAll w from to (length l) (entriesOf w from l)) (map indexOf l) (s .index) (entryFor w to s)
       ≡ laidOut w to (joined (sameEntry w to) l s)
   unfolding laidOut joined appended

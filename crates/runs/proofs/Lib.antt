@@ -1,3 +1,4 @@
+pub mod All
 pub mod Joined
 pub mod Laid
 pub mod Runs

@@ -9,7 +9,7 @@ use Rattle.value.specs.Text.{chars}
 use Rattle.value.specs.declared.States.the-variants.{Nine}
 use Rattle.value.specs.Digits.{number, digits}
 use Rattle.value.specs.Slice.{part, overlay, same, any}
-use Rattle.value.specs.Level.{placeIn, codeOf, fold, setOf, leastOf, joinAll}
+use Rattle.value.specs.Level.{placeIn, codeOf, fold, setOf, joinAll}
 use Rattle.fst.specs.declared.Encoding.the-variants.{BitVector}
 use Rattle.fst.specs.Refusal.{tried}
 use Rattle.layout.specs.Entry.{entrySize, entryOf, markByte, unmarked, levelBytes, widenEntry, widenAll}

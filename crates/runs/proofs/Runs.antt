@@ -22,11 +22,13 @@ use Rattle.fst.specs.Refusal.{Reply, refused, given, Outcome, outcome}
 use Rattle.layout.specs.Entry.{entryOf}
 use Rattle.fst.specs.Record.{Lent, Kept, keptIn}
 use Rattle.fst.specs.Change.{Change, text, real, isOtherKind, isOtherLength, isForeign, changed, withChange, refusals, Recorder, stored, addChange}
+use Rattle.runs.specs.All.{All}
 use Rattle.runs.specs.Runs.{byValue, Call, called, leftIn, leaves, Run, freshKept, after, Fed, fed, Pair, endsLike, joined, sameString, fedOne, historyOf, Step, entriesOf, laidOut, stepOf, largestOf, historyLaidOut, Same}
 use Rattle.layout.proofs.EntryLaws.{EntryLaws}
 use Rattle.fst.proofs.Refusals.{Passed, Result, through, stopped, result}
 use Rattle.fst.proofs.Records.{Fits, fits-room, not-bad}
-use Rattle.runs.proofs.Joined.{Every, every-snoc, every-map, joined-map, joined-by}
+use Rattle.runs.proofs.All.{all-map}
+use Rattle.runs.proofs.Joined.{joined-all, joined-map, joined-by}
 use Rattle.runs.proofs.Laid.{entryFor, sameEntry, Sound, entry-tells, equal-same, laid-same, laid-found, step-appended}
 
 -- ---- the largest set
@@ -79,17 +81,17 @@ pub spelt-sound : (w : ℕ) (M : States) (p : Pair) → Spelt w p → markOf (le
 spelt-sound w M p s h =
     record { codes = record { long = s .long; below = under (codesOf (p .string)) (s .letters) }; letters = s .letters; within = h }
 
-pub all-sound : (w : ℕ) (M : States) (h : List Pair) → Every (Spelt w) h → markOf (largestSet h) ≤ markOf M
-    → Every (λ (p : Pair). Sound w M (stepOf p)) h
+pub all-sound : (w : ℕ) (M : States) (h : List Pair) → All (Spelt w) h → markOf (largestSet h) ≤ markOf M
+    → All (λ (p : Pair). Sound w M (stepOf p)) h
 all-sound w M [] g a = tt
 all-sound w M (p ∷ h) g a = (
   spelt-sound w M p (g .0) (omega (arith, largest-head (stepOf p) (map stepOf h))),
   all-sound w M h (g .1) (omega (arith, largest-tail (stepOf p) (map stepOf h))),
 )
 
-pub steps-sound : (w : ℕ) (M : States) (h : List Pair) → Every (Spelt w) h → markOf (largestSet h) ≤ markOf M → Every (Sound w M) (map stepOf h)
+pub steps-sound : (w : ℕ) (M : States) (h : List Pair) → All (Spelt w) h → markOf (largestSet h) ≤ markOf M → All (Sound w M) (map stepOf h)
 steps-sound w M h g a =
-    every-map (λ (p : Pair). Sound w M (stepOf p)) (Sound w M) stepOf h (λ (p : Pair) (s : Sound w M (stepOf p)). s) (all-sound w M h g a)
+    all-map (λ (p : Pair). Sound w M (stepOf p)) (Sound w M) stepOf h (λ (p : Pair) (s : Sound w M (stepOf p)). s) (all-sound w M h g a)
 
 -- where a pair joins: the set that is then the largest
 pub joined-largest : (h : List Pair) (p : Pair) → join (largestSet h) (leastSet p) ≡ largestSet (joined sameString h p)
@@ -101,14 +103,6 @@ joined-largest h p = go (endsLike sameString h p) refl
         mark-inj (join (largestSet h) (leastSet p)) (largestSet h)
         (omega (arith, mark-join (largestSet h) (leastSet p), ends-within h p (to-T (endsLike sameString h p) e)))
     go false e = sym (ap largestOf (map-append stepOf h (p ∷ [])) ∙ largest-snoc (map stepOf h) (stepOf p))
-
-joined-spelt : (w : ℕ) (h : List Pair) (p : Pair) → Every (Spelt w) h → Spelt w p → Every (Spelt w) (joined sameString h p)
-unfolding joined
-joined-spelt w h p g s = go (endsLike sameString h p)
-  where
-    go : (b : Bool) → Every (Spelt w) (cond b h (h ++ (p ∷ [])))
-    go true = g
-    go false = every-snoc (Spelt w) h p g s
 
 -- the steps of a history tell it
 abbrev pairOf : Step → Pair
@@ -126,7 +120,7 @@ fedBy k c = record { index = c .index; change = c .change; accepted = eqb ((call
 
 module _ (w : ℕ) (L : EntryLaws w) where
   -- entries repeat just where strings do
-  joined-steps : (M : States) (h : List Pair) (p : Pair) → Every (Spelt w) h → Spelt w p
+  joined-steps : (M : States) (h : List Pair) (p : Pair) → All (Spelt w) h → Spelt w p
       → markOf (largestSet h) ≤ markOf M → markOf (leastSet p) ≤ markOf M
       → joined (sameEntry w M) (map stepOf h) (stepOf p) ≡ map stepOf (joined sameString h p)
   joined-steps M h p g s a b =
@@ -139,7 +133,7 @@ module _ (w : ℕ) (L : EntryLaws w) where
       (λ e. ap (λ (x : List ℕ). entryOf w M (leastOf (codesOf x)) (codesOf x)) e)))
 
   -- a string joins the record as it joins the history
-  string-joins : (h : List Pair) → Every (Spelt w) h → (i : ℕ) (s : List ℕ)
+  string-joins : (h : List Pair) → All (Spelt w) h → (i : ℕ) (s : List ℕ)
       → let p : Pair = record { index = i; string = foldAll s } in
       Spelt w p → withChange (historyLaidOut w h) i (text s) ≡ historyLaidOut w (joined sameString h p)
   unfolding historyLaidOut laidOut changed
@@ -157,15 +151,15 @@ module _ (w : ℕ) (L : EntryLaws w) where
   abbrev Agrees : List Pair → Lent → ℕ → Change → Outcome Recorder → Type 0
   Agrees h l i ch o =
       let f : Fed = record { index = i; change = ch; accepted = eqb (o .refused) 0 } in
-      (leftIn byValue l (o .left) ≡ historyLaidOut w (fedOne h f)) × Every (Spelt w) (fedOne h f)
+      (leftIn byValue l (o .left) ≡ historyLaidOut w (fedOne h f)) × All (Spelt w) (fedOne h f)
 
-  refused-agrees : (h : List Pair) → Every (Spelt w) h → (l : Lent) (i : ℕ) (ch : Change)
+  refused-agrees : (h : List Pair) → All (Spelt w) h → (l : Lent) (i : ℕ) (ch : Change)
       → keptIn ((historyLaidOut w h) .description) l ≡ historyLaidOut w h → (n : ℕ)
       → Agrees h l i ch (record { refused = suc n; left = record { description = (historyLaidOut w h) .description; bytes = l .bytes; indices = l .indices } })
   refused-agrees h g l i (text s) held n = rw (ne-eqb (suc n) 0 (λ e. omega (arith, e))) (held, g)
   refused-agrees h g l i (real x) held n = (held, g)
 
-  given-agrees : (h : List Pair) → Every (Spelt w) h → (l : Lent) (i : ℕ) (ch : Change)
+  given-agrees : (h : List Pair) → All (Spelt w) h → (l : Lent) (i : ℕ) (ch : Change)
       → let d = (historyLaidOut w h) .description in
       keptIn d l ≡ historyLaidOut w h → Passed (refusals d l i ch)
       → Agrees h l i ch (record { refused = 0; left = stored l (withChange (keptIn d l) i ch) })
@@ -183,11 +177,11 @@ module _ (w : ℕ) (L : EntryLaws w) where
         ap (λ (k : Kept). leftIn byValue l (stored l (withChange k i (text s)))) held
             ∙ ap (λ (k : Kept). leftIn byValue l (stored l k)) (string-joins h g i s sp)
             ∙ laid-found w L (largestSet h′) (map stepOf h′) l (omega arith) (omega arith),
-        joined-spelt w h p g sp,
+        joined-all (Spelt w) sameString h p g sp,
       )
 
   -- one call, from a record that is a history laid out
-  call-agrees : (h : List Pair) → Every (Spelt w) h → (l : Lent) (i : ℕ) (ch : Change)
+  call-agrees : (h : List Pair) → All (Spelt w) h → (l : Lent) (i : ℕ) (ch : Change)
       → let d = (historyLaidOut w h) .description in
       keptIn d l ≡ historyLaidOut w h → Agrees h l i ch (addChange d l i ch)
   unfolding addChange refusals
@@ -204,8 +198,8 @@ module _ (w : ℕ) (L : EntryLaws w) where
       go (stopped n e) = subst (λ (r : Reply Recorder). Agrees h l i ch (outcome old r)) (sym e) (refused-agrees h g l i ch held n)
 
   -- any calls, from a record that is a history laid out
-  layout-from : (h : List Pair) → Every (Spelt w) h → (k : Kept) → k ≡ historyLaidOut w h → (cs : List Call) → Run byValue k cs
-      → (after byValue k cs ≡ historyLaidOut w (foldl fedOne h (fed byValue k cs))) × Every (Spelt w) (foldl fedOne h (fed byValue k cs))
+  layout-from : (h : List Pair) → All (Spelt w) h → (k : Kept) → k ≡ historyLaidOut w h → (cs : List Call) → Run byValue k cs
+      → (after byValue k cs ≡ historyLaidOut w (foldl fedOne h (fed byValue k cs))) × All (Spelt w) (foldl fedOne h (fed byValue k cs))
   unfolding Run after fed leaves
   layout-from h g k e [] r = (e, g)
   layout-from h g k e (c ∷ cs) r =
@@ -215,7 +209,7 @@ module _ (w : ℕ) (L : EntryLaws w) where
 
   from-fresh : (cs : List Call) → Run byValue (freshKept w) cs
       → let h = historyOf (fed byValue (freshKept w) cs) in
-      (after byValue (freshKept w) cs ≡ historyLaidOut w h) × Every (Spelt w) h
+      (after byValue (freshKept w) cs ≡ historyLaidOut w h) × All (Spelt w) h
   unfolding historyLaidOut laidOut joinAll entriesOf
   from-fresh cs r = layout-from [] tt (freshKept w) refl cs r
 
@@ -224,11 +218,11 @@ module _ (w : ℕ) (L : EntryLaws w) where
   layout cs r = (from-fresh cs r) .0
 
   -- and each string of the history is w levels in small letters
-  pub spelt : (cs : List Call) → Run byValue (freshKept w) cs → Every (Spelt w) (historyOf (fed byValue (freshKept w) cs))
+  pub spelt : (cs : List Call) → Run byValue (freshKept w) cs → All (Spelt w) (historyOf (fed byValue (freshKept w) cs))
   spelt cs r = (from-fresh cs r) .1
 
   -- two histories laid out are equal records only where they are equal
-  history-same : (h g : List Pair) → Every (Spelt w) h → Every (Spelt w) g → Same byValue (historyLaidOut w h) (historyLaidOut w g) → h ≡ g
+  history-same : (h g : List Pair) → All (Spelt w) h → All (Spelt w) g → Same byValue (historyLaidOut w h) (historyLaidOut w g) → h ≡ g
   unfolding historyLaidOut
   history-same h g a b s =
       sym (steps-tell h)

@@ -5,8 +5,8 @@ use mathlib.Core.Path.{_≡_, refl, sym, ap, ap₂, _∙_}
 use mathlib.Core.Bool.{Bool, true, false, cond, _&&_}
 use mathlib.Core.List.{List, [], _∷_, _++_, map, append-assoc}
 use mathlib.Core.Logic.{_↔_}
-use Prim.Native.Nat.{ℕ, zero, suc, _*_, _≤_, _<_}
-use native.Mathlib.Nat.{le-of-suc-le-suc, zero-add}
+use Prim.Native.Nat.{ℕ, _*_, _≤_, _<_}
+use native.Mathlib.Nat.{zero-add}
 use native.Mathlib.Omega.{arith}
 use lib.Dec.{T, eqb, eqb→eq, eqb-refl}
 use lib.ListN.{length, getD, length-append, length-map, List·getD-map}
@@ -22,8 +22,10 @@ use Rattle.fst.specs.declared.Description.{Description}
 use Rattle.fst.specs.Refusal.{refused, given, _⇐_, tried, Outcome}
 use Rattle.layout.specs.Entry.{entrySize}
 use Rattle.fst.specs.Record.{Lent, Kept, usedSize, keptIn, isBad, isBadBytes}
+use Rattle.runs.specs.All.{All}
 use Rattle.runs.specs.Runs.{Pair, Step, indexOf, entriesOf, laidOut, stepOf, largestOf, historyLaidOut, byValue, Call, Run, freshKept, after, fed, historyOf}
-use Rattle.runs.proofs.Joined.{Every, length-snoc}
+use Rattle.runs.proofs.All.{all-at}
+use Rattle.runs.proofs.Joined.{length-snoc}
 use Rattle.runs.proofs.Laid.{entryFor, Sound}
 use Rattle.runs.proofs.Laid as laid
 use Rattle.layout.proofs.Entries.{laws}
@@ -38,11 +40,6 @@ use Rattle.signal.proofs.Reading.{entry-within, text-on}
 use Rattle.signal.proofs.EntryBack.{set-back, mark-sound, code-sound, text-back}
 
 -- ---- one entry
-
-every-at : {A : Type 0} (P : A → Type 0) (l : List A) → Every P l → (k : ℕ) (d : A) → k < length l → P (getD l k d)
-every-at P [] e k d h = absurd (omega arith)
-every-at P (x ∷ l) e zero d h = e .0
-every-at P (x ∷ l) e (suc k) d h = every-at P l (e .1) k d (le-of-suc-le-suc h)
 
 -- what an entry says of the step that it was laid out for
 pub record Tells (w : ℕ) (M : States) (v : List ℕ) (s : Step) : Type 0 where
@@ -65,7 +62,7 @@ agreeing (a ∷ l) [] = false
 agreeing (a ∷ l) (b ∷ m) = agree a b && agreeing l m
 
 -- yes exactly where both lists of index and value agree
-pub yes-exactly : (l m : List Indexed) → Every Fair l → Every Fair m → walked l m ≡ given (agreeing l m)
+pub yes-exactly : (l m : List Indexed) → All Fair l → All Fair m → walked l m ≡ given (agreeing l m)
 unfolding walked tried agreeing
 yes-exactly [] [] e f = refl
 yes-exactly [] (b ∷ m) e f = refl
@@ -146,12 +143,12 @@ module _ (w : ℕ) (pos : 1 ≤ w) where
       ap (λ (n : ℕ). part n (entrySize w M) (entriesOf w M l)) (zero-add (k * entrySize w M)) ∙ laid.entry-at w (laws w pos) M l k d h
 
   -- reading entry k of a list laid out gives the own set and the string of step k
-  pub read-back : (M : States) (l : List Step) → Every (Sound w M) l → (k : ℕ) (d : Step) → k < length l
+  pub read-back : (M : States) (l : List Step) → All (Sound w M) l → (k : ℕ) (d : Step) → k < length l
       → Tells w M (entryAt ((laidOut w M l) .description) 0 ((laidOut w M l) .bytes) k) (getD l k d)
-  read-back M l e k d h = rw (entry-is M l k d h) (entry-tells M (getD l k d) (every-at (Sound w M) l e k d h))
+  read-back M l e k d h = rw (entry-is M l k d h) (entry-tells M (getD l k d) (all-at (Sound w M) l e k d h))
 
   -- and so does Text, wherever the record stands in its slice
-  pub text-laid : (M : States) (l : List Step) → Every (Sound w M) l → (k : ℕ) (d : Step) → k < length l → (bytes : List ℕ) (start : ℕ) (out : List ℕ)
+  pub text-laid : (M : States) (l : List Step) → All (Sound w M) l → (k : ℕ) (d : Step) → k < length l → (bytes : List ℕ) (start : ℕ) (out : List ℕ)
       → let r = laidOut w M l in
       part start (usedSize (r .description)) bytes ≡ r .bytes → isBadBytes (r .description) start bytes ≡ false → w ≤ length out
       → _≡_ {A = Outcome (List ℕ)} (readText (r .description) bytes start k out) (record { refused = 0; left = overlay out 0 ((getD l k d) .string) })
@@ -196,7 +193,7 @@ module _ (w : ℕ) (pos : 1 ≤ w) where
   unfolding laidOut
   entries-are M l = entries-from M [] l
 
-  agreeing-steps : (M N : States) (l m : List Step) → Every (Sound w M) l → Every (Sound w N) m → agreeing (map (shown M) l) (map (shown N) m) ≡ sameSteps l m
+  agreeing-steps : (M N : States) (l m : List Step) → All (Sound w M) l → All (Sound w N) m → agreeing (map (shown M) l) (map (shown N) m) ≡ sameSteps l m
   unfolding agreeing sameSteps sameValue
   agreeing-steps M N [] [] e f = refl
   agreeing-steps M N [] (t ∷ m) e f = refl
@@ -206,19 +203,19 @@ module _ (w : ℕ) (pos : 1 ≤ w) where
       (ap₂ same ((entry-tells M s (e .0)) .text) ((entry-tells N t (f .0)) .text))
       (agreeing-steps M N l m (e .1) (f .1))
 
-  all-fair : (M : States) (l : List Step) → Every (Sound w M) l → Every Fair (map (shown M) l)
+  all-fair : (M : States) (l : List Step) → All (Sound w M) l → All Fair (map (shown M) l)
   all-fair M [] e = tt
   all-fair M (s ∷ l) e = (((entry-tells M s (e .0)) .mark, (entry-tells M s (e .0)) .code), all-fair M l (e .1))
 
   -- two lists laid out at one width: yes exactly where index and string agree, whatever the sets
-  pub compare-laid : (M N : States) (l m : List Step) → Every (Sound w M) l → Every (Sound w N) m
+  pub compare-laid : (M N : States) (l m : List Step) → All (Sound w M) l → All (Sound w N) m
       → walked (entriesIn (laidOut w M l)) (entriesIn (laidOut w N m)) ≡ given (sameSteps l m)
   compare-laid M N l m e f =
       ap₂ walked (entries-are M l) (entries-are N m)
       ∙ yes-exactly (map (shown M) l) (map (shown N) m) (all-fair M l e) (all-fair N m f)
       ∙ ap given (agreeing-steps M N l m e f)
 
-  history-laid : (h g : List Pair) → Every (runs.Spelt w) h → Every (runs.Spelt w) g
+  history-laid : (h g : List Pair) → All (runs.Spelt w) h → All (runs.Spelt w) g
       → walked (entriesIn (historyLaidOut w h)) (entriesIn (historyLaidOut w g)) ≡ given (sameSteps (map stepOf h) (map stepOf g))
   unfolding historyLaidOut
   history-laid h g a b =

@@ -33,7 +33,7 @@ use Rattle.signal.specs.declared.OwnStates.the-variants as own
 use Rattle.signal.specs.declared.EntryAnswer.the-variants as answer
 use Rattle.signal.specs.Decode.{entryAt, markIn, setIn, levelPart, levelsIn, hasBadMark, hasBadCode, codesAt}
 use Rattle.fst.specs.declared.Refusal.the-variants.{BadMark}
-use Rattle.signal.specs.Read.{Entry, kindOf, entryIn, readEntry, partOf, entryOf, hasNoText, readText}
+use Rattle.signal.specs.Read.{Entry, kindOf, entryIn, readEntry, partOf, replyOf, hasNoText, readText}
 use Rattle.signal.specs.Parts.{ownStates, Levels, Whole, Inside, answerIn, partIn, textStored}
 
 -- ---- one entry of a bit vector
@@ -108,11 +108,11 @@ module _ (e : Encoding) (v : List ℕ) where
   unfoldable pub readOn : Reply Entry
   readOn = tried (9 ⇐ hasBadMark e v ∷ []) (given (entryIn e v))
 
-  pub answer-on : entryOf (answerIn e v) (partOf readOn) ≡ readOn
+  pub answer-on : replyOf (answerIn e v) (partOf readOn) ≡ readOn
   unfolding readOn tried answerIn
   answer-on = go (hasBadMark e v)
     where
-      go : (b : Bool) → entryOf (cond b (answer.Refused BadMark) (answer.Entry (kindOf e) (setIn e v))) (partOf (tried (9 ⇐ b ∷ []) (given (entryIn e v)))) ≡ tried (9 ⇐ b ∷ []) (given (entryIn e v))
+      go : (b : Bool) → replyOf (cond b (answer.Refused BadMark) (answer.Entry (kindOf e) (setIn e v))) (partOf (tried (9 ⇐ b ∷ []) (given (entryIn e v)))) ≡ tried (9 ⇐ b ∷ []) (given (entryIn e v))
       go true = refl
       go false = refl
 

@@ -4,22 +4,18 @@ use mathlib.Core.Path.{_≡_, refl}
 use Prim.Native.Nat.{ℕ, _+_, _*_, _^_}
 use Prim.Native.String.{String}
 use mathlib.Core.Bool.{Bool, true, false}
-use mathlib.Core.List.{List, [], _∷_, _++_, reverse}
-use lib.ListN.{length, replicate}
+use mathlib.Core.List.{List, [], _∷_, reverse}
 use lib.Ieee.{eq, ofBits, ofFields, odd}
-use lib.Count.{trailingZeros}
 use Rattle.value.specs.declared.States.{States}
 use Rattle.value.specs.declared.States.the-variants.{Two, Four, Nine}
 use Rattle.value.specs.Text.{chars}
 use Rattle.value.specs.Digits.{number, digits}
 use Rattle.value.specs.Slice.{part, overlay, same, any}
 use Rattle.value.specs.Level.{placeIn, letterOf}
-use Rattle.fst.specs.declared.Encoding.{Encoding}
 use Rattle.fst.specs.declared.Encoding.the-variants.{Event, Real, BitVector}
-use Rattle.fst.specs.declared.Description.{Description}
 use Rattle.fst.specs.Refusal.{Reply, refused, given, tried, Outcome}
 use Rattle.layout.specs.Entry.{entrySize}
-use Rattle.fst.specs.Record.{Lent, Kept, keptIn, widthStands, fitsBytes, fits, isBadBytes, isBad}
+use Rattle.fst.specs.Record.{Kept, keptIn, widthStands, fitsBytes, fits, isBadBytes, isBad}
 use Rattle.fst.proofs.Rows.{around, lentBy, kept}
 use Rattle.signal.specs.declared.Kind.the-variants as kind
 use Rattle.signal.specs.declared.NextIndex.{NextIndex}

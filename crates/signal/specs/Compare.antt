@@ -12,7 +12,7 @@ use Rattle.fst.specs.declared.Encoding.the-variants.{Event, Real, BitVector}
 use Rattle.fst.specs.declared.Description.{Description}
 use Rattle.fst.specs.Refusal.{Reply, refused, given, _⇐_, tried}
 use Rattle.fst.specs.Refusal as refusal
-use Rattle.fst.specs.Record.{Lent, Kept, keptIn, isBad}
+use Rattle.fst.specs.Record.{Lent, keptIn, isBad}
 use Rattle.signal.specs.declared.EqualAnswer.{EqualAnswer}
 use Rattle.signal.specs.declared.EqualAnswer.the-variants as answer
 use Rattle.signal.specs.Decode.{Indexed, entriesIn, hasBadMark, hasBadCode, textIn}

@@ -10,7 +10,7 @@ use Rattle.value.specs.Slice.{overlay}
 use Rattle.fst.specs.declared.Encoding.{Encoding}
 use Rattle.fst.specs.declared.Encoding.the-variants.{Event, Real, BitVector}
 use Rattle.fst.specs.declared.Description.{Description}
-use Rattle.fst.specs.Refusal.{Reply, refused, given, Test, _⇐_, tried, Outcome, outcome, number}
+use Rattle.fst.specs.Refusal.{Reply, refused, given, _⇐_, tried, Outcome, outcome, number}
 use Rattle.fst.specs.Record.{isBadBytes}
 use Rattle.signal.specs.declared.Kind.{Kind}
 use Rattle.signal.specs.declared.Kind.the-variants as kind
@@ -48,9 +48,9 @@ partOf (refused n) = []
 partOf (given e) = e .part
 
 -- the small answer, by number and values, with the part that is returned beside it
-abbrev pub entryOf : EntryAnswer → List ℕ → Reply Entry
-entryOf (answer.Entry k s) p = given (record { kind = k; set = s; part = p })
-entryOf (answer.Refused r) p = refused (number r)
+abbrev pub replyOf : EntryAnswer → List ℕ → Reply Entry
+replyOf (answer.Entry k s) p = given (record { kind = k; set = s; part = p })
+replyOf (answer.Refused r) p = refused (number r)
 
 -- "a real or event is 3"
 unfoldable pub hasNoText : Encoding → Bool

@@ -117,7 +117,7 @@ fn same_codes(
 }
 
 // Number 9 or 10 of an entry.
-pub fn try_entry(encoding: Encoding, entry: &[u8]) -> Verdict
+fn try_entry(encoding: Encoding, entry: &[u8]) -> Verdict
     requires { ⌜ Whole encoding (now entry) ⌝ }
     ensures { λ r. ⌜ numberOf r ≡ badNumber encoding (now (entry .entry)) ⌝ }
 {

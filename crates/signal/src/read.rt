@@ -7,7 +7,7 @@ ghost use Rattle.fst.specs.Record.{sizeOf};
 ghost use Rattle.fst.specs.Refusal.{Outcome, numberOf};
 ghost use Rattle.signal.specs.Decode.{entryAt};
 ghost use Rattle.signal.specs.Parts.{Whole, Inside, answerIn, partIn, textStored};
-ghost use Rattle.signal.specs.Read.{readEntry, entryOf, partOf, readText};
+ghost use Rattle.signal.specs.Read.{readEntry, replyOf, partOf, readText};
 use crate::EntryAnswer;
 use crate::Kind;
 use crate::OwnStates;
@@ -102,7 +102,7 @@ pub fn read_entry(
     byte_start: usize,
     entry: u32,
 ) -> EntryAnswer
-    ensures { λ r. ⌜ entryOf r (partOf (readEntry description (now (bytes .entry)) «byte_start» entry)) ≡ readEntry description (now (bytes .entry)) «byte_start» entry ⌝ }
+    ensures { λ r. ⌜ replyOf r (partOf (readEntry description (now (bytes .entry)) «byte_start» entry)) ≡ readEntry description (now (bytes .entry)) «byte_start» entry ⌝ }
 {
     if is_bad_bytes(description, bytes, byte_start) {
         return EntryAnswer::Refused(Refusal::BadRecord);

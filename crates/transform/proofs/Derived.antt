@@ -13,26 +13,27 @@ use lib.Dec.{eqb, ltb}
 use lib.ListN.{length, getD, length-map, length-append, List·getD-map, List·getD-eq-default}
 use Rattle.value.specs.Slice.{part, any, sum}
 use Rattle.value.specs.Level.{markOf, bitsOf, hasNoCode, joinAll}
-use Rattle.value.specs.Digits.{number, Below}
-use Rattle.value.proofs.Digits.{base-pos, digits-length, digits-below, below-take, below-drop, below-mono, below-append}
+use Rattle.value.specs.Digits.{Below}
+use Rattle.value.proofs.Digits.{below-take, below-drop, below-mono, below-append}
 use Rattle.value.proofs.Tests.{or-left, or-right, or-both, by-le}
-use Rattle.value.proofs.Levels.{mark-join, mark-set, mark-small, bits-up, codes-text, all-below}
+use Rattle.value.proofs.Levels.{mark-join, bits-up, codes-text, all-below}
 use Rattle.value.proofs.Slices.{any-none, part-length}
 use Rattle.fst.specs.declared.Encoding.{Encoding}
-use Rattle.fst.specs.declared.Encoding.the-variants.{Event, Real, BitVector}
+use Rattle.fst.specs.declared.Encoding.the-variants.{Event}
 use Rattle.fst.specs.declared.Description.{Description}
 use Rattle.fst.specs.Refusal.{Reply, refused, given, Test, tried}
 use Rattle.fst.specs.Record.{Lent, Kept, largestIn, keptIn}
 use Rattle.fst.specs.Change.{stored}
+use Rattle.runs.specs.All.{All}
 use Rattle.runs.specs.Runs as runs
 use Rattle.runs.specs.Runs.{byValue, Step, endsLike, joined, laidOut, Same}
 use Rattle.layout.proofs.Entries.{laws}
-use Rattle.runs.proofs.Joined.{Every, every-map}
+use Rattle.runs.proofs.All.{all-map, all-by}
 use Rattle.runs.proofs.Laid.{Sound, equal-same, laid-same, laid-found}
 use Rattle.fst.proofs.Refusals.{Result, through, stopped, result}
 use Rattle.signal.specs.declared.NextIndex.{NextIndex}
 use Rattle.signal.specs.declared.NextIndex.the-variants.{Absent, At}
-use Rattle.signal.specs.Decode.{entriesFrom, entriesIn, entryAt, markIn, setIn, levelPart, levelsIn, hasBadMark}
+use Rattle.signal.specs.Decode.{entriesFrom, entriesIn, entryAt, setIn, levelsIn}
 use Rattle.signal.specs.Offset.{falls, headOf}
 use Rattle.signal.specs.Read.{widthOf}
 use Rattle.signal.proofs.ReadBack as back
@@ -40,8 +41,7 @@ use Rattle.signal.proofs.ReadBack.{Tells}
 use Rattle.transform.specs.declared.Extract.{Extract}
 use Rattle.transform.specs.declared.DerivedBitVecSignal.{DerivedBitVecSignal}
 use Rattle.transform.specs.declared.Inputs.{Inputs}
-use Rattle.transform.specs.Piece as piece
-use Rattle.transform.specs.Piece.{endOf, extractOf, piecesOf, isBadPiece}
+use Rattle.transform.specs.Piece.{endOf, extractOf, piecesOf, pieceWidth, isBadPiece}
 use Rattle.transform.specs.Steps.{Shown, shownBy, indexOf, Track, unbegun, nowOf, smaller, smallest, moved, Moment, momentsFrom, countOf, momentsOf}
 use Rattle.transform.specs.Derive.{pickedOf, codesShown, setShown, picked, largestShown, yielded, sameStep, shownIn, derivedList, largestAmong, lentOut, encodingOf, isBeyond, isUnfit, startsLate, isLate, indicesFall, entryIsBad, markIsBad, pickIsBad, codeIsBad, deriveRefusals, Derived, derivedBy, derive}
 use Rattle.transform.specs.Tests.{keptAll, Derivable}
@@ -88,9 +88,9 @@ module _ (like : Step → Step → Bool) (P : Step → Type 0) where
     by : List Step
     is : foldl (joined like) acc xs ≡ acc ++ by
     up : Up runs.indexOf b by
-    every : Every P by
+    every : All P by
 
-  grown : (acc xs : List Step) (b : ℕ) → Up runs.indexOf b xs → Every P xs → Grown acc xs b
+  grown : (acc xs : List Step) (b : ℕ) → Up runs.indexOf b xs → All P xs → Grown acc xs b
   unfolding joined
   grown acc [] b u p = record { by = []; is = sym (append-nil acc); up = tt; every = tt }
   grown acc (x ∷ xs) b u p = go (endsLike like acc x) refl (grown acc xs (x .index) (u .1) (p .1)) (grown (acc ++ (x ∷ [])) xs (x .index) (u .1) (p .1))
@@ -113,19 +113,15 @@ module _ (like : Step → Step → Bool) (P : Step → Type 0) where
 
 -- ---- an input's entries as it shows them
 
-pub every-at : {A : Type 0} (P : A → Type 0) (l : List A) (d : A) → ((i : ℕ) → i < length l → P (getD l i d)) → Every P l
-every-at P [] d f = tt
-every-at P (x ∷ l) d f = (f zero (omega arith), every-at P l d (λ i h. f (suc i) (omega arith)))
-
 -- shown of one of a record's entries
 pub record From (k : Kept) (s : Shown) : Type 0 where
   pub at : ℕ
   pub inside : at < length (k .indices)
   pub is : s ≡ shownBy (indexed k at)
 
-pub shown-from : (k : Kept) → Every (From k) (shownIn k)
+pub shown-from : (k : Kept) → All (From k) (shownIn k)
 shown-from k =
-    every-at (From k) (shownIn k) (shownBy (indexed k 0))
+    all-by (From k) (shownIn k) (shownBy (indexed k 0))
     (λ i h.
     let n : i < length (k .indices) = rw (length-map (entriesIn k) shownBy, entries-count k) at h in
     record { at = i; inside = n; is = List·getD-map shownBy (entriesIn k) i (indexed k 0) ∙ ap shownBy (entry-is k i (indexed k 0) n) })
@@ -149,9 +145,9 @@ NowFrom k none = ⊥
 NowFrom k (some s) = From k s
 
 abbrev Runs : Kept → Track → Type 0
-Runs k t = NowFrom k (t .now) × Every (From k) (t .next)
+Runs k t = NowFrom k (t .now) × All (From k) (t .next)
 
-moved-runs : (k : Kept) (i : ℕ) (n : Option Shown) (l : List Shown) → NowFrom k n → Every (From k) l → Runs k (moved i (record { now = n; next = l }))
+moved-runs : (k : Kept) (i : ℕ) (n : Option Shown) (l : List Shown) → NowFrom k n → All (From k) l → Runs k (moved i (record { now = n; next = l }))
 unfolding moved
 moved-runs k i n [] h p = (h, tt)
 moved-runs k i n (s ∷ l) h p = go (eqb (s .index) i)
@@ -175,7 +171,7 @@ shows-all (k ∷ ks) (t ∷ ts) e = (e .0 .0, shows-all ks ts (e .1))
 abbrev pub Shows : List Kept → Moment → Type 0
 Shows ks m = Each2 NowFrom ks (m .showing)
 
-moments-show : (ks : List Kept) (n : ℕ) (i : NextIndex) (ts : List Track) → Each2 Runs ks ts → Every (Shows ks) (momentsFrom n i ts)
+moments-show : (ks : List Kept) (n : ℕ) (i : NextIndex) (ts : List Track) → Each2 Runs ks ts → All (Shows ks) (momentsFrom n i ts)
 unfolding momentsFrom
 moments-show ks zero i ts r = tt
 moments-show ks (suc n) Absent ts r = tt
@@ -203,7 +199,7 @@ LeastOf i (At j) = i ≤ j
 abbrev NextLeast : ℕ → Track → Type 0
 NextLeast i t = LeastIn i (t .next)
 
-least-under : (ts : List Track) (i : ℕ) → LeastOf i (smallest ts) → Every (NextLeast i) ts
+least-under : (ts : List Track) (i : ℕ) → LeastOf i (smallest ts) → All (NextLeast i) ts
 unfolding smallest
 least-under [] i h = tt
 least-under (t ∷ ts) i h = let z = split (t .next) (smallest ts) h in (z .0, least-under ts i (z .1))
@@ -213,7 +209,7 @@ least-under (t ∷ ts) i h = let z = split (t .next) (smallest ts) h in (z .0, l
     split (s ∷ l) Absent h = (h, tt)
     split (s ∷ l) (At j) h = (omega arith, omega arith)
 
-bounded : (ts : List Track) (b : ℕ) → Every (NextUp b) ts → LeastOf b (smallest ts)
+bounded : (ts : List Track) (b : ℕ) → All (NextUp b) ts → LeastOf b (smallest ts)
 unfolding smallest
 bounded [] b u = tt
 bounded (t ∷ ts) b u = merge (t .next) (smallest ts) (u .0) (bounded ts b (u .1))
@@ -232,11 +228,11 @@ moved-up i b n (s ∷ l) u h = go (eqb (s .index) i)
     go true = up-from indexOf i (s .index) l h (u .1)
     go false = (h, u .1)
 
-ups : (ts : List Track) (i b : ℕ) → Every (NextUp b) ts → Every (NextLeast i) ts → Every (NextUp i) (map (moved i) ts)
+ups : (ts : List Track) (i b : ℕ) → All (NextUp b) ts → All (NextLeast i) ts → All (NextUp i) (map (moved i) ts)
 ups [] i b u h = tt
 ups (t ∷ ts) i b u h = (moved-up i b (t .now) (t .next) (u .0) (h .0), ups ts i b (u .1) (h .1))
 
-moments-up : (n : ℕ) (m : NextIndex) (ts : List Track) (b : ℕ) → smallest ts ≡ m → Every (NextUp b) ts → Up momentIndex b (momentsFrom n m ts)
+moments-up : (n : ℕ) (m : NextIndex) (ts : List Track) (b : ℕ) → smallest ts ≡ m → All (NextUp b) ts → Up momentIndex b (momentsFrom n m ts)
 unfolding momentsFrom
 moments-up zero m ts b e u = tt
 moments-up (suc n) Absent ts b e u = tt
@@ -257,7 +253,7 @@ head-zero k [] h = absurd (true≢false h)
 head-zero k (zero ∷ l) h = refl
 head-zero k (suc i ∷ l) h = absurd (true≢false h)
 
-moved-first : (k : Kept) (l : List ℕ) → isLate l ≡ false → Every (From k) (map shownBy (entriesFrom 0 k l)) → Runs k (moved 0 (unbegun (map shownBy (entriesFrom 0 k l))))
+moved-first : (k : Kept) (l : List ℕ) → isLate l ≡ false → All (From k) (map shownBy (entriesFrom 0 k l)) → Runs k (moved 0 (unbegun (map shownBy (entriesFrom 0 k l))))
 unfolding entriesFrom moved
 moved-first k [] h p = absurd (true≢false h)
 moved-first k (zero ∷ l) h p = (p .0, p .1)
@@ -269,7 +265,7 @@ start-runs [] h = tt
 start-runs (k ∷ ks) h =
     (moved-first k (k .indices) (or-left (startsLate k) (any startsLate ks) h) (shown-from k), start-runs ks (or-right (startsLate k) (any startsLate ks) h))
 
-start-up : (ks : List Kept) → any indicesFall ks ≡ false → Every (NextUp 0) (tracks ks)
+start-up : (ks : List Kept) → any indicesFall ks ≡ false → All (NextUp 0) (tracks ks)
 unfolding any
 start-up [] h = tt
 start-up (k ∷ ks) h =
@@ -381,11 +377,11 @@ set-under (o ∷ sh) zero = omega (arith, mark-join (setShown o) (largestShown s
 set-under (o ∷ sh) (suc j) = omega (arith, mark-join (setShown o) (largestShown sh), set-under sh j)
 
 record Whole (es : List Extract) (sh : List (Option Shown)) : Type 0 where
-  long : length (picked es sh) ≡ sum (map piece.widthOf es)
+  long : length (picked es sh) ≡ sum (map pieceWidth es)
   letters : Below 9 (picked es sh)
   below : Below (2 ^ bitsOf (largestShown sh)) (picked es sh)
 
-all-picked : (ks : List Kept) (sh : List (Option Shown)) → Each2 NowFrom ks sh → (es : List Extract) → Every (Fine ks) es → Whole es sh
+all-picked : (ks : List Kept) (sh : List (Option Shown)) → Each2 NowFrom ks sh → (es : List Extract) → All (Fine ks) es → Whole es sh
 unfolding picked sum
 all-picked ks sh r [] f = record { long = refl; letters = tt; below = tt }
 all-picked ks sh r (e ∷ es) f =
@@ -437,11 +433,11 @@ module _ (d : DerivedBitVecSignal) (count : ℕ) (ks : List Kept) (p : Passes d 
   abbrev es : List Extract
   es = piecesOf d
 
-  all-fine : Every (Fine ks) es
+  all-fine : All (Fine ks) es
   all-fine =
       let f = fit d count ks (p .fit) in
       let n = d .«input_count» in
-      every-at (Fine ks) es (extractOf 0)
+      all-by (Fine ks) es (extractOf 0)
       (λ i h.
       fine n ks (getD es i (extractOf 0)) (any-none (isBadPiece n) es ((sound d (f .sound)) .pieces) i (extractOf 0) h)
       (any-none (isBeyond ks) es (f .within) i (extractOf 0) h) (any-none (codeIsBad ks) es (p .coded) i (extractOf 0) h))
@@ -467,7 +463,7 @@ module _ (d : DerivedBitVecSignal) (count : ℕ) (ks : List Kept) (p : Passes d 
     some-input : 0 < length ks
     some-input = go es first-piece all-fine
       where
-        go : (l : List Extract) → 0 < length l → Every (Fine ks) l → 0 < length ks
+        go : (l : List Extract) → 0 < length l → All (Fine ks) l → 0 < length ks
         go [] h f = absurd (omega arith)
         go (e ∷ l) h f = omega (arith, f .0 .low)
 
@@ -478,7 +474,7 @@ module _ (d : DerivedBitVecSignal) (count : ℕ) (ks : List Kept) (p : Passes d 
         let s = sound d (f .sound) in
         rw (s .whole) (go es first-piece (s .pieces))
       where
-        go : (l : List Extract) → 0 < length l → any (isBadPiece (d .«input_count»)) l ≡ false → 1 ≤ sum (map piece.widthOf l)
+        go : (l : List Extract) → 0 < length l → any (isBadPiece (d .«input_count»)) l ≡ false → 1 ≤ sum (map pieceWidth l)
         go [] h b = absurd (omega arith)
         go (e ∷ l) h b = omega (arith, good-piece (d .«input_count») e (or-left (isBadPiece (d .«input_count») e) (any (isBadPiece (d .«input_count»)) l) b) .0)
 
@@ -489,7 +485,7 @@ record Listed (d : DerivedBitVecSignal) (ks : List Kept) : Type 0 where
   is : derivedList (piecesOf d) ks ≡ first ∷ rest
   begins : first .index ≡ 0
   up : Up runs.indexOf 0 (first ∷ rest)
-  every : Every (Sound (d .width) (largestAmong ks)) (first ∷ rest)
+  every : All (Sound (d .width) (largestAmong ks)) (first ∷ rest)
 
 listed : (d : DerivedBitVecSignal) (count : ℕ) (ks : List Kept) → Passes d count ks → Sized d → Listed d ks
 unfolding derivedList joined endsLike
@@ -505,7 +501,7 @@ listed d count (k ∷ ks) p z =
     let r = start-runs all (p .begun) in
     let v = ups (tracks all) 0 0 (start-up all (p .rising)) (least-under (tracks all) 0 (subst (LeastOf 0) (sym (start-zero k ks (p .begun))) none-below)) in
     let u = up-map runs.indexOf y 0 ms (moments-up (b .0) (smallest us) us 0 refl v) in
-    let q = every-map (Shows all) P y ms (step-sound d count all p) (moments-show all (b .0) (smallest us) us r) in
+    let q = all-map (Shows all) P y ms (step-sound d count all p) (moments-show all (b .0) (smallest us) us r) in
     let x = y (firstMoment all) in
     let g = grown sameStep P (x ∷ []) (map y ms) 0 u q in
     record {
@@ -519,7 +515,7 @@ listed d count (k ∷ ks) p z =
 
 module _ (d : DerivedBitVecSignal) (count : ℕ) (ks : List Kept) (p : Passes d count ks) (z : Sized d) where
   -- each step has as many letters as the derivation is wide, all of its own set, which is not above the largest
-  pub derived-sound : Every (Sound (d .width) (largestAmong ks)) (derivedList (piecesOf d) ks)
+  pub derived-sound : All (Sound (d .width) (largestAmong ks)) (derivedList (piecesOf d) ks)
   derived-sound = let l = listed d count ks p z in rw (l .is) (l .every)
 
   -- its indices don't fall
@@ -586,7 +582,7 @@ module _ (a : Accepted) where
   pub accepted-width : 1 ≤ a .derivation .width
   accepted-width = some-width (a .derivation) (a .inputs .count) ksOf accepted-passes (a .sized)
 
-  pub accepted-sound : Every (Sound (a .derivation .width) (largestAmong ksOf)) listOf
+  pub accepted-sound : All (Sound (a .derivation .width) (largestAmong ksOf)) listOf
   accepted-sound = derived-sound (a .derivation) (a .inputs .count) ksOf accepted-passes (a .sized)
 
   -- "After every accepted Derive the record is this list laid out"
@@ -625,7 +621,7 @@ demand-3-derived a b e =
     let at-b : recordOf b ≡ laidOut w N (listOf b) = derived-is-laid-out b ∙ ap (λ (n : ℕ). laidOut n N (listOf b)) (sym e) in (
       λ s.
           laid-same w (laws w (accepted-width a)) M N (listOf a) (listOf b) (accepted-sound a)
-          (subst (λ (n : ℕ). Every (Sound n N) (listOf b)) (sym e) (accepted-sound b))
+          (subst (λ (n : ℕ). All (Sound n N) (listOf b)) (sym e) (accepted-sound b))
           (rw (← derived-is-laid-out a, ← at-b) s),
       λ h. equal-same (recordOf a) (recordOf b) (derived-is-laid-out a ∙ ap₂ (laidOut w) (h .0) (h .1) ∙ sym at-b),
     )

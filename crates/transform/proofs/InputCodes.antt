@@ -7,14 +7,13 @@ use Prim.Native.Nat.{ℕ, zero, suc, _+_, _-_, _*_, _/_, _%_, _^_, _≤_, _<_, m
 use native.Mathlib.Omega.{arith}
 use borrow.Author.Tests.{le-ltb, ltb-true}
 use lib.Bits.{bitAnd, bitOr, and-le-l, and-le-r, and-mask, or-add-and}
-use lib.Dec.{eqb, ltb, leb, leb→le}
+use lib.Dec.{ltb, leb, leb→le}
 use lib.ListN.{length, getD}
 use Rattle.value.specs.declared.States.{States}
 use Rattle.value.specs.declared.States.the-variants.{Two, Four, Nine}
 use Rattle.value.specs.Digits.{digits, Below}
 use Rattle.value.specs.Slice.{part, any}
 use Rattle.value.specs.Level.{bitsOf, hasNoCode}
-use Rattle.value.specs.Answer.{levelAt}
 use Rattle.value.proofs.Classes.{each-byte}
 use Rattle.value.proofs.Tests.{to-T, and-right, by-eq}
 use Rattle.value.proofs.Levels.{none-foreign}
@@ -22,7 +21,7 @@ use Rattle.value.proofs.Slices.{part-length, part-at, part-all}
 use Rattle.value.proofs.Packed.{read}
 use Rattle.fst.specs.declared.Encoding.{Encoding}
 use Rattle.fst.specs.declared.Encoding.the-variants.{Event, Real, BitVector}
-use Rattle.fst.specs.Record.{Kept, keptIn, usedSize, widthStands}
+use Rattle.fst.specs.Record.{keptIn, usedSize, widthStands}
 use Rattle.fst.proofs.Records.{not-bad}
 use Rattle.signal.specs.Decode.{Indexed, entriesIn, levelsIn, hasBadCode, codesAt}
 use Rattle.signal.specs.Parts.{Levels}

@@ -248,10 +248,6 @@ module _ (inputs : Inputs) (full : length (inputs .slots) ≡ 8) where
       ∙ List·getD-map f (keptAll bytes indices inputs) s (inputKept bytes indices x)
       ∙ ap f (List·getD-map (inputKept bytes indices) (inputsOf inputs) s x ∙ ap (inputKept bytes indices) (input-at s x h))
 
--- what lies between a start and an end
-pub cut : (start n : ℕ) → start + n - start ≡ n
-cut start n = omega arith
-
 -- what stands for no input
 abbrev pub noInput : Input
 noInput = record { description = record { encoding = Event; count = 0 }; «byte_start» = 0; «index_start» = 0 }

@@ -2,7 +2,7 @@
 -- Assumes nothing.
 use mathlib.Core.Path.{_≡_, refl, sym, ap, ap₂, _∙_}
 use mathlib.Core.Bool.{Bool, true, false, cond, not, _&&_, _||_, true≢false}
-use mathlib.Core.List.{List, [], _∷_, _++_, map}
+use mathlib.Core.List.{List, [], _∷_, _++_, map, map-append}
 use Prim.Native.Nat.{ℕ, zero, suc, _+_, _-_, _≤_, _<_}
 use native.Mathlib.Nat.{zero-add}
 use native.Mathlib.Omega.{arith}
@@ -20,9 +20,9 @@ use Rattle.transform.specs.declared.DerivedBitVecSignal.{DerivedBitVecSi
 use Rattle.transform.specs.declared.InputNumber.the-variants.{At, Missing}
 use Rattle.transform.specs.declared.Side.{Side}
 use Rattle.transform.specs.declared.Side.the-variants.{Left, Right}
-use Rattle.transform.specs.Piece.{packedOf, extractOf, piecesOf, namesOf, widthOf, isBadDerivation, adjoin, merged, merging, pieceAdded, nameAdded, pieceOf, derivationWith, isBadRange, isOverfull, addPiece}
+use Rattle.transform.specs.Piece.{packedOf, extractOf, piecesOf, namesOf, pieceWidth, isBadDerivation, adjoin, merged, merging, pieceAdded, nameAdded, pieceOf, derivationWith, isBadRange, isOverfull, addPiece}
 use Rattle.transform.specs.Answer.{inputNumber, merges, hasNoRoom, Joining, Named, withPieces, withNames}
-use Rattle.transform.proofs.Pieces.{packed-all, place-le, name-known, name-new, map-append, sum-added, Sized, Sound, sound, refused-full, accepted}
+use Rattle.transform.proofs.Pieces.{packed-all, place-le, name-known, name-new, sum-added, Sized, Sound, sound, refused-full, accepted}
 
 -- ---- the number of a name
 
@@ -57,7 +57,7 @@ module _ (names : List ℕ) (name : ℕ) where
 
 -- ---- a piece and its neighbour
 
-width-le : (ps : List Extract) (i : ℕ) (z : Extract) → i < length ps → (getD ps i z) .width ≤ sum (map widthOf ps)
+width-le : (ps : List Extract) (i : ℕ) (z : Extract) → i < length ps → (getD ps i z) .width ≤ sum (map pieceWidth ps)
 unfolding sum
 width-le [] i z h = absurd (omega arith)
 width-le (p ∷ ps) zero z h = omega arith
@@ -138,7 +138,7 @@ module _ (l : List ℕ) (n : ℕ) (room : n ≤ length l) where
   pub piece-at : (i : ℕ) → i < n → getD packed i (extractOf 0) ≡ extractOf (getD l i 0)
   piece-at i h = List·getD-map extractOf (take n l) i 0 ∙ ap extractOf (getD-take n l i 0 h)
 
-  pub width-at : (i : ℕ) → i < n → (extractOf (getD l i 0)) .width ≤ sum (map widthOf packed)
+  pub width-at : (i : ℕ) → i < n → (extractOf (getD l i 0)) .width ≤ sum (map pieceWidth packed)
   width-at i h = rw (← piece-at i h) (width-le packed i (extractOf 0) (rw count-is h))
 
   last-piece : 0 < n → packed ≡ map extractOf (take (n - 1) l) ++ (extractOf (getD l (n - 1) 0) ∷ [])
@@ -212,7 +212,7 @@ module _ {d : DerivedBitVecSignal} {side : Side} {e : Extract} {m : Bool} (sized
       (record { width = d .width + e .width; «input_count» = d .«input_count»; inputs = d .inputs; «piece_count» = n; bits = l })
       (withPieces d (pieceAdded side e (piecesOf d)))
   piece-put n l count q =
-      let w : d .width + e .width ≡ sum (map widthOf (pieceAdded side e (piecesOf d))) = rw (sum-added side e (piecesOf d)) (omega (arith, j .whole)) in
+      let w : d .width + e .width ≡ sum (map pieceWidth (pieceAdded side e (piecesOf d))) = rw (sum-added side e (piecesOf d)) (omega (arith, j .whole)) in
       let z : n ≡ length (pieceAdded side e (piecesOf d)) =
       count ∙ ap (λ (b : Bool). cond b (d .«piece_count») (suc (d .«piece_count»))) (j .told)
       ∙ ap (λ (k : ℕ). cond (merges side e (piecesOf d)) k (suc k)) (sym (count-is (d .bits) (d .«piece_count») fitting))
@@ -286,7 +286,7 @@ module _ {d : DerivedBitVecSignal} {side : Side} {name msb lsb : ℕ} {e : Extra
   full-is =
       let n : length (namesOf d) ≡ d .«input_count» = length-take-le (d .«input_count») (d .inputs) (omega (arith, t .sized .names, s .named)) in
       let p : length (piecesOf d) ≡ d .«piece_count» = count-is (d .bits) (d .«piece_count») (omega (arith, t .sized .bits, s .few)) in
-      let w : d .width + e .width ≡ sum (map widthOf (pieceAdded side e (piecesOf d))) = rw (sum-added side e (piecesOf d)) (omega (arith, s .whole)) in
+      let w : d .width + e .width ≡ sum (map pieceWidth (pieceAdded side e (piecesOf d))) = rw (sum-added side e (piecesOf d)) (omega (arith, s .whole)) in
       let q : length (pieceAdded side e (piecesOf d)) ≡ cond m (d .«piece_count») (suc (d .«piece_count»)) =
       length-added side e (piecesOf d) ∙ ap₂ (λ (b : Bool) (k : ℕ). cond b k (suc k)) (sym (t .told)) p in
       let f : leb 8 (e .signal) ≡ ltb 8 (length (nameAdded name (namesOf d))) =

@@ -2,7 +2,7 @@
 -- Assumes nothing.
 use mathlib.Core.Path.{_≡_, refl, sym, ap, ap₂, _∙_}
 use mathlib.Core.Bool.{Bool, true, false, cond, not, _&&_, _||_, true≢false}
-use mathlib.Core.List.{List, [], _∷_, _++_, map}
+use mathlib.Core.List.{List, [], _∷_, _++_, map, map-append}
 use Prim.Native.Nat.{ℕ, suc, _+_, _-_, _*_, _/_, _%_, _^_, _≤_, _<_}
 use native.Mathlib.Omega.{arith}
 use borrow.Author.Tests.{ltb-false, leb-false, eqb-true, eqb-false, lt-ltb, le-ltb, lt-leb, eq-eqb, ne-eqb, not-false}
@@ -20,7 +20,7 @@ use Rattle.transform.specs.declared.Extract.{Extract}
 use Rattle.transform.specs.declared.DerivedBitVecSignal.{DerivedBitVecSignal}
 use Rattle.transform.specs.declared.Side.{Side}
 use Rattle.transform.specs.declared.Side.the-variants.{Left, Right}
-use Rattle.transform.specs.Piece.{packedOf, extractOf, endOf, piecesOf, namesOf, isBadPiece, widthOf, isBadDerivation, adjoin, merged, merging, pieceAdded, nameAdded, pieceOf, derivationWith, isBadRange, isOverfull, addPiece}
+use Rattle.transform.specs.Piece.{packedOf, extractOf, endOf, piecesOf, namesOf, isBadPiece, pieceWidth, isBadDerivation, adjoin, merged, merging, pieceAdded, nameAdded, pieceOf, derivationWith, isBadRange, isOverfull, addPiece}
 
 -- ---- packing
 
@@ -85,11 +85,11 @@ module _ (names : List ℕ) (name : ℕ) where
 
 -- ---- a piece added
 
-merged-width : (high low : Extract) → sum (map widthOf (merging high low)) ≡ high .width + low .width
+merged-width : (high low : Extract) → sum (map pieceWidth (merging high low)) ≡ high .width + low .width
 unfolding merging sum
 merged-width high low = go (adjoin high low)
   where
-    go : (b : Bool) → sum (map widthOf (cond b (merged high low ∷ []) (high ∷ low ∷ []))) ≡ high .width + low .width
+    go : (b : Bool) → sum (map pieceWidth (cond b (merged high low ∷ []) (high ∷ low ∷ []))) ≡ high .width + low .width
     go true = omega arith
     go false = omega arith
 
@@ -98,15 +98,11 @@ unfolding sum
 sum-append [] ys = omega arith
 sum-append (x ∷ xs) ys = omega (arith, sum-append xs ys)
 
-pub map-append : {A B : Type 0} (f : A → B) (xs ys : List A) → map f (xs ++ ys) ≡ map f xs ++ map f ys
-map-append f [] ys = refl
-map-append {A} {B} f (x ∷ xs) ys = ap (λ (l : List B). f x ∷ l) (map-append f xs ys)
-
-pub sum-added : (side : Side) (e : Extract) (ps : List Extract) → sum (map widthOf (pieceAdded side e ps)) ≡ sum (map widthOf ps) + e .width
+pub sum-added : (side : Side) (e : Extract) (ps : List Extract) → sum (map pieceWidth (pieceAdded side e ps)) ≡ sum (map pieceWidth ps) + e .width
 unfolding pieceAdded sum
 sum-added Left e [] = omega arith
 sum-added Right e [] = omega arith
-sum-added Left e (p ∷ ps) = rw (map-append widthOf (merging e p) ps, sum-append, merged-width) (omega arith)
+sum-added Left e (p ∷ ps) = rw (map-append pieceWidth (merging e p) ps, sum-append, merged-width) (omega arith)
 sum-added Right e (p ∷ []) = omega (arith, merged-width p e)
 sum-added Right e (p ∷ q ∷ ps) = omega (arith, sum-added Right e (q ∷ ps))
 
@@ -121,14 +117,14 @@ adjoined high low = go (eqb (high .signal) (low .signal))
     go false h = absurd (true≢false (sym h))
 
 pub not-full : (names : List ℕ) (pieces : List Extract) → isOverfull names pieces ≡ false
-    → (length names ≤ 8) × (length pieces ≤ 64) × (sum (map widthOf pieces) ≤ 4096)
+    → (length names ≤ 8) × (length pieces ≤ 64) × (sum (map pieceWidth pieces) ≤ 4096)
 unfolding isOverfull
 not-full names pieces h =
     let a = ltb 8 (length names) in
     let b = ltb 64 (length pieces) in
-    let w = ltb 4096 (sum (map widthOf pieces)) in
+    let w = ltb 4096 (sum (map pieceWidth pieces)) in
     let k = or-left (a || b) w h in
-    (ltb-false 8 (length names) (or-left a b k), ltb-false 64 (length pieces) (or-right a b k), ltb-false 4096 (sum (map widthOf pieces)) (or-right (a || b) w h))
+    (ltb-false 8 (length names) (or-left a b k), ltb-false 64 (length pieces) (or-right a b k), ltb-false 4096 (sum (map pieceWidth pieces)) (or-right (a || b) w h))
 
 module _ (inputs : ℕ) (e : Extract) where
   pub good-piece : isBadPiece inputs e ≡ false → (0 < e .width) × (e .signal < inputs) × (endOf e ≤ 4096)
@@ -155,7 +151,7 @@ pub record Sound (d : DerivedBitVecSignal) : Type 0 where
   pub few : d .«piece_count» ≤ 64
   pub named : d .«input_count» ≤ 8
   pub pieces : any (isBadPiece (d .«input_count»)) (piecesOf d) ≡ false
-  pub whole : d .width ≡ sum (map widthOf (piecesOf d))
+  pub whole : d .width ≡ sum (map pieceWidth (piecesOf d))
   pub narrow : d .width ≤ 4096
 
 module _ (d : DerivedBitVecSignal) where
@@ -165,7 +161,7 @@ module _ (d : DerivedBitVecSignal) where
       let a = ltb 64 (d .«piece_count») in
       let b = ltb 8 (d .«input_count») in
       let p = any (isBadPiece (d .«input_count»)) (piecesOf d) in
-      let w = eqb (d .width) (sum (map widthOf (piecesOf d))) in
+      let w = eqb (d .width) (sum (map pieceWidth (piecesOf d))) in
       let n = ltb 4096 (d .width) in
       let h1 = or-left (a || b || p || not w) n h in
       let h2 = or-left (a || b || p) (not w) h1 in
@@ -174,7 +170,7 @@ module _ (d : DerivedBitVecSignal) where
         few = ltb-false 64 (d .«piece_count») (or-left a b h3);
         named = ltb-false 8 (d .«input_count») (or-right a b h3);
         pieces = or-right (a || b) p h2;
-        whole = eqb-true (d .width) (sum (map widthOf (piecesOf d))) (not-false w (or-right (a || b || p) (not w) h1));
+        whole = eqb-true (d .width) (sum (map pieceWidth (piecesOf d))) (not-false w (or-right (a || b || p) (not w) h1));
         narrow = ltb-false 4096 (d .width) (or-right (a || b || p || not w) n h);
       }
 
@@ -185,7 +181,7 @@ module _ (d : DerivedBitVecSignal) where
         le-ltb 64 (d .«piece_count») (s .few),
         le-ltb 8 (d .«input_count») (s .named),
         s .pieces,
-        eq-eqb (d .width) (sum (map widthOf (piecesOf d))) (s .whole),
+        eq-eqb (d .width) (sum (map pieceWidth (piecesOf d))) (s .whole),
         le-ltb 4096 (d .width) (s .narrow),
       )
 

@@ -4,13 +4,12 @@ use mathlib.Core.Path.{_≡_, refl}
 use Prim.Native.Nat.{ℕ, _+_, _-_}
 use mathlib.Core.List.{List, [], _∷_, _++_, map}
 use lib.ListN.{length, replicate}
-use Rattle.value.specs.declared.States.the-variants.{Two, Four}
+use Rattle.value.specs.declared.States.the-variants.{Four}
 use Rattle.value.specs.Digits.{number, digits}
 use Rattle.value.specs.Slice.{part, overlay, same, any, sum}
-use Rattle.value.specs.Level.{placeIn, codeOf, letterOf, fold, setOf, leastOf, joinAll}
-use Rattle.fst.specs.declared.Encoding.the-variants.{Event, BitVector}
-use Rattle.fst.specs.declared.Description.{Description}
-use Rattle.fst.specs.Refusal.{Reply, refused, given, tried, Outcome}
+use Rattle.value.specs.Level.{placeIn, codeOf, letterOf, fold, setOf, joinAll}
+use Rattle.fst.specs.declared.Encoding.the-variants.{BitVector}
+use Rattle.fst.specs.Refusal.{refused, given, tried}
 use Rattle.layout.specs.Entry.{entrySize, entryOf, widenEntry, widenAll}
 use Rattle.fst.specs.Record.{Kept, keptIn, widthStands, fitsBytes, fits, isBad, fresh}
 use Rattle.fst.specs.Change.{isOtherKind, isOtherLength, isForeign, isBelowLast, repeats, appended, changed, refusals, Recorder, stored, addChange}
@@ -25,7 +24,7 @@ use Rattle.transform.specs.declared.Input.{Input}
 use Rattle.transform.specs.declared.Inputs.{Inputs}
 use Rattle.transform.specs.Piece.{packedOf, extractOf, isBadPiece, isBadDerivation, adjoin, merging, pieceAdded, nameAdded, derivationWith, isBadRange, isOverfull, addPiece, emptyDerivation, sliceOf}
 use Rattle.transform.specs.Steps.{smallest, moved, momentsFrom, momentsOf}
-use Rattle.transform.specs.Derive.{picked, largestShown, derivedList, largestAmong, isUnfit, deriveRefusals, Derived, derive}
+use Rattle.transform.specs.Derive.{picked, derivedList, isUnfit, deriveRefusals, Derived, derive}
 
 -- ---- row 12
 

@@ -1,20 +1,19 @@
 -- Loops over the inputs from the last to the first: what each turn keeps.
 -- Assumes nothing.
 use mathlib.Core.Path.{_≡_, refl, sym, ap, ap₂, _∙_}
-use mathlib.Core.Bool.{Bool, true, false, cond}
-use mathlib.Core.List.{List, [], _∷_, _++_, map}
-use Prim.Native.Nat.{ℕ, zero, suc, min, _+_, _-_, _*_, _≤_, _<_}
-use native.Mathlib.Numerals.{add-one}
+use mathlib.Core.List.{List, [], _∷_, map}
+use Prim.Native.Nat.{ℕ, zero, suc, min, _+_, _-_, _≤_, _<_}
 use native.Mathlib.Omega.{arith}
 use borrow.Author.Tests.{eq-eqb, ne-eqb}
-use lib.Dec.{eqb}
-use lib.ListN.{length, take, drop, getD, set, length-map, length-take, length-set, length-drop, drop-of-length-le}
-use lib.Seq.{length-take-le, drop-cons, getD-take, getD-drop, drop-set-lt, take-set-le, getD-set-same, take-take}
+use lib.ListN.{length, take, drop, getD, set, length-set, drop-of-length-le}
+use lib.Seq.{length-take-le, drop-cons, getD-take, drop-set-lt, take-set-le, getD-set-same, take-take}
 use Rattle.value.specs.declared.States.{States}
 use Rattle.value.specs.declared.States.the-variants.{Two}
 use Rattle.value.specs.Slice.{part}
 use Rattle.value.specs.Level.{join, joinAll}
 use Rattle.value.proofs.Slices.{part-length, part-at}
+use Rattle.runs.specs.All.{All}
+use Rattle.runs.proofs.All.{all-at}
 use Rattle.signal.specs.declared.NextIndex.{NextIndex}
 use Rattle.signal.specs.declared.NextIndex.the-variants.{Absent, At}
 use Rattle.signal.specs.Offset.{headOf}
@@ -24,7 +23,7 @@ use Rattle.transform.specs.declared.Input.{Input}
 use Rattle.transform.specs.declared.Inputs.{Inputs}
 use Rattle.transform.specs.Steps.{smaller}
 use Rattle.transform.specs.Derive.{inputsOf}
-use Rattle.transform.specs.Stepping.{All, Cursor, cursor, cursors, cursorsOf, Reaches, Indexable, nextIn, soonest, begunAt, advanced, setNow, largestNow, largestOver}
+use Rattle.transform.specs.Stepping.{Cursor, cursor, cursors, Reaches, nextIn, soonest, begunAt, advanced, setNow, largestNow, largestOver}
 
 -- ---- the smaller of two indices
 
@@ -35,11 +34,6 @@ pub smaller-left : (i j : ℕ) → i ≤ j → At i ≡ smaller (At i) (At j)
 smaller-left i j h = ap At (let e : i ≡ min i j = omega arith in e)
 
 -- ---- lists
-
-pub all-at : {A : Type 0} (P : A → Type 0) (l : List A) → All P l → (i : ℕ) (d : A) → i < length l → P (getD l i d)
-all-at P [] ps i d h = absurd (omega arith)
-all-at P (x ∷ l) ps zero d h = ps .0
-all-at P (x ∷ l) ps (suc i) d h = all-at P l (ps .1) i d (omega arith)
 
 pub cursor-in : (P : Cursor → Type 0) (is : List Input) (ks : List ℕ) → All P (cursors is ks) → (i : ℕ) (d : Input) → i < length is → i < length ks
     → P (cursor (getD is i d) (getD ks i 0))

@@ -1,6 +1,6 @@
 -- Derive by its room: where the derived list has none nothing is stored, and else the record is the list laid out.
 -- Assumes nothing.
-use mathlib.Core.Path.{_≡_, refl, sym, ap, ap₂, _∙_}
+use mathlib.Core.Path.{_≡_, sym, ap, _∙_}
 use mathlib.Core.Bool.{Bool, true, false, not}
 use mathlib.Core.List.{List, [], _∷_, map}
 use Prim.Native.Nat.{ℕ, _≤_}
@@ -12,13 +12,13 @@ use Rattle.value.specs.Slice.{overlay}
 use Rattle.fst.specs.declared.Encoding.the-variants.{BitVector}
 use Rattle.layout.specs.Entry.{entrySize}
 use Rattle.fst.specs.Record.{Kept, fits, fitsBytes}
-use Rattle.fst.specs.Refusal.{Reply, refused, given, Test, _⇐_, tried}
+use Rattle.fst.specs.Refusal.{Reply, refused, given, _⇐_, tried}
 use Rattle.runs.specs.Runs.{Step, indexOf, entriesOf, laidOut}
 use Rattle.fst.proofs.Records.{fits-room}
 use Rattle.transform.specs.declared.Inputs.{Inputs}
 use Rattle.transform.specs.declared.DerivedBitVecSignal.{DerivedBitVecSignal}
 use Rattle.transform.specs.Piece.{piecesOf}
-use Rattle.transform.specs.Derive.{Derived, derivedBy, derive, derivedList, derivedKept, largestAmong, lentOut, deriveRefusals}
+use Rattle.transform.specs.Derive.{Derived, derivedBy, derive, derivedList, derivedKept, largestAmong, lentOut}
 use Rattle.transform.specs.Tests.{keptAll, Derivable, firstTests}
 use Rattle.transform.specs.Stepping.{Roomy}
 use Rattle.transform.specs.Room.{roomFor}

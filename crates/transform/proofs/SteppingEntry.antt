@@ -2,7 +2,7 @@
 -- Assumes nothing.
 use mathlib.Core.Path.{_≡_, refl, sym, ap, ap₂, _∙_}
 use mathlib.Core.List.{List, [], _∷_, _++_, map, map-append}
-use Prim.Native.Nat.{ℕ, zero, suc, _+_, _-_, _*_, _^_, _≤_, _<_}
+use Prim.Native.Nat.{ℕ, zero, suc, _+_, _-_, _^_, _≤_, _<_}
 use native.Mathlib.Numerals.{add-one}
 use native.Mathlib.Omega.{arith}
 use lib.ListN.{length, take, drop, getD, length-map, length-append, drop-of-length-le}
@@ -17,13 +17,14 @@ use Rattle.value.proofs.Levels.{bits-up, codes-text, fold-text}
 use Rattle.value.proofs.Slices.{part-length, part-at, part-overlay, overlay-nil, overlay-overlay}
 use Rattle.layout.specs.Entry.{entrySize, entryOf}
 use Rattle.layout.specs.Writable.{Writable, entryFrom}
+use Rattle.runs.specs.All.{All}
 use Rattle.signal.specs.Decode.{codesAt}
 use Rattle.signal.proofs.Decoding.{codes-length}
 use Rattle.transform.specs.declared.Extract.{Extract}
 use Rattle.transform.specs.declared.Inputs.{Inputs}
-use Rattle.transform.specs.Piece.{endOf, extractOf, widthOf as pieceWidth}
+use Rattle.transform.specs.Piece.{endOf, extractOf, pieceWidth}
 use Rattle.transform.specs.Derive.{pickedOf}
-use Rattle.transform.specs.Stepping.{All, setNow, Cursor, cursor, cursorsOf, widthNow, levelsNow, shownBytes, pickedNow, Showing, Under, PieceIn, Picks, Pickable, Stepped}
+use Rattle.transform.specs.Stepping.{setNow, Cursor, cursor, cursorsOf, widthNow, levelsNow, shownBytes, pickedNow, Showing, Under, PieceIn, Picks, Pickable, Stepped}
 use Rattle.transform.proofs.Stepping.{all-map-at, count-is, shown-at, cursor-at}
 use Rattle.transform.proofs.InputTests.{noInput}
 use Rattle.transform.proofs.SteppingLevels.{levels-length, levels-below}

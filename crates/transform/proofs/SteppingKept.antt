@@ -12,14 +12,14 @@ use lib.Dec.{ltb}
 use lib.ListN.{length, take, set, replicate, length-map}
 use Rattle.value.specs.declared.States.{States}
 use Rattle.value.specs.Slice.{part, overlay, same}
-use Rattle.value.specs.Level.{markOf}
+use Rattle.value.specs.Level.{markOf, textOf}
 use Rattle.value.proofs.Slices.{part-overlay, overlay-nil, overlay-length, overlay-overlay, overlay-store}
 use Rattle.layout.specs.Entry.{entrySize, entryOf}
 use Rattle.layout.specs.Writable.{entryFrom}
 use Rattle.runs.specs.Runs.{Step, indexOf, endsLike, joined, entriesOf}
 use Rattle.layout.proofs.EntryLaws.{EntryLaws}
 use Rattle.layout.proofs.Entries.{laws}
-use Rattle.runs.proofs.Joined.{length-snoc}
+use Rattle.runs.proofs.Joined.{length-snoc, ends-snoc}
 use Rattle.runs.proofs.Laid.{entryFor, sameEntry, entries-snoc, entries-length}
 use Rattle.signal.specs.declared.NextIndex.{NextIndex}
 use Rattle.signal.specs.declared.NextIndex.the-variants.{Absent, At}
@@ -28,22 +28,23 @@ use Rattle.transform.specs.declared.DerivedBitVecSignal.{DerivedBitVecSi
 use Rattle.transform.specs.Piece.{extractOf, piecesOf}
 use Rattle.transform.specs.Derive.{derivedList, sameStep}
 use Rattle.transform.specs.Tests.{keptAll, Derivable}
-use Rattle.transform.specs.Stepping.{cursorsOf, soonest, advanced, largestNow, pickedNow, Stepped, Takeable, Taken, repeatsLast, lastAt, Appendable, Appended, Roomy, Stored}
+use Rattle.transform.specs.Stepping.{cursorsOf, soonest, advanced, largestNow, pickedNow, Pickable, Stepped, repeatsLast, lastAt, Appendable, Appended, Roomy, Stored}
 use Rattle.transform.proofs.Pieces.{Sized}
 use Rattle.transform.proofs.SteppingEntry.{pickable, front-long, writable, entry-told}
 use Rattle.transform.proofs.SteppingTracks.{tracks, toCome}
-use Rattle.transform.proofs.SteppingSources.{indexable, stepped, set-in, wide}
+use Rattle.transform.proofs.SteppingSources.{stepped, set-in, wide}
 use Rattle.transform.proofs.SteppingWalk.{M, stepAt, Walk, walk-start, walk-done, walk-on, on-begun, on-within, step-entry, dropped, added, come-fewer, walk-few}
-
-ends-last : {A : Type 0} (like : A → A → Bool) (l : List A) (s x : A) → endsLike like (l ++ (s ∷ [])) x ≡ like s x
-unfolding endsLike
-ends-last like [] s x = refl
-ends-last like (p ∷ []) s x = refl
-ends-last like (p ∷ q ∷ l) s x = ends-last like (q ∷ l) s x
 
 repeats-more : (n : ℕ) (last entry : List ℕ) → repeatsLast (n + 1) last entry ≡ same last entry
 unfolding repeatsLast
 repeats-more n last entry = rw (add-one n)
+
+-- the step at an index taken: where the inputs then stand, its set and its characters
+pub record Taken (inputs : Inputs) (bytes indices p packed : List ℕ) (index : ℕ) (text q : List ℕ) (S : States) (text′ : List ℕ) : Type 0 where
+  pub places : length q ≡ 8
+  pub on : cursorsOf inputs q ≡ map (advanced indices index) (cursorsOf inputs p)
+  pub set : S ≡ largestNow bytes (cursorsOf inputs q)
+  pub stored : text′ ≡ overlay text 0 (textOf (pickedNow bytes (cursorsOf inputs q) (map extractOf packed)))
 
 module _ (d : DerivedBitVecSignal) (inputs : Inputs) (bytes indices : List ℕ) where
   abbrev w : ℕ
@@ -59,20 +60,20 @@ module _ (d : DerivedBitVecSignal) (inputs : Inputs) (bytes indices : List ℕ) 
   steps = derivedList (piecesOf d) (keptAll bytes indices inputs)
 
   -- the steps so far are stored a stride apart: at the size of an entry they are a record's, at 0 the last one is there
-  pub record Writing (stride : ℕ) (outBytes outIndices p : List ℕ) (next : NextIndex) (count : ℕ) (nowBytes nowIndices : List ℕ) : Type 0 where
+  pub record Writing (stride : ℕ) (outBytes outIndices p : List ℕ) (count : ℕ) (nowBytes nowIndices : List ℕ) : Type 0 where
     pub kept : List Step
     pub left : ℕ
-    pub walk : Walk d inputs bytes indices p next kept left
+    pub walk : Walk d inputs bytes indices p (soonest indices (cursorsOf inputs p)) kept left
     pub counted : count ≡ length kept
     pub ended : (x : Step) → endsLike (sameEntry w N) kept x ≡ repeatsLast count (lastAt sz stride count nowBytes) (entryFor w N x)
     pub long : length nowBytes ≡ length outBytes
     pub stored : stride ≡ sz → nowBytes ≡ overlay outBytes 0 (entriesOf w N kept)
     pub indexed : length steps ≤ length outIndices → nowIndices ≡ overlay outIndices 0 (map indexOf kept)
 
-  pub writing-done : (stride : ℕ) (outBytes outIndices p : List ℕ) (next : NextIndex) (count : ℕ) (nowBytes nowIndices : List ℕ)
-      → Writing stride outBytes outIndices p next count nowBytes nowIndices → next ≡ Absent
+  pub writing-done : (stride : ℕ) (outBytes outIndices p : List ℕ) (count : ℕ) (nowBytes nowIndices : List ℕ)
+      → Writing stride outBytes outIndices p count nowBytes nowIndices → soonest indices (cursorsOf inputs p) ≡ Absent
       → (count ≡ length steps) × (stride ≡ sz → length steps ≤ length outIndices → Stored w N steps outBytes outIndices nowBytes nowIndices)
-  writing-done stride outBytes outIndices p next count nowBytes nowIndices C e =
+  writing-done stride outBytes outIndices p count nowBytes nowIndices C e =
       let z = walk-done d inputs bytes indices p (C .kept) (C .left) (subst (λ (n : NextIndex). Walk d inputs bytes indices p n (C .kept) (C .left)) e (C .walk)) in (
         C .counted ∙ ap length z,
         λ f g.
@@ -90,14 +91,13 @@ module _ (d : DerivedBitVecSignal) (inputs : Inputs) (bytes indices : List ℕ) 
   walk-as p next i kept left e W = subst (λ (n : NextIndex). Walk d inputs bytes indices p n kept left) e W
 
   module _ (D : Derivable d inputs bytes indices) (slots : length (inputs .slots) ≡ 8) (size : Sized d) where
-    pub writing-start : (stride : ℕ) (outBytes outIndices p : List ℕ) → p ≡ replicate 8 0 → (next : NextIndex) → next ≡ soonest indices (cursorsOf inputs p)
-        → Writing stride outBytes outIndices p next 0 outBytes outIndices
+    pub writing-start : (stride : ℕ) (outBytes outIndices p : List ℕ) → p ≡ replicate 8 0 → Writing stride outBytes outIndices p 0 outBytes outIndices
     unfolding entriesOf endsLike repeatsLast
-    writing-start stride outBytes outIndices p z next e =
+    writing-start stride outBytes outIndices p z =
         record {
           kept = [];
           left = _;
-          walk = walk-start d inputs bytes indices D slots size p z next e;
+          walk = walk-start d inputs bytes indices D slots size p z _ refl;
           counted = refl;
           ended = λ x. refl;
           long = refl;
@@ -115,19 +115,10 @@ module _ (d : DerivedBitVecSignal) (inputs : Inputs) (bytes indices : List ℕ) 
           let v = on-within d inputs bytes indices D slots size p i kept left W q places on in
           (stepped d inputs bytes indices D slots size q places b v, set-in d inputs bytes indices D slots size q places b v)
 
-      pub takeable : length p ≡ 8 → (room : ℕ) → w ≤ room → (ps : List ℕ) → ps ≡ packed → Takeable inputs bytes indices p ps room i
-      takeable places room h ps a =
-          rw a
-          (record {
-            indexed = indexable d inputs bytes indices D slots size;
-            places = places;
-            steps = λ q l on. pickable inputs bytes q packed (largestNow bytes (cursorsOf inputs q)) w (its-step q l on .0) room h;
-          })
+      pub pickable-on : (ps : List ℕ) → ps ≡ packed → (room : ℕ) → w ≤ room → (q : List ℕ) → length q ≡ 8 → cursorsOf inputs q ≡ map (advanced indices i) (cursorsOf inputs p) → Pickable inputs bytes q ps room
+      pickable-on ps is room h q places on = rw is (pickable inputs bytes q packed (largestNow bytes (cursorsOf inputs q)) w (its-step q places on .0) room h)
 
-      module _ (ps : List ℕ) (is : ps ≡ packed) (text q : List ℕ) (S : States) (text′ : List ℕ) (taken : Taken inputs bytes indices p ps i text q S text′) where
-        t : Taken inputs bytes indices p packed i text q S text′
-        t = rw is at taken
-
+      module _ (text q : List ℕ) (S : States) (text′ : List ℕ) (t : Taken inputs bytes indices p packed i text q S text′) where
         abbrev s : Step
         s = stepAt d inputs bytes indices i (cursorsOf inputs q)
 
@@ -158,8 +149,8 @@ module _ (d : DerivedBitVecSignal) (inputs : Inputs) (bytes indices : List ℕ) 
         pub fewer : toCome (tracks bytes indices (cursorsOf inputs q)) < toCome (tracks bytes indices (cursorsOf inputs p))
         fewer = come-fewer d inputs bytes indices D slots size p i kept left W q (t .places) (t .on)
 
-        on : (next : NextIndex) → next ≡ soonest indices (cursorsOf inputs q) → Walk d inputs bytes indices q next (joined sameStep kept s) (left - 1)
-        on = walk-on d inputs bytes indices D slots size p i kept left W q (t .places) (t .on)
+        on : Walk d inputs bytes indices q (soonest indices (cursorsOf inputs q)) (joined sameStep kept s) (left - 1)
+        on = walk-on d inputs bytes indices D slots size p i kept left W q (t .places) (t .on) _ refl
 
         drops : endsLike (sameEntry w N) kept s ≡ true → joined sameStep kept s ≡ kept
         drops = dropped d inputs bytes indices D slots size p i kept left W q (t .places) (t .on)
@@ -168,8 +159,8 @@ module _ (d : DerivedBitVecSignal) (inputs : Inputs) (bytes indices : List ℕ) 
         adds = added d inputs bytes indices D slots size p i kept left W q (t .places) (t .on)
 
         -- the walk goes on with what is kept then
-        on-with : (next : NextIndex) → next ≡ soonest indices (cursorsOf inputs q) → (new : List Step) → joined sameStep kept s ≡ new → Walk d inputs bytes indices q next new (left - 1)
-        on-with next e new j = subst (λ (l : List Step). Walk d inputs bytes indices q next l (left - 1)) j (on next e)
+        on-with : (new : List Step) → joined sameStep kept s ≡ new → Walk d inputs bytes indices q (soonest indices (cursorsOf inputs q)) new (left - 1)
+        on-with new j = subst (λ (l : List Step). Walk d inputs bytes indices q (soonest indices (cursorsOf inputs q)) l (left - 1)) j on
 
         -- ---- what is stored
 
@@ -191,7 +182,7 @@ module _ (d : DerivedBitVecSignal) (inputs : Inputs) (bytes indices : List ℕ) 
           new-few : again ≡ false → count < length steps
           new-few h =
               let j = adds (sym told ∙ h) in
-              let g : length (joined sameStep kept s) ≤ length steps = walk-few d inputs bytes indices q _ _ _ (on (soonest indices (cursorsOf inputs q)) refl) in
+              let g : length (joined sameStep kept s) ≤ length steps = walk-few d inputs bytes indices q _ _ _ on in
               omega (arith, c, ap length j, length-snoc kept s)
 
           appendable : Appendable N S value sz stride count nowBytes
@@ -213,15 +204,15 @@ module _ (d : DerivedBitVecSignal) (inputs : Inputs) (bytes indices : List ℕ) 
 
           module _ (b : stride ≡ sz → nowBytes ≡ overlay outBytes 0 (entriesOf w N kept)) (x : length steps ≤ length outIndices → nowIndices ≡ overlay outIndices 0 (map indexOf kept))
               (r : ℕ) (newBytes newIndices : List ℕ) (a : Appended entry sz stride count nowBytes r newBytes)
-              (y : newIndices ≡ cond (ltb count r) (set nowIndices count i) nowIndices) (next : NextIndex) (e : next ≡ soonest indices (cursorsOf inputs q)) where
-            dropped-on : again ≡ true → Writing stride outBytes outIndices q next r newBytes newIndices
+              (y : newIndices ≡ cond (ltb count r) (set nowIndices count i) nowIndices) where
+            dropped-on : again ≡ true → Writing stride outBytes outIndices q r newBytes newIndices
             dropped-on h =
                 let n : r ≡ count = a .counted ∙ rw h in
                 let m : newBytes ≡ nowBytes = a .stored ∙ rw h in
                 record {
                   kept = kept;
                   left = left - 1;
-                  walk = on-with next e kept (drops (sym told ∙ h));
+                  walk = on-with kept (drops (sym told ∙ h));
                   counted = n ∙ c;
                   ended = λ o. rw (n, m) (ends o);
                   long = ap length m ∙ long;
@@ -229,7 +220,7 @@ module _ (d : DerivedBitVecSignal) (inputs : Inputs) (bytes indices : List ℕ) 
                   indexed = λ g. y ∙ rw (n, le-ltb count count (omega arith)) (x g);
                 }
 
-            added-on : again ≡ false → Writing stride outBytes outIndices q next r newBytes newIndices
+            added-on : again ≡ false → Writing stride outBytes outIndices q r newBytes newIndices
             added-on h =
                 let n : r ≡ count + 1 = a .counted ∙ rw h in
                 let m : newBytes ≡ overlay nowBytes (count * stride) entry = a .stored ∙ rw h in
@@ -240,12 +231,12 @@ module _ (d : DerivedBitVecSignal) (inputs : Inputs) (bytes indices : List ℕ) 
                 record {
                   kept = kept ++ (s ∷ []);
                   left = left - 1;
-                  walk = on-with next e (kept ++ (s ∷ [])) (adds (sym told ∙ h));
+                  walk = on-with (kept ++ (s ∷ [])) (adds (sym told ∙ h));
                   counted = n ∙ rw length-snoc (omega arith);
                   ended =
                       λ o.
                       rw (n, m)
-                      (ends-last (sameEntry w N) kept s o
+                      (ends-snoc (sameEntry w N) kept s o
                       ∙ ap (λ (l : List ℕ). same l (entryFor w N o)) (sym (there ∙ entry-is))
                       ∙ sym (repeats-more count (lastAt sz stride (count + 1) (overlay nowBytes (count * stride) entry)) (entryFor w N o)));
                   long = ap length m ∙ overlay-length nowBytes entry (count * stride) (rw entry-long f) ∙ long;
@@ -267,9 +258,9 @@ module _ (d : DerivedBitVecSignal) (inputs : Inputs) (bytes indices : List ℕ) 
                       ∙ ap (overlay outIndices 0) (sym (map-append indexOf kept (s ∷ [])));
                 }
 
-            pub writing-on : Writing stride outBytes outIndices q next r newBytes newIndices
+            pub writing-on : Writing stride outBytes outIndices q r newBytes newIndices
             writing-on = go again refl
               where
-                go : (o : Bool) → again ≡ o → Writing stride outBytes outIndices q next r newBytes newIndices
+                go : (o : Bool) → again ≡ o → Writing stride outBytes outIndices q r newBytes newIndices
                 go true h = dropped-on h
                 go false h = added-on h

@@ -1,15 +1,14 @@
 -- What an input shows: its own set, the bytes of its levels, the levels that a piece picks.
 -- Assumes nothing.
-use mathlib.Core.Path.{_≡_, refl, sym, ap, ap₂, _∙_}
-use mathlib.Core.Bool.{Bool, true, false, cond}
-use mathlib.Core.List.{List, [], _∷_, _++_, map}
-use Prim.Native.Nat.{ℕ, zero, suc, _+_, _-_, _*_, _^_, _≤_, _<_}
+use mathlib.Core.Path.{_≡_, refl, sym, ap, _∙_}
+use mathlib.Core.Bool.{false}
+use mathlib.Core.List.{List}
+use Prim.Native.Nat.{ℕ, _-_, _^_, _≤_, _<_}
 use native.Mathlib.Omega.{arith}
 use borrow.Author.Tests.{ltb-false}
-use lib.Dec.{ltb}
-use lib.ListN.{length, take, drop, getD, length-map}
+use lib.ListN.{length, drop}
 use Rattle.value.specs.declared.States.{States}
-use Rattle.value.specs.Level.{markOf, bitsOf, lenOf, setAt, join}
+use Rattle.value.specs.Level.{markOf, bitsOf, lenOf, setAt}
 use Rattle.value.specs.Digits.{Below}
 use Rattle.value.proofs.Digits.{digits-length}
 use Rattle.value.proofs.Levels.{mark-set, mark-small}
@@ -17,7 +16,6 @@ use Rattle.signal.proofs.Decoding.{codes-below}
 use Rattle.fst.specs.Record.{largestIn}
 use Rattle.fst.specs.declared.Encoding.{Encoding}
 use Rattle.fst.specs.declared.Encoding.the-variants.{Event, Real, BitVector}
-use Rattle.signal.specs.declared.OwnStates.the-variants as own
 use Rattle.signal.specs.Decode.{markIn, setIn, levelPart, levelsIn, hasBadMark, codesAt}
 use Rattle.signal.specs.Read.{widthOf, hasNoText}
 use Rattle.signal.specs.Parts.{ownStates, Levels, Whole}

@@ -1,38 +1,36 @@
 -- What the tests of Derive before its room leave known of the inputs, of what they show and of the pieces.
 -- Assumes nothing.
-use mathlib.Core.Path.{_≡_, refl, sym, ap, ap₂, _∙_}
-use mathlib.Core.Bool.{Bool, true, false, _&&_, _||_}
-use mathlib.Core.List.{List, [], _∷_, _++_, map}
-use Prim.Native.Nat.{ℕ, zero, suc, min, max, _+_, _-_, _*_, _^_, _≤_, _<_}
+use mathlib.Core.Path.{_≡_, refl, sym, ap, _∙_}
+use mathlib.Core.Bool.{Bool, true, false}
+use mathlib.Core.List.{List, [], _∷_, map}
+use Prim.Native.Nat.{ℕ, min, _-_, _≤_, _<_}
 use native.Mathlib.Omega.{arith}
 use borrow.Author.Tests.{ltb-false}
-use lib.Dec.{ltb, leb}
-use lib.ListN.{length, take, drop, getD}
+use lib.ListN.{length, take, getD}
 use Rattle.value.specs.declared.States.{States}
-use Rattle.value.specs.declared.States.the-variants.{Two, Four, Nine}
-use Rattle.value.specs.Slice.{part, any, sum}
-use Rattle.value.specs.Level.{markOf, bitsOf, setAt, join, hasNoCode, joinAll}
+use Rattle.value.specs.Slice.{any, sum}
+use Rattle.value.specs.Level.{markOf, join, hasNoCode, joinAll}
 use Rattle.value.specs.Digits.{Below}
-use Rattle.value.proofs.Levels.{mark-join, mark-small, mark-set, all-below}
+use Rattle.value.proofs.Levels.{mark-join, all-below}
 use Rattle.value.proofs.Tests.{or-left, or-right, to-T, from-T, and-left}
 use Rattle.value.proofs.Digits.{below-append}
-use Rattle.fst.specs.declared.Encoding.{Encoding}
-use Rattle.fst.specs.declared.Encoding.the-variants.{Event, Real, BitVector}
-use Rattle.fst.specs.Record.{Kept, largestIn, keptIn, widthStands, fits, fitsBytes, isBadBytes}
+use Rattle.fst.specs.Record.{Kept, largestIn, keptIn, fits, fitsBytes, isBadBytes}
 use Rattle.fst.proofs.Records.{Fits, not-bad}
-use Rattle.signal.specs.Decode.{Indexed, entryAt, entriesIn, setIn, markIn, levelsIn, hasBadMark}
-use Rattle.signal.specs.Read.{widthOf, hasNoText}
+use Rattle.runs.specs.All.{All}
+use Rattle.runs.proofs.All.{all-of, all-both}
+use Rattle.signal.specs.Decode.{levelsIn, hasBadMark}
+use Rattle.signal.specs.Read.{hasNoText}
 use Rattle.signal.proofs.Reading.{inside, whole}
 use Rattle.transform.specs.declared.Input.{Input}
 use Rattle.transform.specs.declared.Inputs.{Inputs}
 use Rattle.transform.specs.declared.Extract.{Extract}
 use Rattle.transform.specs.declared.DerivedBitVecSignal.{DerivedBitVecSignal}
-use Rattle.transform.specs.Piece.{endOf, piecesOf, extractOf, isBadPiece, widthOf as pieceWidth}
-use Rattle.transform.specs.Derive.{inputsOf, inputKept, lentTo, isBadInput, isNoBitVector, isBeyond, isLate, startsLate, entryIsBad, markIsBad, pickedOf, pickIsBad, codeIsBad, largestAmong}
+use Rattle.transform.specs.Piece.{piecesOf, isBadPiece, pieceWidth}
+use Rattle.transform.specs.Derive.{inputsOf, inputKept, lentTo, isBadInput, isNoBitVector, isBeyond, startsLate, entryIsBad, markIsBad, pickedOf, pickIsBad, codeIsBad, largestAmong}
 use Rattle.transform.specs.Tests.{keptAll, Derivable}
-use Rattle.transform.specs.Stepping.{All, Cursor, cursor, cursors, cursorsOf, Vectors, Reaches, Indexable, shownBytes, setNow, levelsNow, widthNow, largestNow, largestOver, pickedNow, Showing, AllShowing, PieceIn, Under, Stepped}
+use Rattle.transform.specs.Stepping.{Cursor, cursor, cursors, cursorsOf, Vectors, Reaches, Indexable, shownBytes, setNow, levelsNow, widthNow, largestNow, largestOver, pickedNow, Showing, AllShowing, PieceIn, Under, Stepped}
 use Rattle.transform.proofs.Pieces.{Sized, Sound, sound, good-piece}
-use Rattle.transform.proofs.InputTests.{any-map, noInput, input-fits, indexed, entries-each, Fit, fit, beyond-told, code-told, pieces-count}
+use Rattle.transform.proofs.InputTests.{any-map, noInput, input-fits, entries-each, Fit, fit, beyond-told, code-told, pieces-count}
 use Rattle.transform.proofs.Stepping.{count-is, shown-at, cursor-at}
 use Rattle.transform.proofs.SteppingLevels.{mark-within}
 use Rattle.transform.proofs.SteppingTracks.{Shows, r-indices, bytes-told}
@@ -46,14 +44,6 @@ all-none test (x ∷ l) h = (or-left (test x) (any test l) h, all-none test l (o
 
 all-none-map : {A B : Type 0} (test : B → Bool) (f : A → B) (l : List A) → any test (map f l) ≡ false → All (λ x. test (f x) ≡ false) l
 all-none-map test f l h = all-none (λ x. test (f x)) l (sym (any-map test f l) ∙ h)
-
-pub all-both : {A : Type 0} (P Q R : A → Type 0) → ((x : A) → P x → Q x → R x) → (l : List A) → All P l → All Q l → All R l
-all-both P Q R f [] ps qs = tt
-all-both P Q R f (x ∷ l) ps qs = (f x (ps .0) (qs .0), all-both P Q R f l (ps .1) (qs .1))
-
-pub all-of : {A : Type 0} (P Q : A → Type 0) → ((x : A) → P x → Q x) → (l : List A) → All P l → All Q l
-all-of P Q f [] ps = tt
-all-of P Q f (x ∷ l) ps = (f x (ps .0), all-of P Q f l (ps .1))
 
 pub all-inputs : (P : Input → Type 0) (is : List Input) (ks : List ℕ) → All P is → All (λ c. P (c .input)) (cursors is ks)
 all-inputs P [] ks ps = tt

@@ -1,15 +1,15 @@
 -- The inputs as numbers: what is stored of each, and what is read of each.
 -- Assumes nothing.
 use mathlib.Core.Path.{_≡_, refl, sym, ap, _∙_}
-use mathlib.Core.Bool.{Bool, true, false}
-use mathlib.Core.List.{List, [], _∷_, map}
+use mathlib.Core.Bool.{false}
+use mathlib.Core.List.{List, map}
 use Prim.Native.Nat.{ℕ, zero, suc, _+_, _-_, _*_, _/_, _≤_, _<_}
 use native.Mathlib.Omega.{arith}
 use lib.ListN.{length, take, drop, getD, set, length-set}
 use lib.Seq.{getD-set-same, getD-set-other, getD-take, ext-getD, length-take-le}
 use Rattle.value.specs.declared.States.{States}
 use Rattle.value.specs.declared.States.the-variants.{Two}
-use Rattle.value.specs.Slice.{part, any}
+use Rattle.value.specs.Slice.{any}
 use Rattle.value.specs.Level.{markOf, setAt, lenOf}
 use Rattle.value.proofs.Levels.{set-mark}
 use Rattle.value.proofs.Tests.{by-eq}
@@ -23,9 +23,9 @@ use Rattle.transform.specs.declared.Input.{Input}
 use Rattle.transform.specs.declared.Inputs.{Inputs}
 use Rattle.transform.specs.declared.DerivedBitVecSignal.{DerivedBitVecSignal}
 use Rattle.transform.specs.Piece.{piecesOf}
-use Rattle.transform.specs.Derive.{inputsOf, inputKept, isBadInput, isUnfit, startsLate, indicesFall, markIsBad, codeIsBad, largestAmong}
+use Rattle.transform.specs.Derive.{inputKept, isBadInput, isUnfit, startsLate, indicesFall, markIsBad, codeIsBad, largestAmong}
 use Rattle.transform.specs.Tests.{keptAll, Derivable}
-use Rattle.transform.specs.Stepping.{Cursor, cursor, shownBytes, setNow, levelsNow, Showing, inputIn, inputsIn, entryIn, SizedAt, Tables, Tabled, TableOf, Walkable}
+use Rattle.transform.specs.Stepping.{Cursor, cursor, shownBytes, setNow, levelsNow, Showing, inputIn, inputsIn, entryIn, SizedAt, Tables, TableOf, Walkable}
 use Rattle.transform.proofs.InputTests.{noInput}
 use Rattle.transform.proofs.SteppingLevels.{marked, set-told, part-fits, part-told, levels-of}
 

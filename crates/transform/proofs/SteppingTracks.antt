@@ -1,7 +1,7 @@
 -- Cursors are the definition's tracks: what comes next, how they move, what they show, how much is to come.
 -- Assumes nothing.
-use mathlib.Core.Path.{_≡_, refl, sym, ap, ap₂, _∙_, subst}
-use mathlib.Core.Bool.{Bool, true, false, cond}
+use mathlib.Core.Path.{_≡_, refl, sym, ap, ap₂, _∙_}
+use mathlib.Core.Bool.{cond}
 use mathlib.Core.List.{List, [], _∷_, _++_, map}
 use mathlib.Core.Option.{Option, none, some}
 use mathlib.Core.Logic.{_⊎_, ⊎-elim, inl, inr}
@@ -11,9 +11,7 @@ use native.Mathlib.Numerals.{add-one}
 use native.Mathlib.Omega.{arith}
 use borrow.Author.Tests.{eq-eqb, ne-eqb}
 use lib.Dec.{eqb}
-use lib.ListN.{length, take, drop, getD, replicate, length-map, length-drop}
-use Rattle.value.specs.declared.States.{States}
-use Rattle.value.specs.declared.States.the-variants.{Two}
+use lib.ListN.{length, drop, getD, replicate}
 use Rattle.value.specs.Slice.{part, sum}
 use Rattle.value.specs.Level.{join, joinAll}
 use Rattle.value.proofs.Tests.{by-eq, by-le}
@@ -21,6 +19,7 @@ use Rattle.value.proofs.Slices.{part-length}
 use Rattle.fst.specs.Record.{Kept, keptIn, sizeOf, usedSize}
 use Rattle.fst.proofs.Records.{Fits}
 use Rattle.fst.proofs.LastEntry.{part-part}
+use Rattle.runs.specs.All.{All}
 use Rattle.signal.specs.declared.NextIndex.{NextIndex}
 use Rattle.signal.specs.declared.NextIndex.the-variants.{Absent, At}
 use Rattle.signal.specs.Offset.{headOf}
@@ -29,7 +28,7 @@ use Rattle.transform.specs.declared.Input.{Input}
 use Rattle.transform.specs.declared.Extract.{Extract}
 use Rattle.transform.specs.Steps.{Shown, shownBy, indexOf, Track, unbegun, nowOf, smaller, smallest, moved, countOf}
 use Rattle.transform.specs.Derive.{codesShown, setShown, picked, pickedOf, largestShown, shownIn, lentTo, inputKept}
-use Rattle.transform.specs.Stepping.{All, Cursor, cursor, cursors, Reaches, nextIn, soonest, begunAt, advanced, shownBytes, setNow, levelsNow, largestNow, pickedNow}
+use Rattle.transform.specs.Stepping.{Cursor, cursors, nextIn, soonest, begunAt, advanced, shownBytes, setNow, levelsNow, largestNow, pickedNow}
 use Rattle.transform.proofs.InputTests.{indexed, entries-count, entry-is}
 
 -- ---- lists

@@ -1,28 +1,29 @@
 -- A walk over the steps: what is kept so far and what the steps to come add make the derived list.
 -- Assumes nothing.
 use mathlib.Core.Path.{_≡_, refl, sym, ap, ap₂, _∙_, subst}
-use mathlib.Core.Bool.{Bool, true, false, cond, _&&_}
+use mathlib.Core.Bool.{Bool, true, false, cond}
 use mathlib.Core.List.{List, [], _∷_, _++_, map, foldl}
 use Prim.Native.Nat.{ℕ, zero, suc, min, _+_, _-_, _*_, _≤_, _<_}
 use native.Mathlib.Omega.{arith}
 use borrow.Author.Tests.{eq-eqb, ne-eqb}
 use lib.Dec.{T, eqb, eqb→eq, eqb-refl}
-use lib.ListN.{length, take, drop, getD, replicate, length-drop, length-map, length-append}
+use lib.ListN.{length, drop, replicate, length-drop, length-map, length-append}
 use lib.Seq.{length-take-le}
 use Rattle.value.specs.declared.States.{States}
 use Rattle.value.specs.Slice.{part, same, sum}
 use Rattle.value.specs.Level.{markOf, codesOf, textOf}
-use Rattle.value.specs.Digits.{Below}
 use Rattle.value.proofs.Levels.{mark-inj, codes-text}
 use Rattle.value.proofs.Tests.{and-left, and-right, and-both, both-ways, by-eq}
 use Rattle.value.proofs.Slices.{same-sound, same-refl, part-length}
-use Rattle.layout.specs.Entry.{entrySize, entryOf}
-use Rattle.fst.specs.Record.{Kept, keptIn, maximum}
+use Rattle.layout.specs.Entry.{entryOf}
+use Rattle.fst.specs.Record.{Kept, keptIn}
+use Rattle.runs.specs.All.{All}
 use Rattle.runs.specs.Runs.{Step, endsLike, joined}
+use Rattle.runs.proofs.All.{all-of, all-both, all-map}
 use Rattle.fst.proofs.Records.{Fits}
 use Rattle.layout.proofs.EntryLaws.{EntryLaws}
 use Rattle.layout.proofs.Entries.{laws}
-use Rattle.runs.proofs.Joined.{Every, every-snoc, length-snoc, joined-by, joined-grows}
+use Rattle.runs.proofs.Joined.{length-snoc, joined-all, joined-by, joined-grows}
 use Rattle.runs.proofs.Laid.{Sound, entryFor, sameEntry, entry-tells}
 use Rattle.signal.specs.declared.NextIndex.{NextIndex}
 use Rattle.signal.specs.declared.NextIndex.the-variants.{Absent, At}
@@ -30,19 +31,18 @@ use Rattle.signal.specs.Offset.{headOf}
 use Rattle.signal.specs.Decode.{entriesIn}
 use Rattle.transform.specs.declared.Input.{Input}
 use Rattle.transform.specs.declared.Inputs.{Inputs}
-use Rattle.transform.specs.declared.Extract.{Extract}
 use Rattle.transform.specs.declared.DerivedBitVecSignal.{DerivedBitVecSignal}
 use Rattle.transform.specs.Piece.{piecesOf}
-use Rattle.transform.specs.Steps.{Shown, shownBy, Track, unbegun, nowOf, smaller, smallest, moved, countOf, momentsFrom, momentsOf}
+use Rattle.transform.specs.Steps.{shownBy, Track, unbegun, nowOf, smaller, smallest, moved, momentsFrom, momentsOf}
 use Rattle.transform.specs.Derive.{inputsOf, inputKept, lentTo, isLate, yielded, sameStep, shownIn, derivedList, largestAmong}
 use Rattle.transform.specs.Tests.{keptAll, Derivable}
-use Rattle.transform.specs.Stepping.{All, Cursor, cursor, cursors, cursorsOf, Reaches, nextIn, soonest, begunAt, advanced, largestNow, pickedNow}
+use Rattle.transform.specs.Stepping.{Cursor, cursors, cursorsOf, Reaches, nextIn, soonest, begunAt, advanced, largestNow, pickedNow}
 use Rattle.transform.proofs.Pieces.{Sized}
 use Rattle.transform.proofs.InputTests.{input-fits, entries-count}
 use Rattle.transform.proofs.Stepping.{next-within, cursors-length}
 use Rattle.transform.proofs.SteppingEntry.{picked-all, picked-below}
 use Rattle.transform.proofs.SteppingTracks.{shownOf, tracks, tracks-start, soonest-told, moves-told, picked-told, largest-told, toCome, come-less}
-use Rattle.transform.proofs.SteppingSources.{Source, all-both, all-of, all-inputs, Begun, Within, few-inputs, sources, indexable, all-shows, set-in, stepped, letters, wide}
+use Rattle.transform.proofs.SteppingSources.{Source, all-inputs, Begun, Within, few-inputs, sources, indexable, all-shows, set-in, stepped, letters, wide}
 
 -- ---- two steps are alike just where their entries are
 
@@ -61,10 +61,6 @@ same-agree w L M a b x y =
     (subst (λ (n : ℕ). T (eqb (markOf (a .set)) n)) (ap markOf (z .0)) (eqb-refl (markOf (a .set)))))
 
 -- ---- cursors as they start and move on
-
-all-map : {A B : Type 0} (P : B → Type 0) (f : A → B) (l : List A) → All (λ x. P (f x)) l → All P (map f l)
-all-map P f [] ps = tt
-all-map P f (x ∷ l) ps = (ps .0, all-map P f l (ps .1))
 
 all-zero : (is : List Input) (n : ℕ) → All (λ c. c .begun ≡ 0) (cursors is (replicate n 0))
 all-zero [] n = tt
@@ -121,14 +117,6 @@ joined-length {A} like l x = go (endsLike like l x)
     go true = omega arith
     go false = omega (arith, length-snoc l x)
 
-joined-every : {A : Type 0} (P : A → Type 0) (like : A → A → Bool) (l : List A) (x : A) → Every P l → P x → Every P (joined like l x)
-unfolding joined
-joined-every {A} P like l x ps p = go (endsLike like l x)
-  where
-    go : (b : Bool) → Every P (cond b l (l ++ (x ∷ [])))
-    go true = ps
-    go false = every-snoc P l x ps p
-
 -- what is kept only grows
 pub fold-grows : {A : Type 0} (like : A → A → Bool) (l xs : List A) → length l ≤ length (foldl (joined like) l xs)
 fold-grows like l [] = omega arith
@@ -155,7 +143,7 @@ module _ (d : DerivedBitVecSignal) (inputs : Inputs) (bytes indices : List ℕ) 
     pub starts : (k : ℕ) → next ≡ At k → All (λ c. 1 ≤ begunAt k (c .begun) (nextIn indices c)) (cursorsOf inputs p)
     pub enough : toCome (tracks bytes indices (cursorsOf inputs p)) ≤ left
     pub rest : foldl (joined sameStep) kept (map (yielded (piecesOf d)) (momentsFrom left next (tracks bytes indices (cursorsOf inputs p)))) ≡ derivedList (piecesOf d) ks
-    pub sound : Every (Sound (d .width) M) kept
+    pub sound : All (Sound (d .width) M) kept
     pub bounded : length kept + toCome (tracks bytes indices (cursorsOf inputs p)) ≤ 8388608
 
   pub walk-few : (p : List ℕ) (next : NextIndex) (kept : List Step) (left : ℕ) → Walk p next kept left → length kept ≤ length (derivedList (piecesOf d) ks)
@@ -212,12 +200,12 @@ module _ (d : DerivedBitVecSignal) (inputs : Inputs) (bytes indices : List ℕ) 
       cs = cursorsOf inputs q
 
       pub on-begun : All Begun cs
-      on-begun = rw on (all-map Begun (advanced indices i) (cursorsOf inputs p) (W .starts i refl))
+      on-begun = rw on (all-map (λ c. Begun (advanced indices i c)) Begun (advanced indices i) (cursorsOf inputs p) (λ c b. b) (W .starts i refl))
 
       pub on-within : All Within cs
       on-within =
           rw on
-          (all-map Within (advanced indices i) (cursorsOf inputs p)
+          (all-map (λ c. Within (advanced indices i c)) Within (advanced indices i) (cursorsOf inputs p) (λ c w. w)
           (all-both (λ c. Reaches indices (c .input)) Within (λ c. Within (advanced indices i c)) (λ c r w. begun-within indices c r w i) (cursorsOf inputs p)
           (all-inputs (Reaches indices) (inputsOf inputs) p ((indexable d inputs bytes indices D slots size) .reach)) (W .within)))
 
@@ -285,7 +273,7 @@ module _ (d : DerivedBitVecSignal) (inputs : Inputs) (bytes indices : List ℕ) 
             starts = λ k h. all-of Begun (λ c. 1 ≤ begunAt k (c .begun) (nextIn indices c)) (λ c b. omega (arith, begun-grows k (c .begun) (nextIn indices c))) cs on-begun;
             enough = omega (arith, W .enough);
             rest = rest-on next e left (W .enough) (W .rest);
-            sound = joined-every (Sound (d .width) M) sameStep kept s (W .sound) step-sound;
+            sound = joined-all (Sound (d .width) M) sameStep kept s (W .sound) step-sound;
             bounded = omega (arith, W .bounded);
           }
 

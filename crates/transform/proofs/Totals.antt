@@ -1,21 +1,23 @@
 -- There are not more steps than entries of all inputs, so that room for these is room for the steps.
 -- Assumes nothing.
 use mathlib.Core.Path.{_≡_, refl, sym, ap, _∙_}
-use mathlib.Core.Bool.{Bool, true, false, _&&_}
+use mathlib.Core.Bool.{Bool, true, _&&_}
 use mathlib.Core.List.{List, [], _∷_, map, foldl}
 use Prim.Native.Nat.{ℕ, zero, suc, _+_, _*_, _≤_, _<_}
 use native.Mathlib.Nat.{mul-le-mul-right}
 use native.Mathlib.Omega.{arith}
 use borrow.Author.Tests.{le-leb}
 use lib.Dec.{leb, leb→le}
-use lib.ListN.{length, take, drop, getD, length-map, drop-of-length-le}
+use lib.ListN.{length, drop, getD, length-map, drop-of-length-le}
 use lib.Seq.{length-take-le, drop-cons, getD-take}
 use Rattle.value.specs.Slice.{sum}
 use Rattle.value.proofs.Tests.{to-T, and-left, and-right}
 use Rattle.value.proofs.Slices.{part-length}
 use Rattle.fst.specs.Record.{maximum, keptIn}
 use Rattle.fst.proofs.Records.{Fits}
+use Rattle.runs.specs.All.{All}
 use Rattle.runs.specs.Runs.{joined}
+use Rattle.runs.proofs.All.{all-of}
 use Rattle.signal.specs.declared.NextIndex.{NextIndex}
 use Rattle.signal.specs.declared.NextIndex.the-variants.{Absent, At}
 use Rattle.signal.specs.Decode.{entriesIn}
@@ -23,14 +25,13 @@ use Rattle.transform.specs.declared.Input.{Input}
 use Rattle.transform.specs.declared.Inputs.{Inputs}
 use Rattle.transform.specs.declared.DerivedBitVecSignal.{DerivedBitVecSignal}
 use Rattle.transform.specs.Piece.{piecesOf}
-use Rattle.transform.specs.Steps.{Shown, shownBy, Track, unbegun, countOf, smallest, moved, momentsFrom, momentsOf}
+use Rattle.transform.specs.Steps.{shownBy, Track, unbegun, countOf, smallest, moved, momentsFrom, momentsOf}
 use Rattle.transform.specs.Derive.{inputsOf, inputKept, lentTo, yielded, sameStep, shownIn, derivedList}
 use Rattle.transform.specs.Tests.{keptAll, Derivable}
-use Rattle.transform.specs.Stepping.{All}
 use Rattle.transform.specs.Room.{Few, totalOver, roomFor}
 use Rattle.transform.proofs.Pieces.{Sized}
 use Rattle.transform.proofs.InputTests.{noInput, input-fits, entries-count}
-use Rattle.transform.proofs.SteppingSources.{Source, all-of, sources}
+use Rattle.transform.proofs.SteppingSources.{Source, sources}
 use Rattle.transform.proofs.SteppingWalk.{joined-length}
 
 -- ---- the loop from the last input to the first

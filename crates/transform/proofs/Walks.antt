@@ -19,7 +19,7 @@ use Rattle.value.proofs.Slices.{overlay-nil, overlay-store}
 use Rattle.transform.specs.declared.Extract.{Extract}
 use Rattle.transform.specs.declared.DerivedBitVecSignal.{DerivedBitVecSignal}
 use Rattle.transform.specs.declared.InputNumber.the-variants.{At, Missing}
-use Rattle.transform.specs.Piece.{extractOf, piecesOf, widthOf, isBadPiece}
+use Rattle.transform.specs.Piece.{extractOf, piecesOf, pieceWidth, isBadPiece}
 use Rattle.transform.specs.Answer.{inputNumber}
 use Rattle.transform.proofs.DerivedBitVecSignal.{the-type}
 use Rattle.transform.proofs.Pieces.{Sized}
@@ -104,7 +104,7 @@ module _ (d : DerivedBitVecSignal) where
   bad = isBadPiece (d .«input_count»)
 
   abbrev wide : List Extract → ℕ
-  wide ps = sum (map widthOf ps)
+  wide ps = sum (map pieceWidth ps)
 
   pub record Passed (s i : ℕ) : Type 0 where
     pub fine : any bad (piecesOf d) ≡ any bad (drop i (piecesOf d))

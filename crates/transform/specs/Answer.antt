@@ -2,7 +2,7 @@
 -- Assumes nothing.
 use mathlib.Core.Path.{_≡_}
 use Prim.Native.Nat.{ℕ, _+_, _≤_, _<_}
-use mathlib.Core.Bool.{Bool, true, false, cond, not, _&&_, _||_}
+use mathlib.Core.Bool.{Bool, false, cond, not, _&&_, _||_}
 use mathlib.Core.List.{List, [], _∷_, map}
 use lib.Dec.{leb, ltb}
 use lib.ListN.{length}
@@ -18,7 +18,7 @@ use Rattle.transform.specs.declared.InputNumber.{InputNumber}
 use Rattle.transform.specs.declared.InputNumber.the-variants.{At, Missing}
 use Rattle.transform.specs.declared.Side.{Side}
 use Rattle.transform.specs.declared.Side.the-variants.{Left, Right}
-use Rattle.transform.specs.Piece.{maxInputs, maxPieces, packedOf, piecesOf, namesOf, widthOf, adjoin}
+use Rattle.transform.specs.Piece.{maxInputs, maxPieces, packedOf, piecesOf, namesOf, pieceWidth, adjoin}
 
 -- the number of a name among the names
 unfoldable pub inputNumber : List ℕ → ℕ → InputNumber
@@ -43,7 +43,7 @@ refusedBy refusal d = record { verdict = Refused refusal; next = d }
 -- a piece that joins a derivation, which then has no more than its share of pieces and width
 pub record Joining (side : Side) (d : DerivedBitVecSignal) (e : Extract) (merged : Bool) : Type 0 where
   pub few : d .«piece_count» ≤ maxPieces
-  pub whole : d .width ≡ sum (map widthOf (piecesOf d))
+  pub whole : d .width ≡ sum (map pieceWidth (piecesOf d))
   pub told : merged ≡ merges side e (piecesOf d)
   pub unmerged : merged ≡ false → d .«piece_count» < maxPieces
   pub narrow : d .width + e .width ≤ maxWidth
@@ -58,7 +58,7 @@ pub record Named (d : DerivedBitVecSignal) (number name : ℕ) : Type 0 where
 abbrev pub withPieces : DerivedBitVecSignal → List Extract → DerivedBitVecSignal
 withPieces d pieces =
     record {
-      width = sum (map widthOf pieces);
+      width = sum (map pieceWidth pieces);
       «input_count» = d .«input_count»;
       inputs = d .inputs;
       «piece_count» = length pieces;

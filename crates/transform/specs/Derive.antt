@@ -1,7 +1,7 @@
 -- Document 01, "A derived record", "Derive" and "Derived list".
 -- Assumes nothing.
 use Prim.Native.Nat.{ℕ, zero, suc, _-_}
-use mathlib.Core.Bool.{Bool, true, false, cond, not, _&&_, _||_}
+use mathlib.Core.Bool.{Bool, true, false, not, _&&_, _||_}
 use mathlib.Core.List.{List, [], _∷_, _++_, map, foldl}
 use mathlib.Core.Option.{Option, none, some}
 use lib.Dec.{eqb, ltb}
@@ -11,7 +11,7 @@ use Rattle.value.specs.declared.States.the-variants.{Two}
 use Rattle.value.specs.Slice.{part, overlay, same, any}
 use Rattle.value.specs.Level.{markOf, joinAll, textOf, hasNoCode}
 use Rattle.fst.specs.declared.Encoding.{Encoding}
-use Rattle.fst.specs.declared.Encoding.the-variants.{Event, Real, BitVector}
+use Rattle.fst.specs.declared.Encoding.the-variants.{Event}
 use Rattle.fst.specs.declared.Description.{Description}
 use Rattle.fst.specs.Refusal.{Reply, refused, given, Test, _⇐_, tried}
 use Rattle.fst.specs.Record.{Lent, Kept, largestIn, keptIn, fits, isBad}

@@ -44,8 +44,8 @@ namesOf d = take (d .«input_count») (d .inputs)
 unfoldable pub isBadPiece : ℕ → Extract → Bool
 isBadPiece inputs e = eqb (e .width) 0 || leb inputs (e .signal) || ltb maxWidth (endOf e)
 
-abbrev pub widthOf : Extract → ℕ
-widthOf e = e .width
+abbrev pub pieceWidth : Extract → ℕ
+pieceWidth e = e .width
 
 -- "14: a derivation with over 64 pieces or 8 inputs, a piece .., or a width that is not its pieces' sum or exceeds 4,096"
 unfoldable pub isBadDerivation : DerivedBitVecSignal → Bool
@@ -53,7 +53,7 @@ isBadDerivation d =
     ltb maxPieces (d .«piece_count»)
     || ltb maxInputs (d .«input_count»)
     || any (isBadPiece (d .«input_count»)) (piecesOf d)
-    || not (eqb (d .width) (sum (map widthOf (piecesOf d))))
+    || not (eqb (d .width) (sum (map pieceWidth (piecesOf d))))
     || ltb maxWidth (d .width)
 
 -- "merges with the neighbour when the input is the same and the bits adjoin": the higher piece ends where the lower one begins
@@ -85,7 +85,7 @@ pieceOf d name msb lsb = record { signal = placeIn (namesOf d) name; width = msb
 unfoldable pub derivationWith : DerivedBitVecSignal → List ℕ → List Extract → DerivedBitVecSignal
 derivationWith d names pieces =
     record {
-      width = sum (map widthOf pieces);
+      width = sum (map pieceWidth pieces);
       «input_count» = length names;
       inputs = overlay (d .inputs) 0 names;
       «piece_count» = length pieces;
@@ -99,7 +99,7 @@ isBadRange msb lsb = ltb msb lsb || leb maxWidth msb
 -- "13: a ninth input, an unmerged 65th piece, or a sum above 4,096"
 unfoldable pub isOverfull : List ℕ → List Extract → Bool
 isOverfull names pieces =
-    ltb maxInputs (length names) || ltb maxPieces (length pieces) || ltb maxWidth (sum (map widthOf pieces))
+    ltb maxInputs (length names) || ltb maxPieces (length pieces) || ltb maxWidth (sum (map pieceWidth pieces))
 
 unfoldable pub addPiece : DerivedBitVecSignal → Side → ℕ → ℕ → ℕ → Outcome DerivedBitVecSignal
 addPiece d side name msb lsb =

@@ -5,15 +5,16 @@ use Prim.Native.Nat.{ℕ, zero, suc, _+_, _-_, _*_, _≤_, _<_}
 use mathlib.Core.Bool.{Bool, false, cond}
 use mathlib.Core.List.{List, [], _∷_, _++_, map}
 use lib.Dec.{eqb}
-use lib.ListN.{length, drop, getD, set}
+use lib.ListN.{length, drop, getD}
 use Rattle.value.specs.declared.States.{States}
 use Rattle.value.specs.Digits.{Below}
 use Rattle.value.specs.Slice.{part, overlay, same, sum}
-use Rattle.value.specs.Level.{markOf, setAt, joinAll, textOf}
+use Rattle.value.specs.Level.{markOf, setAt, joinAll}
 use Rattle.layout.specs.Entry.{entrySize}
 use Rattle.layout.specs.Writable.{Writable, entryFrom}
 use Rattle.fst.specs.declared.Encoding.the-variants.{BitVector}
 use Rattle.fst.specs.Record.{largestIn, sizeOf}
+use Rattle.runs.specs.All.{All}
 use Rattle.runs.specs.Runs.{Step, indexOf, entriesOf}
 use Rattle.signal.specs.declared.NextIndex.{NextIndex}
 use Rattle.signal.specs.declared.NextIndex.the-variants.{Absent, At}
@@ -25,15 +26,10 @@ use Rattle.transform.specs.declared.Input.{Input}
 use Rattle.transform.specs.declared.Inputs.{Inputs}
 use Rattle.transform.specs.declared.Extract.{Extract}
 use Rattle.transform.specs.declared.DerivedBitVecSignal.{DerivedBitVecSignal}
-use Rattle.transform.specs.Piece.{extractOf, endOf, widthOf as pieceWidth}
+use Rattle.transform.specs.Piece.{extractOf, endOf, pieceWidth}
 use Rattle.transform.specs.Steps.{smaller}
 use Rattle.transform.specs.Derive.{inputsOf, pickedOf, largestAmong}
 use Rattle.transform.specs.Tests.{keptAll, Derivable}
-
--- each element of a list has a property
-abbrev pub All : {A : Type 0} → (A → Type 0) → List A → Type 0
-All P [] = Unit
-All P (x ∷ l) = P x × All P l
 
 -- an input of which so many entries have begun: it shows the last of them, and the others are to come
 pub record Cursor : Type 0 where
@@ -180,20 +176,7 @@ pub record Stepped (inputs : Inputs) (bytes p packed : List ℕ) (S : States) (w
   pub wide : 1 ≤ width
   pub narrow : width ≤ 4096
 
--- ---- a step taken, and kept unless it repeats the last
-
--- what taking the step at an index asks, wherever the inputs then stand
-pub record Takeable (inputs : Inputs) (bytes indices p packed : List ℕ) (room index : ℕ) : Type 0 where
-  pub indexed : Indexable inputs indices
-  pub places : length p ≡ 8
-  pub steps : (q : List ℕ) → length q ≡ 8 → cursorsOf inputs q ≡ map (advanced indices index) (cursorsOf inputs p) → Pickable inputs bytes q packed room
-
--- where it then stands, its set and its characters
-pub record Taken (inputs : Inputs) (bytes indices p packed : List ℕ) (index : ℕ) (text q : List ℕ) (S : States) (text′ : List ℕ) : Type 0 where
-  pub places : length q ≡ 8
-  pub on : cursorsOf inputs q ≡ map (advanced indices index) (cursorsOf inputs p)
-  pub set : S ≡ largestNow bytes (cursorsOf inputs q)
-  pub stored : text′ ≡ overlay text 0 (textOf (pickedNow bytes (cursorsOf inputs q) (map extractOf packed)))
+-- ---- a step kept unless it repeats the last
 
 -- does an entry repeat the last of so many
 unfoldable pub repeatsLast : ℕ → List ℕ → List ℕ → Bool

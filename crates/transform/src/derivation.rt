@@ -63,7 +63,7 @@ fn is_bad_range(msb: u32, lsb: u32) -> bool
 
 impl DerivedBitVecSignal {
     // The derivation of no piece.
-    pub fn empty() -> DerivedBitVecSignal
+    fn empty() -> DerivedBitVecSignal
         ensures { λ r. ⌜ r ≡ emptyDerivation ⌝ }
     {
         DerivedBitVecSignal {

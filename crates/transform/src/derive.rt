@@ -8,11 +8,12 @@ ghost use Rattle.layout.specs.Entry.{entrySize};
 ghost use Rattle.layout.specs.Writable.{Writable, Numbered, entryFrom};
 ghost use Rattle.fst.specs.declared.Encoding.the-variants.{BitVector};
 ghost use Rattle.fst.specs.Refusal.{given, madeOf};
+ghost use Rattle.runs.specs.All.{All};
 ghost use Rattle.transform.specs.Piece.{piecesOf};
 ghost use Rattle.transform.specs.Derive.{inputsOf, derivedList, Derived, derive};
 ghost use Rattle.transform.specs.Tests.{keptAll, Derivable};
 ghost use Rattle.transform.specs.Room.{Few, totalOver, roomFor};
-ghost use Rattle.transform.specs.Stepping.{All, Tabled, inputsIn, Takeable, Taken, repeatsLast, lastAt, Appendable, Appended, Walkable, Roomy, Stored, largestOver};
+ghost use Rattle.transform.specs.Stepping.{repeatsLast, lastAt, Appendable, Appended, Walkable, Roomy, Stored, largestOver};
 use crate::DerivedBitVecSignal;
 use crate::Inputs;
 use crate::steps::advance;
@@ -61,26 +62,6 @@ fn has_room(
         return false;
     }
     n <= indices - index_start
-}
-
-// Takes the step at an index: moves the inputs on, and stores the characters of what they then show. Returns their set.
-fn take_step(
-    pieces: &[u64],
-    count: u32,
-    numbers: &[u32],
-    starts: &[usize],
-    bytes: &[u8],
-    indices: &[u32],
-    begun: &mut [u32; 8],
-    index: u32,
-    text: &mut [u8],
-) -> States
-    requires { ⌜ Tabled count (now numbers) (now starts) × Takeable (inputsIn count (now numbers) (now starts)) (now bytes) (now indices) (now begun) (now pieces) (length (now text)) index ⌝ }
-    ensures { λ r. ⌜ Taken (inputsIn count (now (numbers .entry)) (now (starts .entry))) (now (bytes .entry)) (now (indices .entry)) (now (begun .entry)) (now (pieces .entry)) index (now (text .entry)) (now (begun .exit)) r (now (text .exit)) ⌝ }
-{
-    advance(count, numbers, starts, indices, begun, index);
-    write_pieces(pieces, count, numbers, starts, bytes, begun, text);
-    step_states(count, numbers, starts, bytes, begun)
 }
 
 // Whether a string repeats the last of so many entries that stand a stride apart.
@@ -170,30 +151,22 @@ fn write_steps(
     let table = table_of(inputs);
     let numbers = table.numbers;
     let starts = table.starts;
+    let n = inputs.count;
     let mut text = [0u8; 4096];
     let mut begun = [0u32; 8];
-    let mut next = next_index(inputs.count, &numbers, &starts, indices, &begun);
     let mut count: u32 = 0;
     loop {
+        let next = next_index(n, &numbers, &starts, indices, &begun);
         let NextIndex::At(index) = next else {
             return count;
         };
-        let states = take_step(
-            pieces,
-            inputs.count,
-            &numbers,
-            &starts,
-            bytes,
-            indices,
-            &mut begun,
-            index,
-            &mut text,
-        );
+        advance(n, &numbers, &starts, indices, &mut begun, index);
+        write_pieces(pieces, n, &numbers, &starts, bytes, &begun, &mut text);
+        let states = step_states(n, &numbers, &starts, bytes, &begun);
         let value = &text[..derivation.width as usize];
         let kept = append_step(count, max_states, states, value, size, stride, out_bytes);
         put_index(count, kept, index, out_indices);
         count = kept;
-        next = next_index(inputs.count, &numbers, &starts, indices, &begun);
     }
 }
 

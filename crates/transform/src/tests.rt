@@ -13,7 +13,7 @@ ghost use Rattle.signal.specs.Decode.{entriesIn, levelsIn, codesAt};
 ghost use Rattle.signal.specs.Parts.{Levels};
 ghost use Rattle.signal.specs.Read.{hasNoText};
 ghost use Rattle.transform.specs.Piece.{endOf, piecesOf};
-ghost use Rattle.transform.specs.Derive.{inputsOf, isBadInput, inputKept, startsLate, isLate, indicesFall, isUnfit, isBeyond, markIsBad, pickIsBad, pickedOf, codeIsBad};
+ghost use Rattle.transform.specs.Derive.{inputsOf, isBadInput, isLate, isUnfit, isBeyond, markIsBad, pickIsBad, pickedOf, codeIsBad};
 ghost use Rattle.transform.specs.Tests.{failsBy, isFirst, TwoCodes, Pickable, Picking, Numbered, Readable, keptWith, keptAll, firstTests, verdictReply};
 use crate::DerivedBitVecSignal;
 use crate::Extract;
@@ -47,7 +47,7 @@ fn used_slots(inputs: Inputs) -> usize
 }
 
 // The used bytes of an input that is not 2.
-pub fn used_part<'a>(input: Input, bytes: &'a [u8]) -> &'a [u8]
+fn used_part<'a>(input: Input, bytes: &'a [u8]) -> &'a [u8]
     requires { ⌜ input .«byte_start» + usedSize (input .description) ≤ length (now bytes) ⌝ }
     ensures { λ r. ⌜ now r ≡ part (input .«byte_start») (usedSize (input .description)) (now (bytes .entry)) ⌝ }
 {
@@ -59,7 +59,7 @@ pub fn used_part<'a>(input: Input, bytes: &'a [u8]) -> &'a [u8]
 }
 
 // Its used indices.
-pub fn used_indices<'a>(input: Input, indices: &'a [u32]) -> &'a [u32]
+fn used_indices<'a>(input: Input, indices: &'a [u32]) -> &'a [u32]
     requires { ⌜ input .«index_start» + input .description .count ≤ length (now indices) ⌝ }
     ensures { λ r. ⌜ now r ≡ part (input .«index_start») (input .description .count) (now (indices .entry)) ⌝ }
 {

@@ -12,7 +12,7 @@ use Rattle.transform.specs.declared.Input.{Input}
 use Rattle.transform.specs.declared.Inputs.{Inputs}
 use Rattle.transform.specs.Derive.{isBadInput, Derived, derive}
 use Rattle.yoksimert.specs.declared.Decoded.{Decoded}
-use Rattle.yoksimert.specs.declared.Decoded.the-variants.{Known, Unknown}
+use Rattle.yoksimert.specs.declared.Decoded.the-variants.{Unknown}
 use Rattle.yoksimert.specs.declared.FlatMade.{FlatMade}
 use Rattle.yoksimert.specs.declared.FlatInput.{FlatInput}
 use Rattle.yoksimert.specs.declared.FlatInputs.{FlatInputs}

@@ -1,9 +1,9 @@
 -- The exported operations, from what the operations on descriptions leave.
 -- Assumes nothing.
 use mathlib.Core.Path.{_≡_, refl, sym, ap, _∙_}
-use mathlib.Core.Bool.{Bool, true, false}
+use mathlib.Core.Bool.{Bool}
 use mathlib.Core.List.{List}
-use Prim.Native.Nat.{ℕ, suc, _+_, _*_, _-_, _≤_, _<_}
+use Prim.Native.Nat.{ℕ, suc, _+_, _*_, _-_}
 use lib.ListN.{length}
 use Rattle.value.specs.declared.States.{States}
 use Rattle.value.specs.Level.{markOf}
@@ -17,7 +17,7 @@ use Rattle.runs.proofs.Histories.{refused-unchanged}
 use Rattle.signal.specs.declared.Kind.{Kind}
 use Rattle.signal.specs.declared.EntryAnswer.{EntryAnswer}
 use Rattle.signal.specs.declared.EntryAnswer.the-variants as answer
-use Rattle.signal.specs.Read.{readEntry, entryOf, partOf, readText}
+use Rattle.signal.specs.Read.{readEntry, replyOf, partOf, readText}
 use Rattle.signal.specs.Compare.{compareRecords}
 use Rattle.yoksimert.specs.declared.FlatDescription.{FlatDescription}
 use Rattle.yoksimert.specs.declared.FlatAdded.{FlatAdded}
@@ -96,15 +96,15 @@ module _ (f : FlatDescription) (bytes : List ℕ) (start k : ℕ) where
   read-unknown h = rw h
 
   module _ (d : Description) (h : decoded f ≡ Known d) where
-    pub read-refused : (a : EntryAnswer) → entryOf a (partOf (readEntry d bytes start k)) ≡ readEntry d bytes start k → (x : Refusal) → a ≡ answer.Refused x
+    pub read-refused : (a : EntryAnswer) → replyOf a (partOf (readEntry d bytes start k)) ≡ readEntry d bytes start k → (x : Refusal) → a ≡ answer.Refused x
         → (n : ℕ) → n ≡ number x → noEntry n ≡ flatRead f bytes start k
     unfolding flatRead
     read-refused a e x q n p =
         let z = sizeOf (d .encoding) in
-        let r : refused (number x) ≡ readEntry d bytes start k = ap (λ (b : EntryAnswer). entryOf b (partOf (readEntry d bytes start k))) (sym q) ∙ e in
+        let r : refused (number x) ≡ readEntry d bytes start k = ap (λ (b : EntryAnswer). replyOf b (partOf (readEntry d bytes start k))) (sym q) ∙ e in
         rw (h, p) (ap (flatEntry (start + (k * z + z))) r)
 
-    pub read-known : (a : EntryAnswer) → entryOf a (partOf (readEntry d bytes start k)) ≡ readEntry d bytes start k
+    pub read-known : (a : EntryAnswer) → replyOf a (partOf (readEntry d bytes start k)) ≡ readEntry d bytes start k
         → (K : Kind) (S : States) → a ≡ answer.Entry K S → (m n size : ℕ) → m ≡ kindNumber K → n ≡ markOf S → size ≡ sizeOf (d .encoding)
         → (l : ℕ) → l ≡ length (partOf (readEntry d bytes start k))
         → _≡_ {A = FlatEntry} (record { number = 0; kind = m; set = n; start = start + (k * size + size) - l; length = l }) (flatRead f bytes start k)
@@ -112,5 +112,5 @@ module _ (f : FlatDescription) (bytes : List ℕ) (start k : ℕ) where
     read-known a e K S q m n size km sn zs l le =
         let z = sizeOf (d .encoding) in
         let r : given (record { kind = K; set = S; part = partOf (readEntry d bytes start k) }) ≡ readEntry d bytes start k =
-        ap (λ (b : EntryAnswer). entryOf b (partOf (readEntry d bytes start k))) (sym q) ∙ e in
+        ap (λ (b : EntryAnswer). replyOf b (partOf (readEntry d bytes start k))) (sym q) ∙ e in
         rw (h, km, sn, zs, le) (ap (flatEntry (start + (k * z + z))) r)

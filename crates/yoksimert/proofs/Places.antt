@@ -3,7 +3,7 @@
 use mathlib.Core.Path.{_≡_, refl, sym, ap, _∙_, subst}
 use mathlib.Core.Bool.{Bool, true, false, cond}
 use mathlib.Core.List.{List, [], _∷_}
-use Prim.Native.Nat.{ℕ, zero, suc, _+_, _-_, _*_, _≤_, _<_}
+use Prim.Native.Nat.{ℕ, _+_, _-_, _*_, _≤_, _<_}
 use native.Mathlib.Omega.{arith}
 use borrow.Author.Tests.{ltb-false}
 use lib.ListN.{length, drop, length-drop}
@@ -18,14 +18,14 @@ use Rattle.layout.proofs.EntryParts.{len-fits}
 use Rattle.fst.specs.declared.Encoding.{Encoding}
 use Rattle.fst.specs.declared.Encoding.the-variants.{Event, Real, BitVector}
 use Rattle.fst.specs.declared.Description.{Description}
-use Rattle.fst.specs.Refusal.{Reply, refused, given, _⇐_, tried}
+use Rattle.fst.specs.Refusal.{refused, given, _⇐_, tried}
 use Rattle.fst.specs.Record.{sizeOf, isBadBytes}
 use Rattle.signal.specs.declared.Kind.{Kind}
 use Rattle.signal.specs.declared.EntryAnswer.{EntryAnswer}
 use Rattle.signal.specs.declared.EntryAnswer.the-variants as answer
 use Rattle.signal.specs.Decode.{entryAt, markIn, setIn, levelPart, hasBadMark}
 use Rattle.signal.specs.Parts.{Inside, partIn}
-use Rattle.signal.specs.Read.{Entry, entryIn, readEntry, entryOf, partOf}
+use Rattle.signal.specs.Read.{Entry, entryIn, readEntry, replyOf, partOf}
 use Rattle.signal.proofs.Reading.{read-bad, read-past, readOn, read-on, inside, whole, part-on}
 use Rattle.yoksimert.specs.Flat.{levelLength, flatEntry}
 
@@ -100,11 +100,11 @@ module _ (d : Description) (bytes : List ℕ) (start k : ℕ) where
     pub short : length (partOf (readEntry d bytes start k)) ≤ sizeOf (d .encoding)
     pub own : levelLength (d .encoding) S ≡ length (partOf (readEntry d bytes start k))
 
-  pub placed : (a : EntryAnswer) → entryOf a (partOf (readEntry d bytes start k)) ≡ readEntry d bytes start k
+  pub placed : (a : EntryAnswer) → replyOf a (partOf (readEntry d bytes start k)) ≡ readEntry d bytes start k
       → (K : Kind) (S : States) → a ≡ answer.Entry K S → Placed S
   placed a e K S q =
       let p = partOf (readEntry d bytes start k) in
-      let r : given (record { kind = K; set = S; part = p }) ≡ readEntry d bytes start k = ap (λ (b : EntryAnswer). entryOf b p) (sym q) ∙ e in
+      let r : given (record { kind = K; set = S; part = p }) ≡ readEntry d bytes start k = ap (λ (b : EntryAnswer). replyOf b p) (sym q) ∙ e in
       let t = accepted _ r in
       let v = entryAt d start bytes k in
       record {

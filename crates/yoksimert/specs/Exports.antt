@@ -1,9 +1,7 @@
 -- What each exported operation does with any numbers: the operation's definition where they are a description, and else 2.
 -- Assumes nothing.
 use Prim.Native.Nat.{ℕ, _+_, _*_}
-use mathlib.Core.Bool.{Bool}
 use mathlib.Core.List.{List}
-use Rattle.fst.specs.declared.Description.{Description}
 use Rattle.fst.specs.Refusal.{Outcome, refused}
 use Rattle.fst.specs.Record.{Lent, Held, sizeOf}
 use Rattle.fst.specs.Change.{Change, Recorder, addChange}
@@ -51,12 +49,12 @@ readIn Unknown bytes start k = noEntry 2
 unfoldable pub flatRead : FlatDescription → List ℕ → ℕ → ℕ → FlatEntry
 flatRead f bytes start k = readIn (decoded f) bytes start k
 
-abbrev pub textIn : Decoded → List ℕ → ℕ → ℕ → List ℕ → Outcome (List ℕ)
-textIn (Known d) bytes start k out = readText d bytes start k out
-textIn Unknown bytes start k out = record { refused = 2; left = out }
+abbrev pub readTextIn : Decoded → List ℕ → ℕ → ℕ → List ℕ → Outcome (List ℕ)
+readTextIn (Known d) bytes start k out = readText d bytes start k out
+readTextIn Unknown bytes start k out = record { refused = 2; left = out }
 
 unfoldable pub flatText : FlatDescription → List ℕ → ℕ → ℕ → List ℕ → Outcome (List ℕ)
-flatText f bytes start k out = textIn (decoded f) bytes start k out
+flatText f bytes start k out = readTextIn (decoded f) bytes start k out
 
 abbrev pub comparedIn : Decoded → Lent → Decoded → Lent → FlatEqual
 comparedIn (Known d) l (Known e) m = flatEqual (compareRecords d l e m)

@@ -25,7 +25,7 @@ use value::States;
 
 // ---- numbers of enums
 
-pub fn wide(number: u8) -> u32
+fn wide(number: u8) -> u32
     ensures { λ r. ⌜ r ≡ number ⌝ }
 {
     number as u32

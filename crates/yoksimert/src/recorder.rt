@@ -42,7 +42,7 @@ fn left_of(added: Added) -> Recorded
     }
 }
 
-pub fn record_change(
+fn record_change(
     recorder: FlatDescription,
     bytes: &mut [u8],
     byte_start: usize,
@@ -63,7 +63,7 @@ pub fn record_change(
     left_of(known.add_change(bytes, byte_start, indices, index_start, index, value))
 }
 
-pub fn record_real(
+fn record_real(
     recorder: FlatDescription,
     bytes: &mut [u8],
     byte_start: usize,
@@ -84,7 +84,7 @@ pub fn record_real(
     left_of(known.add_real(bytes, byte_start, indices, index_start, index, bits))
 }
 
-pub fn record_fresh(recorder: FlatDescription, width: u32) -> FlatAdded
+fn record_fresh(recorder: FlatDescription, width: u32) -> FlatAdded
     ensures { λ r. ⌜ _≡_ {A = Outcome FlatDescription} (record { refused = r .number; left = r .next }) (flatFresh recorder width) ⌝ }
 {
     let made = fresh(width);
@@ -101,7 +101,7 @@ pub fn record_fresh(recorder: FlatDescription, width: u32) -> FlatAdded
 }
 
 // The old recorder is not looked at: Fresh of reals refuses nothing.
-pub fn record_fresh_real(_recorder: FlatDescription) -> FlatAdded
+fn record_fresh_real(_recorder: FlatDescription) -> FlatAdded
     ensures { λ r. ⌜ r ≡ record { number = 0; next = encoded freshReal } ⌝ }
 {
     FlatAdded {

@@ -3,10 +3,6 @@
 use borrow.Author.Needs.{needs}
 use Rattle.bench.proofs.bench_expand.Statement.{statement}
 use Rattle.bench.proofs.bench_expand.Tie as tie
-use Rattle.bench.proofs.bench_expand.Reads as reads
-use Rattle.bench.proofs.bench_expand.Lts as lts
-use Rattle.bench.proofs.states_of.Reads as states-of-reads
-use Rattle.layout.proofs.expand.expand_entries.Reads as expand-entries-reads
 
 -- src/lib.rt:40:33
 states-of-requires : tie.Need-states-of-requires

@@ -3,10 +3,6 @@
 use borrow.Author.Needs.{needs}
 use Rattle.bench.proofs.bench_pack.Statement.{statement}
 use Rattle.bench.proofs.bench_pack.Tie as tie
-use Rattle.bench.proofs.bench_pack.Reads as reads
-use Rattle.bench.proofs.bench_pack.Lts as lts
-use Rattle.bench.proofs.states_of.Reads as states-of-reads
-use Rattle.wavemem.proofs.write_n_state_from_ascii.Reads as write-n-state-from-ascii-reads
 
 -- src/lib.rt:33:39
 states-of-requires : tie.Need-states-of-requires

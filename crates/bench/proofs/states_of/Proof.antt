@@ -4,8 +4,6 @@ use borrow.Author.Needs.{needs}
 use Rattle.value.proofs.Levels.{set-rest}
 use Rattle.bench.proofs.states_of.Statement.{statement}
 use Rattle.bench.proofs.states_of.Tie as tie
-use Rattle.bench.proofs.states_of.Reads as reads
-use Rattle.bench.proofs.states_of.Lts as lts
 
 -- src/lib.rt:10:1
 returns : tie.Need-returns

@@ -5,8 +5,9 @@ use denote.Ref.{now}
 use lib.ListN.{length, take, drop}
 use native.Mathlib.Omega.{arith}
 use Prim.Native.Nat.{ℕ, _+_, _*_, _-_, _≤_}
+use native.Mathlib.Nat.{add-sub-cancel-left}
 use borrow.Author.Needs.{needs}
-use mathlib.Core.Path.{_≡_, ap, _∙_}
+use mathlib.Core.Path.{ap, _∙_}
 use Rattle.signal.specs.Decode.{entryAt}
 use Rattle.signal.proofs.read.entry_at.Statement.{statement}
 use Rattle.signal.proofs.read.entry_at.Tie as tie
@@ -14,9 +15,6 @@ use Rattle.signal.proofs.read.entry_at.Tie as tie
 -- the entry lies within the bytes
 placed : (c : tie.After-size-of) → c .before .before .args .byte-start + (c .before .before .args .entry * c .size-of .result + c .size-of .result) ≤ length (now (c .before .before .args .bytes))
 placed c = rw (c .size-of .ensures) (c .before .before .pre)
-
-cut : (a n : ℕ) → a + n - a ≡ n
-cut a n = omega arith
 
 size-of-requires : tie.Need-size-of-requires
 size-of-requires c κs = search needs
@@ -46,7 +44,7 @@ returns c =
     let a = b .before .before .args in
     let z = b .size-of .result in
     let at = a .byte-start + a .entry * z in
-    ap (λ (n : ℕ). take n (drop at (now (a .bytes)))) (cut at z) ∙ ap (λ (n : ℕ). take n (drop (a .byte-start + a .entry * n) (now (a .bytes)))) (b .size-of .ensures)
+    ap (λ (n : ℕ). take n (drop at (now (a .bytes)))) (add-sub-cancel-left at z) ∙ ap (λ (n : ℕ). take n (drop (a .byte-start + a .entry * n) (now (a .bytes)))) (b .size-of .ensures)
 
 pub entry-at-spec : {M : Type 1} → statement M
 entry-at-spec =

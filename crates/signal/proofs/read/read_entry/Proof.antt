@@ -3,7 +3,7 @@
 use Rattle.signal.specs.Parts.{answerIn}
 use mathlib.Core.Path.{_≡_, sym, ap, _∙_}
 use Rattle.signal.specs.Decode.{entryAt}
-use Rattle.signal.specs.Read.{entryOf, partOf}
+use Rattle.signal.specs.Read.{replyOf, partOf}
 use Rattle.signal.specs.declared.EntryAnswer.{EntryAnswer}
 use denote.Ref.{now}
 use Rattle.signal.proofs.Reading.{read-bad, read-past, read-on, inside, whole, answer-on, readOn}
@@ -45,7 +45,7 @@ returns-3 c =
     let v = entryAt (a .description) (a .byte-start) (now (a .bytes)) (a .entry) in
     let q : c .entry-answer .result ≡ answerIn e v = c .entry-answer .ensures ∙ ap (answerIn e) (c .before .entry-at .ensures) in
     rw (read-on (a .description) (now (a .bytes)) (a .byte-start) (a .entry) (sym (b .is-bad-bytes .ensures) ∙ c .before .before .before .before .if1 .left) (c .before .before .if2 .left))
-    (ap (λ (r : EntryAnswer). entryOf r (partOf (readOn e v))) q ∙ answer-on e v)
+    (ap (λ (r : EntryAnswer). replyOf r (partOf (readOn e v))) q ∙ answer-on e v)
 
 pub read-entry-spec : {M : Type 1} → statement M
 read-entry-spec =

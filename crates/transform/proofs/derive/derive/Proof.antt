@@ -1,6 +1,6 @@
 -- `transform::derive::derive` meets its contract.
 -- Assumes nothing.
-use mathlib.Core.Path.{_≡_, sym, ap, _∙_}
+use mathlib.Core.Path.{sym, ap, _∙_}
 use denote.Ref.{now}
 use Rattle.transform.specs.Tests.{verdictReply}
 use Rattle.transform.proofs.InputTestsInOrder.{derivable}

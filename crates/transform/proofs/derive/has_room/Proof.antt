@@ -5,8 +5,6 @@ use native.Mathlib.Nat.{mul-le-mul-left}
 use Rattle.transform.proofs.SteppingRoom.{many, past-bytes, past-indices, roomy}
 use Rattle.transform.proofs.derive.has_room.Statement.{statement}
 use Rattle.transform.proofs.derive.has_room.Tie as tie
-use Rattle.transform.proofs.derive.has_room.Reads as reads
-use Rattle.transform.proofs.derive.has_room.Lts as lts
 
 -- src/record.rt:63:9
 returns : tie.Need-returns

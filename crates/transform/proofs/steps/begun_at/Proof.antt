@@ -3,7 +3,7 @@
 use mathlib.Core.Path.{_≡_, sym, _∙_}
 use native.Mathlib.Omega.{arith}
 use denote.Ref.{now}
-use Rattle.signal.specs.declared.NextIndex.the-variants.{Absent, At}
+use Rattle.signal.specs.declared.NextIndex.the-variants.{At}
 use Rattle.transform.specs.Stepping.{cursor, nextIn}
 use Rattle.transform.proofs.Stepping.{begun-none, begun-on, begun-stays, next-within}
 use borrow.Author.Needs.{needs}

@@ -1,17 +1,14 @@
 -- `transform::steps::shown_entry` meets its contract.
 -- Assumes nothing.
-use mathlib.Core.Path.{_≡_, ap}
+use mathlib.Core.Path.{ap}
 use Prim.Native.Nat.{ℕ, _+_, _-_, _*_}
-use native.Mathlib.Omega.{arith}
+use native.Mathlib.Nat.{add-sub-cancel-left}
 use borrow.Author.Needs.{needs}
 use denote.Ref.{now}
 use lib.ListN.{take, drop, getD}
 use Rattle.value.specs.Slice.{part}
 use Rattle.transform.proofs.steps.shown_entry.Statement.{statement}
 use Rattle.transform.proofs.steps.shown_entry.Tie as tie
-
-cut : (a n : ℕ) → a + n - a ≡ n
-cut a n = omega arith
 
 add-size : tie.Need-add-size
 add-size c = search needs
@@ -58,7 +55,7 @@ returns c =
     let a = c .before .before .before .args in
     let size = getD (now (a .starts)) (16 + a .i) 0 in
     let at = getD (now (a .starts)) (a .i) 0 + (a .begun - 1) * size in
-    ap (λ (n : ℕ). take n (drop at (now (a .bytes)))) (cut at size)
+    ap (λ (n : ℕ). take n (drop at (now (a .bytes)))) (add-sub-cancel-left at size)
 
 pub shown-entry-spec : {M : Type 1} → statement M
 shown-entry-spec =

@@ -1,6 +1,6 @@
 -- `transform::steps::smaller` meets its contract.
 -- Assumes nothing.
-use mathlib.Core.Path.{_≡_, sym, ap₂, _∙_}
+use mathlib.Core.Path.{sym, ap₂, _∙_}
 use Rattle.transform.specs.Steps.{smaller}
 use Rattle.transform.proofs.Stepping.{smaller-right, smaller-left}
 use borrow.Author.Needs.{needs}

@@ -2,13 +2,12 @@
 -- Assumes nothing.
 use mathlib.Core.Path.{_≡_, ap, _∙_}
 use mathlib.Core.Bool.{false}
-use Prim.Native.Nat.{ℕ, _+_, _-_, _≤_, _<_}
+use Prim.Native.Nat.{ℕ, _-_, _≤_}
 use native.Mathlib.Omega.{arith}
 use borrow.Author.Needs.{needs}
-use lib.ListN.{length, length-replicate}
+use lib.ListN.{length-replicate}
 use Rattle.value.specs.Level.{markOf}
 use Rattle.signal.specs.Read.{hasNoText}
-use Rattle.transform.specs.Stepping.{Tabled}
 use Rattle.transform.proofs.InputTests.{slotted}
 use Rattle.transform.proofs.Stepping.{input-at}
 use Rattle.transform.proofs.SteppingTable.{Rows, rows-more, table-done}

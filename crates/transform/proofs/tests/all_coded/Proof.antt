@@ -1,7 +1,7 @@
 -- `transform::tests::all_coded` meets its contract: the inputs passed have no number that is no code.
 -- Assumes nothing.
-use mathlib.Core.Path.{_≡_, sym, _∙_}
-use mathlib.Core.Bool.{true, false, true≢false}
+use mathlib.Core.Path.{_≡_, sym}
+use mathlib.Core.Bool.{true≢false}
 use Prim.Native.Nat.{_-_, _≤_, _<_, min}
 use native.Mathlib.Omega.{arith}
 use borrow.Author.Needs.{needs}

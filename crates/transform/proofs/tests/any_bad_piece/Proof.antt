@@ -1,12 +1,13 @@
 -- `transform::tests::any_bad_piece` meets its contract.
 -- Assumes nothing.
 use mathlib.Core.Path.{_≡_, sym}
-use mathlib.Core.Bool.{false}
+use mathlib.Core.Bool.{Bool, true, false}
 use Prim.Native.Nat.{_-_, _≤_, _<_, min}
 use native.Mathlib.Omega.{arith}
 use borrow.Author.Needs.{needs}
 use denote.Ref.{now}
-use lib.ListN.{getD}
+use lib.ListN.{length, getD}
+use Rattle.transform.specs.declared.Extract.{Extract}
 use Rattle.transform.specs.Piece.{piecesOf, isBadDerivation}
 use Rattle.transform.specs.Derive.{codeIsBad}
 use Rattle.transform.specs.Tests.{keptAll}
@@ -30,17 +31,37 @@ few t =
     let s = t .before .before .before .before in
     piece-low (s .args .t1) ((sized (s .args .t1) _ (s .good .0)) .bits) (good s) (t .before .loop .i) (t .loop-test .taken)
 
--- the piece's input is one of those that are used
-low : (f : tie.After-from-u64 Inv-loop μ-loop) → f .from-u64 .result .signal < min (f .before .before .before .before .before .before .args .t2 .count) 8
-low f =
-    let t = f .before .before in
-    let l = t .before in
-    let s = l .before .before .before in
-    let a = s .args in
-    let e = f .from-u64 .result in
-    let bits = (sized (a .t1) _ (s .good .0)) .bits in
-    let full = slotted (a .t2) _ (s .good .1 .0) in
-    signal-low (a .t1) (a .t2) (now (a .bytes)) (now (a .indices)) bits full (s .pre) (l .loop .i) (t .loop-test .taken) e (f .from-u64 .ensures)
+-- the piece at hand
+module _ (f : tie.After-from-u64 Inv-loop μ-loop) where
+  abbrev l : tie.At-loop Inv-loop μ-loop
+  l = f .before .before .before
+
+  abbrev start : tie.Start Inv-loop μ-loop
+  start = l .before .before .before
+
+  bits : length (start .args .t1 .bits) ≡ 64
+  bits = (sized (start .args .t1) _ (start .good .0)) .bits
+
+  full : length (start .args .t2 .slots) ≡ 8
+  full = slotted (start .args .t2) _ (start .good .1 .0)
+
+  -- its input is one of those that are used
+  low : f .from-u64 .result .signal < min (start .args .t2 .count) 8
+  low = signal-low (start .args .t1) (start .args .t2) (now (start .args .bytes)) (now (start .args .indices)) bits full (start .pre) (l .loop .i) (f .before .before .loop-test .taken) (f .from-u64 .result) (f .from-u64 .ensures)
+
+  abbrev test : Extract → Bool
+  test = codeIsBad (keptAll (now (start .args .bytes)) (now (start .args .indices)) (start .args .t2))
+
+-- what its input's entries say of it
+module _ (b : tie.After-any-bad-pick Inv-loop μ-loop) where
+  abbrev f : tie.After-from-u64 Inv-loop μ-loop
+  f = b .before .before .before .before .before
+
+  told : (r : Bool) → b .any-bad-pick .result ≡ r → test f (f .from-u64 .result) ≡ r
+  told r =
+      let s = start f in
+      picks-told (s .args .t1) (s .args .t2) (now (s .args .bytes)) (now (s .args .indices)) (bits f) (full f) (s .pre) (l f .loop .i) (f .before .before .loop-test .taken) (f .from-u64 .result) (f .from-u64 .ensures)
+      _ r _ (b .before .used-part .ensures) (b .any-bad-pick .ensures)
 
 cast-count : tie.Need-cast-count Inv-loop μ-loop
 cast-count c = search needs
@@ -71,42 +92,20 @@ element-copy-out-input c = omega (arith, low (c .before))
 used-part-requires : tie.Need-used-part-requires Inv-loop μ-loop
 used-part-requires c κs =
     let f = c .before .before .before in
-    let t = f .before .before in
-    let l = t .before in
-    let s = l .before .before .before in
-    let a = s .args in
-    let e = f .from-u64 .result in
-    let bits = (sized (a .t1) _ (s .good .0)) .bits in
-    let full = slotted (a .t2) _ (s .good .1 .0) in
-    let g = input-good (a .t1) (a .t2) (now (a .bytes)) (now (a .indices)) bits full (s .pre) (l .loop .i) (t .loop-test .taken) e (f .from-u64 .ensures) in
-    input-fits (now (a .bytes)) (now (a .indices)) (getD (a .t2 .slots) (e .signal) noInput) g .bytes
+    let a = start f .args in
+    input-fits (now (a .bytes)) (now (a .indices)) (getD (a .t2 .slots) (f .from-u64 .result .signal) noInput)
+    (input-good (a .t1) (a .t2) (now (a .bytes)) (now (a .indices)) (bits f) (full f) (start f .pre) (l f .loop .i) (f .before .before .loop-test .taken) (f .from-u64 .result) (f .from-u64 .ensures)) .bytes
 
 any-bad-pick-requires : tie.Need-any-bad-pick-requires Inv-loop μ-loop
 any-bad-pick-requires c κs =
     let f = c .before .before .before .before in
-    let t = f .before .before in
-    let l = t .before in
-    let s = l .before .before .before in
-    let a = s .args in
-    let e = f .from-u64 .result in
-    let bits = (sized (a .t1) _ (s .good .0)) .bits in
-    let full = slotted (a .t2) _ (s .good .1 .0) in
-    rw (c .used-part .ensures) (picking (a .t1) (a .t2) (now (a .bytes)) (now (a .indices)) bits full (s .pre) (l .loop .i) (t .loop-test .taken) e (f .from-u64 .ensures))
+    let a = start f .args in
+    rw (c .used-part .ensures) (picking (a .t1) (a .t2) (now (a .bytes)) (now (a .indices)) (bits f) (full f) (start f .pre) (l f .loop .i) (f .before .before .loop-test .taken) (f .from-u64 .result) (f .from-u64 .ensures))
 
 returns : tie.Need-returns Inv-loop μ-loop
 returns c =
-    let b = c .before in
-    let u = b .before in
-    let f = u .before .before .before .before in
-    let t = f .before .before in
-    let l = t .before in
-    let s = l .before .before .before in
-    let a = s .args in
-    let e = f .from-u64 .result in
-    let bits = (sized (a .t1) _ (s .good .0)) .bits in
-    let full = slotted (a .t2) _ (s .good .1 .0) in
-    let k = picks-told (a .t1) (a .t2) (now (a .bytes)) (now (a .indices)) bits full (s .pre) (l .loop .i) (t .loop-test .taken) e (f .from-u64 .ensures) _ _ _ (u .used-part .ensures) (b .any-bad-pick .ensures) (c .if1 .taken) in
-    sym (piece-one (a .t1) bits (good s) (l .loop .i) (t .loop-test .taken) e (f .from-u64 .ensures) (codeIsBad (keptAll (now (a .bytes)) (now (a .indices)) (a .t2))) k)
+    let p = f (c .before) in
+    sym (piece-one (start p .args .t1) (bits p) (good (start p)) (l p .loop .i) (p .before .before .loop-test .taken) (p .from-u64 .result) (p .from-u64 .ensures) (test p) (told (c .before) true (c .if1 .taken)))
 
 add-i : tie.Need-add-i Inv-loop μ-loop
 add-i c = omega arith
@@ -116,18 +115,11 @@ loop-less c = omega arith
 
 loop-again : tie.Need-loop-again Inv-loop μ-loop
 loop-again c =
-    let b = c .before in
-    let u = b .before in
-    let f = u .before .before .before .before in
-    let t = f .before .before in
-    let l = t .before in
-    let s = l .before .before .before in
-    let a = s .args in
-    let e = f .from-u64 .result in
-    let bits = (sized (a .t1) _ (s .good .0)) .bits in
-    let full = slotted (a .t2) _ (s .good .1 .0) in
-    let k = picks-told (a .t1) (a .t2) (now (a .bytes)) (now (a .indices)) bits full (s .pre) (l .loop .i) (t .loop-test .taken) e (f .from-u64 .ensures) _ _ _ (u .used-part .ensures) (b .any-bad-pick .ensures) (c .if1 .left) in
-    (omega arith, piece-more (a .t1) bits (good s) (l .loop .i) (t .loop-test .taken) e (f .from-u64 .ensures) (codeIsBad (keptAll (now (a .bytes)) (now (a .indices)) (a .t2))) k (l .loop .inv .1))
+    let p = f (c .before) in (
+      omega arith,
+      piece-more (start p .args .t1) (bits p) (good (start p)) (l p .loop .i) (p .before .before .loop-test .taken) (p .from-u64 .result) (p .from-u64 .ensures) (test p) (told (c .before) false (c .if1 .left))
+          (l p .loop .inv .1),
+    )
 
 returns-2 : tie.Need-returns-2 Inv-loop μ-loop
 returns-2 c =

@@ -2,10 +2,10 @@
 -- Assumes nothing.
 use mathlib.Core.Path.{ap}
 use Prim.Native.Nat.{ℕ}
+use native.Mathlib.Nat.{add-sub-cancel-left}
 use borrow.Author.Needs.{needs}
 use denote.Ref.{now}
 use Rattle.value.specs.Slice.{part}
-use Rattle.transform.proofs.InputTests.{cut}
 use Rattle.transform.proofs.tests.used_indices.Statement.{statement}
 use Rattle.transform.proofs.tests.used_indices.Tie as tie
 
@@ -32,7 +32,7 @@ unfolding part
 returns c =
     let a = c .before .before .before .args in
     let s = a .input .«index_start» in
-    ap (λ (n : ℕ). part s n (now (a .indices))) (cut s (a .input .description .count))
+    ap (λ (n : ℕ). part s n (now (a .indices))) (add-sub-cancel-left s (a .input .description .count))
 
 pub used-indices-spec : {M : Type 1} → statement M
 used-indices-spec =

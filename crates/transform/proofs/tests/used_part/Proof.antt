@@ -2,12 +2,12 @@
 -- Assumes nothing.
 use mathlib.Core.Path.{ap, _∙_}
 use Prim.Native.Nat.{ℕ, _+_, _*_, _≤_}
+use native.Mathlib.Nat.{add-sub-cancel-left}
 use native.Mathlib.Omega.{arith}
 use borrow.Author.Needs.{needs}
 use denote.Ref.{now}
 use lib.ListN.{length}
 use Rattle.value.specs.Slice.{part}
-use Rattle.transform.proofs.InputTests.{cut}
 use Rattle.transform.proofs.tests.used_part.Statement.{statement}
 use Rattle.transform.proofs.tests.used_part.Tie as tie
 
@@ -43,7 +43,7 @@ returns c =
     let a = b .before .before .before .before .args in
     let s = a .input .«byte_start» in
     let n = a .input .description .count in
-    ap (λ (k : ℕ). part s k (now (a .bytes))) (cut s (n * b .size-of .result))
+    ap (λ (k : ℕ). part s k (now (a .bytes))) (add-sub-cancel-left s (n * b .size-of .result))
     ∙ ap (λ (z : ℕ). part s (n * z) (now (a .bytes))) (b .size-of .ensures)
 
 pub used-part-spec : {M : Type 1} → statement M

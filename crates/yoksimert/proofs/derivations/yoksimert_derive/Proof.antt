@@ -1,7 +1,7 @@
 -- `yoksimert::derivations::yoksimert_derive` meets its contract.
 -- Assumes nothing.
 use denote.Ref.{now}
-use Rattle.yoksimert.specs.Derivations.{derivationOf, inputsBy}
+use Rattle.yoksimert.specs.Derivations.{inputsBy}
 use Rattle.yoksimert.proofs.Derived.{derive-by}
 use borrow.Author.Needs.{needs}
 use Rattle.yoksimert.proofs.derivations.yoksimert_derive.Statement.{statement}

@@ -1,8 +1,7 @@
 -- `yoksimert::exports::yoksimert_compare` meets its contract.
 -- Assumes nothing.
-use mathlib.Core.Path.{_≡_, refl, sym, ap, _∙_}
+use mathlib.Core.Path.{sym, _∙_}
 use denote.Ref.{now}
-use Rattle.signal.specs.Compare.{equalOf}
 use Rattle.yoksimert.proofs.Flattened.{compare-first, compare-second, compare-known}
 use borrow.Author.Needs.{needs}
 use Rattle.yoksimert.proofs.exports.yoksimert_compare.Statement.{statement}

@@ -1,6 +1,6 @@
 -- `yoksimert::exports::yoksimert_fresh_real` meets its contract.
 -- Assumes nothing.
-use mathlib.Core.Path.{_≡_, refl, sym, ap, _∙_}
+use mathlib.Core.Path.{ap, _∙_}
 use Rattle.yoksimert.specs.Flat.{encoded}
 use borrow.Author.Needs.{needs}
 use Rattle.yoksimert.proofs.exports.yoksimert_fresh_real.Statement.{statement}

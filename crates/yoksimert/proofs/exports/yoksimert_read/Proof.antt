@@ -1,11 +1,10 @@
 -- `yoksimert::exports::yoksimert_read` meets its contract.
 -- Assumes nothing.
-use mathlib.Core.Path.{_≡_, refl, sym, ap, _∙_}
+use mathlib.Core.Path.{sym, _∙_}
 use denote.Ref.{now}
-use Prim.Native.Nat.{ℕ, _+_, _*_, _≤_}
+use Prim.Native.Nat.{_+_, _*_, _≤_}
 use native.Mathlib.Omega.{arith}
 use lib.ListN.{length}
-use Rattle.yoksimert.specs.Flat.{noEntry}
 use Rattle.yoksimert.proofs.Places.{placed}
 use Rattle.yoksimert.proofs.Flattened.{read-unknown, read-refused, read-known}
 use borrow.Author.Needs.{needs}

@@ -1,6 +1,6 @@
 -- `yoksimert::exports::yoksimert_text` meets its contract.
 -- Assumes nothing.
-use mathlib.Core.Path.{_≡_, refl, sym, ap, _∙_}
+use mathlib.Core.Path.{sym, _∙_}
 use denote.Ref.{now}
 use Rattle.yoksimert.proofs.Flattened.{text-unknown, text-known}
 use borrow.Author.Needs.{needs}

@@ -1,6 +1,5 @@
 -- `yoksimert::flat::encode` meets its contract.
 -- Assumes nothing.
-use mathlib.Core.Path.{_≡_, refl, sym, ap, _∙_}
 use Rattle.yoksimert.proofs.Numbers.{numbers, numbers-vector}
 use borrow.Author.Needs.{needs}
 use Rattle.yoksimert.proofs.flat.encode.Statement.{statement}

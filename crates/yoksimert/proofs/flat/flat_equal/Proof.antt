@@ -1,6 +1,6 @@
 -- `yoksimert::flat::flat_equal` meets its contract.
 -- Assumes nothing.
-use mathlib.Core.Path.{_≡_, refl, sym, ap, _∙_}
+use mathlib.Core.Path.{sym, ap, _∙_}
 use Prim.Native.Nat.{ℕ}
 use Rattle.fst.specs.Refusal.{refused}
 use Rattle.signal.specs.declared.EqualAnswer.{EqualAnswer}

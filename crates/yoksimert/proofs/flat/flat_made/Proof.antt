@@ -1,11 +1,9 @@
 -- `yoksimert::flat::flat_made` meets its contract.
 -- Assumes nothing.
-use mathlib.Core.Path.{_≡_, refl, sym, ap, _∙_}
+use mathlib.Core.Path.{sym, ap, _∙_}
 use Prim.Native.Nat.{ℕ}
 use Rattle.fst.specs.declared.Made.{Made}
 use Rattle.fst.specs.Refusal.{refused, madeOf}
-use Rattle.yoksimert.specs.declared.FlatDescription.{FlatDescription}
-use Rattle.yoksimert.specs.declared.FlatMade.{FlatMade}
 use Rattle.yoksimert.specs.Flat.{flatMade}
 use Rattle.yoksimert.proofs.Numbers.{made-of}
 use borrow.Author.Needs.{needs}

@@ -1,7 +1,6 @@
 -- `yoksimert::flat::flat_offset` meets its contract.
 -- Assumes nothing.
-use mathlib.Core.Path.{_≡_, refl, sym, ap, _∙_}
-use Prim.Native.Nat.{ℕ}
+use mathlib.Core.Path.{sym, ap, _∙_}
 use Rattle.signal.specs.declared.OffsetAnswer.{OffsetAnswer}
 use Rattle.signal.specs.Offset.{offsetOf}
 use Rattle.yoksimert.specs.Flat.{nowhere, flatOffset}
