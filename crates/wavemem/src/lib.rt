@@ -148,18 +148,6 @@ pub fn number_from_ascii(states: States, value: &[u8]) -> u64
     }
 }
 
-// The byte of as many known characters as a byte holds.
-fn whole_byte(states: States, codes: &[u8; 32], value: &[u8]) -> u8
-    requires { ⌜ FullByte states (now value) × ByLowBits (now codes) ⌝ }
-    ensures { λ r. ⌜ r ≡ number (2 ^ bitsOf states) (codesOf (foldAll (now (value .entry)))) ⌝ }
-{
-    match states {
-        States::Two => byte_of_bits(value),
-        States::Four => byte_by_low_bits(States::Four, codes, value),
-        States::Nine => byte_by_low_bits(States::Nine, codes, value),
-    }
-}
-
 // Stores the levels of a string that fills whole bytes. Returns the place behind them.
 fn write_bytes(states: States, codes: &[u8; 32], value: &[u8], out: &mut [u8], at: usize) -> usize
     requires { ⌜ Whole states (now value) (length (now out)) at × ByLowBits (now codes) ⌝ }
@@ -171,7 +159,24 @@ fn write_bytes(states: States, codes: &[u8; 32], value: &[u8], out: &mut [u8], a
     let mut k = 0;
     while from < value.len() {
         let to = from + per_byte;
-        out[at + k] = whole_byte(states, codes, &value[from..to]);
+        out[at + k] = byte_by_low_bits(states, codes, &value[from..to]);
+        from = to;
+        k += 1;
+    }
+    at + k
+}
+
+// The same of a string of 0 and 1, eight characters to a byte: apart, so that it is compiled for eight.
+fn write_bits(value: &[u8], out: &mut [u8], at: usize) -> usize
+    requires { ⌜ Whole States.Two (now value) (length (now out)) at ⌝ }
+    ensures { λ r. ⌜ r ≡ at + lenOf (length (now (value .entry))) States.Two ⌝ }
+    ensures { λ _. ⌜ now (out .exit) ≡ overlay (now (out .entry)) at (packedFrom States.Two 0 (now (value .entry))) ⌝ }
+{
+    let mut from = 0;
+    let mut k = 0;
+    while from < value.len() {
+        let to = from + 8;
+        out[at + k] = byte_of_bits(&value[from..to]);
         from = to;
         k += 1;
     }
@@ -188,7 +193,7 @@ fn equals_bytes(states: States, codes: &[u8; 32], value: &[u8], bytes: &[u8], at
     let mut k = 0;
     while from < value.len() {
         let to = from + per_byte;
-        if bytes[at + k] != whole_byte(states, codes, &value[from..to]) {
+        if bytes[at + k] != byte_by_low_bits(states, codes, &value[from..to]) {
             return false;
         }
         from = to;
@@ -197,7 +202,7 @@ fn equals_bytes(states: States, codes: &[u8; 32], value: &[u8], bytes: &[u8], at
     true
 }
 
-// The same of a string of 0 and 1, eight characters to a byte: apart, so that it is compiled for eight.
+// The same of a string of 0 and 1.
 fn equals_bits(value: &[u8], bytes: &[u8], at: usize) -> bool
     requires { ⌜ Whole States.Two (now value) (length (now bytes)) at ⌝ }
     ensures { λ r. ⌜ r ≡ same (part at (lenOf (length (now (value .entry))) States.Two) (now (bytes .entry))) (packedFrom States.Two 0 (now (value .entry))) ⌝ }
@@ -223,7 +228,7 @@ fn write_whole(states: States, value: &[u8], out: &mut [u8], at: usize) -> usize
 {
     let codes = value::LOW_BITS;
     match states {
-        States::Two => write_bytes(States::Two, &codes, value, out, at),
+        States::Two => write_bits(value, out, at),
         States::Four => {
             let lead = value.len() % 8;
             let next = write_bytes(States::Four, &codes, &value[..lead], out, at);

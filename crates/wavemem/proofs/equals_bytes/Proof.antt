@@ -49,33 +49,33 @@ add-if1 c = omega (arith, fewer c, start (c .before) .pre .0 .fits)
 shared-slice-read-if1 : tie.Need-shared-slice-read-if1 Inv-loop μ-loop
 shared-slice-read-if1 c = omega (arith, fewer (c .before), start (c .before .before) .pre .0 .fits)
 
-sub-whole-byte : tie.Need-sub-whole-byte Inv-loop μ-loop
-sub-whole-byte c = omega arith
+sub-byte-by-low-bits : tie.Need-sub-byte-by-low-bits Inv-loop μ-loop
+sub-byte-by-low-bits c = omega arith
 
-part-whole-byte-start : tie.Need-part-whole-byte-start Inv-loop μ-loop
-part-whole-byte-start c =
+part-byte-by-low-bits-start : tie.Need-part-byte-by-low-bits-start Inv-loop μ-loop
+part-byte-by-low-bits-start c =
     let a = c .before .before in
     let z : a .loop .from ≤ a .loop .from + a .before .bits-in-a-byte .result = omega arith in
     z
 
-part-whole-byte-end : tie.Need-part-whole-byte-end Inv-loop μ-loop
-part-whole-byte-end c = rw (per (c .before .before)) (within (c .before))
+part-byte-by-low-bits-end : tie.Need-part-byte-by-low-bits-end Inv-loop μ-loop
+part-byte-by-low-bits-end c = rw (per (c .before .before)) (within (c .before))
 
-whole-byte-requires : tie.Need-whole-byte-requires Inv-loop μ-loop
-whole-byte-requires c κs =
+byte-by-low-bits-requires : tie.Need-byte-by-low-bits-requires Inv-loop μ-loop
+byte-by-low-bits-requires c κs =
     let i = c .before .before in
     let a = i .before in
-    (rw (per a) (full-byte (start a .pre .0) (a .loop .inv .walk) (i .loop-test .taken)), start a .pre .1)
+    (rw (per a) (full-byte (start a .pre .0) (a .loop .inv .walk) (i .loop-test .taken) .one), start a .pre .1)
 
 -- what is compared
-right : (c : tie.After-whole-byte Inv-loop μ-loop)
+right : (c : tie.After-byte-by-low-bits Inv-loop μ-loop)
     → let a = c .before .before .before .before in
-    c .whole-byte .result ≡ getD (packedFrom (start a .args .states) 0 (now (start a .args .value))) (a .loop .k) 0
+    c .byte-by-low-bits .result ≡ getD (packedFrom (start a .args .states) 0 (now (start a .args .value))) (a .loop .k) 0
 right c =
     let i = c .before .before .before in
     let a = i .before in
     let h = a .loop .inv in
-    whole-is (start a .pre .0) (h .walk) (i .loop-test .taken) (c .whole-byte .result) (rw (per a) at (c .whole-byte .ensures)) (h .mark)
+    whole-is (start a .pre .0) (h .walk) (i .loop-test .taken) (c .byte-by-low-bits .result) (rw (per a) at (c .byte-by-low-bits .ensures)) (h .mark)
 
 returns : tie.Need-returns Inv-loop μ-loop
 returns c =
@@ -117,10 +117,10 @@ equals-bytes-spec =
     add-to
     add-if1
     shared-slice-read-if1
-    sub-whole-byte
-    part-whole-byte-start
-    part-whole-byte-end
-    whole-byte-requires
+    sub-byte-by-low-bits
+    part-byte-by-low-bits-start
+    part-byte-by-low-bits-end
+    byte-by-low-bits-requires
     returns
     add-k
     loop-less

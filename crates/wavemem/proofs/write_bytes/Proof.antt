@@ -36,23 +36,23 @@ within c = let w = c .before .loop .inv .walk in to-within w (bytes-left w (c .l
 add-to : tie.Need-add-to Inv-loop μ-loop
 add-to c = omega (arith, per (c .before), per-small (start (c .before) .args .states), start (c .before) .pre .0 .short)
 
-sub-whole-byte : tie.Need-sub-whole-byte Inv-loop μ-loop
-sub-whole-byte c = omega arith
+sub-byte-by-low-bits : tie.Need-sub-byte-by-low-bits Inv-loop μ-loop
+sub-byte-by-low-bits c = omega arith
 
-part-whole-byte-start : tie.Need-part-whole-byte-start Inv-loop μ-loop
-part-whole-byte-start c =
+part-byte-by-low-bits-start : tie.Need-part-byte-by-low-bits-start Inv-loop μ-loop
+part-byte-by-low-bits-start c =
     let a = c .before in
     let z : a .loop .from ≤ a .loop .from + a .before .bits-in-a-byte .result = omega arith in
     z
 
-part-whole-byte-end : tie.Need-part-whole-byte-end Inv-loop μ-loop
-part-whole-byte-end c = rw (per (c .before)) (within c)
+part-byte-by-low-bits-end : tie.Need-part-byte-by-low-bits-end Inv-loop μ-loop
+part-byte-by-low-bits-end c = rw (per (c .before)) (within c)
 
-whole-byte-requires : tie.Need-whole-byte-requires Inv-loop μ-loop
-whole-byte-requires c κs =
+byte-by-low-bits-requires : tie.Need-byte-by-low-bits-requires Inv-loop μ-loop
+byte-by-low-bits-requires c κs =
     let i = c .before in
     let a = i .before in
-    (rw (per a) (full-byte (start a .pre .0) (a .loop .inv .walk) (i .loop-test .taken)), start a .pre .1)
+    (rw (per a) (full-byte (start a .pre .0) (a .loop .inv .walk) (i .loop-test .taken) .one), start a .pre .1)
 
 -- the bytes that are left
 fewer : (c : tie.In-loop Inv-loop μ-loop) → c .before .loop .k < lenOf (length (now (start (c .before) .args .value))) (start (c .before) .args .states)
@@ -85,7 +85,7 @@ loop-again c =
     let h = a .loop .inv in
     rw (per a)
     (stored-on (plain (start a .pre .0)) _ h (fewer i)
-    (whole-is (start a .pre .0) (h .walk) (i .loop-test .taken) (c .whole-byte .result) (rw (per a) at (c .whole-byte .ensures)) (h .mark)))
+    (whole-is (start a .pre .0) (h .walk) (i .loop-test .taken) (c .byte-by-low-bits .result) (rw (per a) at (c .byte-by-low-bits .ensures)) (h .mark)))
 
 add-result : tie.Need-add-result Inv-loop μ-loop
 add-result c =
@@ -111,10 +111,10 @@ write-bytes-spec =
     bits-in-a-byte-requires
     loop-holds
     add-to
-    sub-whole-byte
-    part-whole-byte-start
-    part-whole-byte-end
-    whole-byte-requires
+    sub-byte-by-low-bits
+    part-byte-by-low-bits-start
+    part-byte-by-low-bits-end
+    byte-by-low-bits-requires
     add-out
     slice-write-out
     add-k

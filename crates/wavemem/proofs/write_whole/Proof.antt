@@ -31,8 +31,8 @@ nine c = whole (start3 c) Nine (c .enum-told3 .given .1)
 enum-told : tie.Need-enum-told
 enum-told c = search needs
 
-write-bytes-requires : tie.Need-write-bytes-requires
-write-bytes-requires c κs = (rw (c .before .before .enum-told .given .1) at (c .before .before .before .before .before .before .pre), by-low-bits)
+write-bits-requires : tie.Need-write-bits-requires
+write-bits-requires c κs = rw (c .before .enum-told .given .1) at (c .before .before .before .before .before .pre)
 
 enum-told-2 : tie.Need-enum-told-2
 enum-told-2 c = search needs
@@ -40,8 +40,8 @@ enum-told-2 c = search needs
 slice-aggregate-write-bytes : tie.Need-slice-aggregate-write-bytes
 slice-aggregate-write-bytes c = let ok = four (c .before .before) in sym (front-length ok (lead-four ok refl))
 
-write-bytes-requires-2 : tie.Need-write-bytes-requires-2
-write-bytes-requires-2 c κs = let ok = four (c .before .before .before) in (front-whole ok (lead-four ok refl), by-low-bits)
+write-bytes-requires : tie.Need-write-bytes-requires
+write-bytes-requires c κs = let ok = four (c .before .before .before) in (front-whole ok (lead-four ok refl), by-low-bits)
 
 sub-write-words : tie.Need-sub-write-words
 sub-write-words c = search needs
@@ -56,7 +56,7 @@ write-words-requires : tie.Need-write-words-requires
 write-words-requires c κs =
     let w = c .before .before .before .before in
     let e = w .before .before .before .before in
-    second-lent (four e) (lead-four (four e) refl) (now (start2 e .args .out)) refl (w .write-bytes2 .ensures)
+    second-lent (four e) (lead-four (four e) refl) (now (start2 e .args .out)) refl (w .write-bytes .ensures)
 
 enum-told-3 : tie.Need-enum-told-3
 enum-told-3 c = search needs
@@ -64,8 +64,8 @@ enum-told-3 c = search needs
 slice-aggregate-write-bytes-2 : tie.Need-slice-aggregate-write-bytes-2
 slice-aggregate-write-bytes-2 c = let ok = nine (c .before .before) in sym (front-length ok (lead-nine ok refl))
 
-write-bytes-requires-3 : tie.Need-write-bytes-requires-3
-write-bytes-requires-3 c κs = let ok = nine (c .before .before .before) in (front-whole ok (lead-nine ok refl), by-low-bits)
+write-bytes-requires-2 : tie.Need-write-bytes-requires-2
+write-bytes-requires-2 c κs = let ok = nine (c .before .before .before) in (front-whole ok (lead-nine ok refl), by-low-bits)
 
 sub-write-chunks : tie.Need-sub-write-chunks
 sub-write-chunks c = search needs
@@ -80,7 +80,7 @@ write-chunks-requires : tie.Need-write-chunks-requires
 write-chunks-requires c κs =
     let w = c .before .before .before .before in
     let e = w .before .before .before .before in
-    second-lent (nine e) (lead-nine (nine e) refl) (now (start3 e .args .out)) refl (w .write-bytes3 .ensures)
+    second-lent (nine e) (lead-nine (nine e) refl) (now (start3 e .args .out)) refl (w .write-bytes2 .ensures)
 
 same-length : tie.Need-same-length
 same-length c = search needs
@@ -88,7 +88,7 @@ same-length c = search needs
 returns : tie.Need-returns
 returns c =
     let w = c .before .before in
-    rw (w .before .before .before .enum-told .given .1) (w .write-bytes .ensures)
+    rw (w .before .before .enum-told .given .1) (w .write-bits .ensures)
 
 same-length-2 : tie.Need-same-length-2
 same-length-2 c = search needs
@@ -99,7 +99,7 @@ returns-2 c =
     let w = k .before .before .before .before .before in
     let e = w .before .before .before .before in
     rw (e .enum-told2 .given .1)
-    (both-stored (four e) (lead-four (four e) refl) (now (start2 e .args .out)) refl (w .write-bytes2 .ensures) (k .write-words .ensures))
+    (both-stored (four e) (lead-four (four e) refl) (now (start2 e .args .out)) refl (w .write-bytes .ensures) (k .write-words .ensures))
 
 same-length-3 : tie.Need-same-length-3
 same-length-3 c = search needs
@@ -110,24 +110,24 @@ returns-3 c =
     let w = k .before .before .before .before .before in
     let e = w .before .before .before .before in
     rw (e .enum-told3 .given .1)
-    (both-stored (nine e) (lead-nine (nine e) refl) (now (start3 e .args .out)) refl (w .write-bytes3 .ensures) (k .write-chunks .ensures))
+    (both-stored (nine e) (lead-nine (nine e) refl) (now (start3 e .args .out)) refl (w .write-bytes2 .ensures) (k .write-chunks .ensures))
 
 pub write-whole-spec : {M : Type 1} → statement M
 write-whole-spec =
     tie.close
     (tie.spec
     enum-told
-    write-bytes-requires
+    write-bits-requires
     enum-told-2
     slice-aggregate-write-bytes
-    write-bytes-requires-2
+    write-bytes-requires
     sub-write-words
     part-write-words-start
     part-write-words-end
     write-words-requires
     enum-told-3
     slice-aggregate-write-bytes-2
-    write-bytes-requires-3
+    write-bytes-requires-2
     sub-write-chunks
     part-write-chunks-start
     part-write-chunks-end
