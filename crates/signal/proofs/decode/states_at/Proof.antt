@@ -1,9 +1,9 @@
--- `transform::steps::states_at` meets its contract.
+-- `signal::decode::states_at` meets its contract.
 -- Assumes nothing.
 use borrow.Author.Needs.{needs}
 use Rattle.value.proofs.Levels.{set-rest}
-use Rattle.transform.proofs.steps.states_at.Statement.{statement}
-use Rattle.transform.proofs.steps.states_at.Tie as tie
+use Rattle.signal.proofs.decode.states_at.Statement.{statement}
+use Rattle.signal.proofs.decode.states_at.Tie as tie
 
 returns : tie.Need-returns
 returns c = search needs
