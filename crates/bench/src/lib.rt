@@ -1,23 +1,13 @@
 // The inner functions that the benchmarks time from Rust, under plain numbers. Rust tests what each requires before it calls.
-ghost use mathlib.Core.Path.{_≡_};
 ghost use lib.ListN.{length};
 ghost use Rattle.value.specs.Level.{setAt};
 ghost use Rattle.wavemem.specs.Packed.{Packable};
 ghost use Rattle.layout.specs.Expand.{Widenable};
 ghost use Rattle.signal.specs.Search.{Reached};
 use signal::NextIndex;
+use signal::decode::states_at;
 use value::States;
 use value::StatesAnswer;
-
-fn states_of(mark: u32) -> States
-    ensures { λ r. ⌜ r ≡ setAt mark ⌝ }
-{
-    match mark {
-        0 => States::Two,
-        1 => States::Four,
-        _ => States::Nine,
-    }
-}
 
 // The mark of a string's least set, and 3 for a string with a foreign character.
 #[no_mangle]
@@ -32,7 +22,7 @@ pub extern "C" fn bench_least(value: &[u8]) -> u32 {
 pub extern "C" fn bench_pack(mark: u32, value: &[u8], out: &mut [u8]) -> usize
     requires { ⌜ Packable (setAt mark) (now value) (length (now out)) 0 0 ⌝ }
 {
-    wavemem::write_n_state_from_ascii(states_of(mark), value, out, 0, 0)
+    wavemem::write_n_state_from_ascii(states_at(mark), value, out, 0, 0)
 }
 
 // 1 where the bytes are those that `bench_pack` would store, and else 0.
@@ -40,7 +30,7 @@ pub extern "C" fn bench_pack(mark: u32, value: &[u8], out: &mut [u8]) -> usize
 pub extern "C" fn bench_equals(mark: u32, value: &[u8], bytes: &[u8]) -> u32
     requires { ⌜ Packable (setAt mark) (now value) (length (now bytes)) 0 0 ⌝ }
 {
-    if wavemem::equals_n_state_from_ascii(states_of(mark), value, bytes, 0, 0) {
+    if wavemem::equals_n_state_from_ascii(states_at(mark), value, bytes, 0, 0) {
         1
     } else {
         0
@@ -51,7 +41,7 @@ pub extern "C" fn bench_equals(mark: u32, value: &[u8], bytes: &[u8]) -> u32
 pub extern "C" fn bench_expand(from: u32, to: u32, data: &mut [u8], entries: usize, bits: u32)
     requires { ⌜ Widenable (setAt from) (setAt to) 0 entries bits (length (now «data»)) ⌝ }
 {
-    layout::expand::expand_entries(states_of(from), states_of(to), data, 0, entries, bits)
+    layout::expand::expand_entries(states_at(from), states_at(to), data, 0, entries, bits)
 }
 
 // What a search finds: the fields of `signal::DataOffset` by numbers.

@@ -22,6 +22,7 @@ use fst::Encoding;
 use signal::NextIndex;
 use signal::decode::code_at;
 use signal::decode::level_part;
+use signal::decode::states_at;
 use signal::decode::states_of;
 use signal::read::size_of;
 use value::States;
@@ -83,17 +84,6 @@ pub fn table_of(inputs: Inputs) -> Table
         i += 1;
     }
     Table { numbers, starts }
-}
-
-// The set of a mark in a table.
-fn states_at(mark: u32) -> States
-    ensures { λ r. ⌜ r ≡ setAt mark ⌝ }
-{
-    match mark {
-        0 => States::Two,
-        1 => States::Four,
-        _ => States::Nine,
-    }
 }
 
 // An input of a table.

@@ -1,6 +1,6 @@
 // Numbers into descriptions and answers into numbers.
 ghost use mathlib.Core.Path.{_≡_};
-ghost use Rattle.value.specs.Level.{markOf, setAt};
+ghost use Rattle.value.specs.Level.{markOf};
 ghost use Rattle.fst.specs.Refusal.{number, numberOf, madeOf};
 ghost use Rattle.signal.specs.Compare.{equalOf};
 ghost use Rattle.signal.specs.Offset.{offsetOf};
@@ -21,6 +21,7 @@ use signal::EqualAnswer;
 use signal::Kind;
 use signal::NextIndex;
 use signal::OffsetAnswer;
+use signal::decode::states_at;
 use value::States;
 
 // ---- numbers of enums
@@ -49,18 +50,6 @@ pub fn set_number(states: States) -> u32
     wide(states.mark())
 }
 
-// The set of a number; those above 2 are none's. With an arm for each set the compiler sees that the numbers are the same.
-fn states_of(set: u32) -> States
-    ensures { λ r. ⌜ r ≡ setAt set ⌝ }
-{
-    match set {
-        0 => States::Two,
-        1 => States::Four,
-        2 => States::Nine,
-        _ => States::Nine,
-    }
-}
-
 pub fn kind_number(kind: Kind) -> u32
     ensures { λ r. ⌜ r ≡ kindNumber kind ⌝ }
 {
@@ -81,7 +70,7 @@ pub fn decode(flat: FlatDescription) -> Decoded
         if 2 < flat.set {
             return Decoded::Unknown;
         }
-        let max_states = states_of(flat.set);
+        let max_states = states_at(flat.set);
         let encoding = Encoding::BitVector {
             width: flat.width,
             max_states,

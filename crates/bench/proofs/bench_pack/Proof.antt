@@ -5,12 +5,12 @@ use Rattle.bench.proofs.bench_pack.Statement.{statement}
 use Rattle.bench.proofs.bench_pack.Tie as tie
 
 -- src/lib.rt:33:39
-states-of-requires : tie.Need-states-of-requires
-states-of-requires c κs = search needs
+states-at-requires : tie.Need-states-at-requires
+states-at-requires c κs = search needs
 
 -- src/lib.rt:33:5
 write-n-state-from-ascii-requires : tie.Need-write-n-state-from-ascii-requires
-write-n-state-from-ascii-requires c κs = rw (c .before .states-of .ensures) (c .before .before .before .before .pre)
+write-n-state-from-ascii-requires c κs = rw (c .before .states-at .ensures) (c .before .before .before .before .pre)
 
 -- src/lib.rt:29:1
 same-length : tie.Need-same-length
@@ -22,4 +22,4 @@ returns c = search needs
 
 pub bench-pack-spec : {M : Type 1} → statement M
 bench-pack-spec =
-    tie.close (tie.spec states-of-requires write-n-state-from-ascii-requires same-length returns)
+    tie.close (tie.spec states-at-requires write-n-state-from-ascii-requires same-length returns)

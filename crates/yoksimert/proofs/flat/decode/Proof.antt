@@ -8,11 +8,11 @@ use Rattle.yoksimert.proofs.flat.decode.Tie as tie
 returns : tie.Need-returns
 returns c = no-set (c .before .before .before .before .args .flat) (c .before .before .if1 .taken) (c .if2 .taken)
 
-states-of-requires : tie.Need-states-of-requires
-states-of-requires c κs = search needs
+states-at-requires : tie.Need-states-at-requires
+states-at-requires c κs = search needs
 
 returns-2 : tie.Need-returns-2
-returns-2 c = vector (c .before .before .before .before .before .args .flat) (c .before .before .before .if1 .taken) (c .before .if2 .left) _ (c .states-of .ensures)
+returns-2 c = vector (c .before .before .before .before .before .args .flat) (c .before .before .before .if1 .taken) (c .before .if2 .left) _ (c .states-at .ensures)
 
 returns-3 : tie.Need-returns-3
 returns-3 c = some-width (c .before .before .before .before .args .flat) (c .before .before .if1 .left) (c .if3 .taken)
@@ -34,7 +34,7 @@ decode-spec =
     tie.close
     (tie.spec
     returns
-    states-of-requires
+    states-at-requires
     returns-2
     returns-3
     returns-4
