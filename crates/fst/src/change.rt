@@ -31,6 +31,12 @@ use value::States;
 use value::StatesAnswer;
 use wavemem::scan::scan;
 
+// The size of a string's entry, and the number of its levels where that is at most eight bytes.
+struct ShortLevels {
+    size: usize,
+    levels: u64,
+}
+
 pub fn accepted(next: Description) -> Added
     ensures { λ r. ⌜ r ≡ record { verdict = verdict.Accepted; next = next } ⌝ }
 {
@@ -217,8 +223,7 @@ impl Description {
         mut self,
         max_states: States,
         states: States,
-        size: usize,
-        levels: u64,
+        short: ShortLevels,
         bytes: &mut [u8],
         byte_start: usize,
         indices: &mut [u32],
@@ -226,11 +231,12 @@ impl Description {
         index: u32,
         value: &[u8],
     ) -> Added
-        requires { ⌜ Levels self (record { bytes = now bytes; byteStart = «byte_start»; indices = now indices; indexStart = «index_start» }) index «max_states» states (now value) × (markOf states ≤ markOf «max_states») × Leveled «max_states» states (now value) size levels ⌝ }
+        requires { ⌜ Levels self (record { bytes = now bytes; byteStart = «byte_start»; indices = now indices; indexStart = «index_start» }) index «max_states» states (now value) × (markOf states ≤ markOf «max_states») × Leveled «max_states» states (now value) (short .size) (short .levels) ⌝ }
         ensures { λ r. ⌜ leftBy r (now (bytes .exit)) (now (indices .exit)) ≡ addChange self (record { bytes = now (bytes .entry); byteStart = «byte_start»; indices = now (indices .entry); indexStart = «index_start» }) index (text (now (value .entry))) ⌝ }
     {
         let count = self.count;
-        let number = marked_number(states, size, levels);
+        let size = short.size;
+        let number = marked_number(states, size, short.levels);
         if repeats_number(
             max_states,
             states,
@@ -258,8 +264,7 @@ impl Description {
         self,
         max_states: States,
         states: States,
-        size: usize,
-        levels: u64,
+        short: ShortLevels,
         bytes: &mut [u8],
         byte_start: usize,
         indices: &mut [u32],
@@ -267,7 +272,7 @@ impl Description {
         index: u32,
         value: &[u8],
     ) -> Added
-        requires { ⌜ Levels self (record { bytes = now bytes; byteStart = «byte_start»; indices = now indices; indexStart = «index_start» }) index «max_states» states (now value) × (markOf states ≤ markOf «max_states» → Leveled «max_states» states (now value) size levels) ⌝ }
+        requires { ⌜ Levels self (record { bytes = now bytes; byteStart = «byte_start»; indices = now indices; indexStart = «index_start» }) index «max_states» states (now value) × (markOf states ≤ markOf «max_states» → Leveled «max_states» states (now value) (short .size) (short .levels)) ⌝ }
         ensures { λ r. ⌜ leftBy r (now (bytes .exit)) (now (indices .exit)) ≡ addChange self (record { bytes = now (bytes .entry); byteStart = «byte_start»; indices = now (indices .entry); indexStart = «index_start» }) index (text (now (value .entry))) ⌝ }
     {
         if max_states.mark() < states.mark() {
@@ -285,8 +290,7 @@ impl Description {
         self.append_levels(
             max_states,
             states,
-            size,
-            levels,
+            short,
             bytes,
             byte_start,
             indices,
@@ -323,11 +327,14 @@ impl Description {
         if is_below_last(index, indices, index_start, self.count) {
             return refused(self, Refusal::IndexBelowLast);
         }
+        let short = ShortLevels {
+            size,
+            levels: scanned.levels,
+        };
         self.add_levels(
             max_states,
             states,
-            size,
-            scanned.levels,
+            short,
             bytes,
             byte_start,
             indices,

@@ -40,7 +40,7 @@ module _ (z : tie.After-lacks-room) where
   abbrev start : tie.Start
   start = z .before .before .before .before .before .before .before .before .before .before
 
-  sized : start .args .size ≡ entrySize (length (now (start .args .value))) (start .args .max-states)
+  sized : start .args .short .size ≡ entrySize (length (now (start .args .value))) (start .args .max-states)
   sized = start .pre .2 .sized
 
   other : false ≡ repeated (start .args .self) (lent start) (start .args .index) (now (start .args .value)) (start .args .max-states) (start .args .states) (start .pre .0) (start .pre .1)
@@ -63,7 +63,7 @@ marked-number-requires c κs =
 -- the entry's number
 numbered : (n : tie.After-marked-number) →
     let a = n .before .before .before .before .args in
-    Numbered (a .max-states) (a .states) (now (a .value)) (a .size) (n .marked-number .result)
+    Numbered (a .max-states) (a .states) (now (a .value)) (a .short .size) (n .marked-number .result)
 numbered n =
     let x = n .before .before .before .before in
     levels-numbered (x .args .self) (lent x) (x .args .index) (now (x .args .value)) (x .args .max-states) (x .args .states) (x .pre .0) (x .pre .1) _ _ _ (x .pre .2) (n .marked-number .ensures)
@@ -119,7 +119,7 @@ cast-entries c = search needs
 -- the new entry's place
 place : (c : tie.After-struct-known) →
     let a = (start (c .before .before)) .args in
-    a .byte-start + a .self .count * a .size + a .size ≤ length (now (a .bytes))
+    a .byte-start + a .self .count * a .short .size + a .short .size ≤ length (now (a .bytes))
 place c =
     let z = c .before .before in
     let a = (start z) .args in
