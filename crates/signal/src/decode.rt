@@ -35,14 +35,13 @@ pub fn states_of(mark: u8) -> States
     }
 }
 
-// The same of a mark among wider numbers. With an arm for each set the compiler sees that the numbers are the same.
+// The same of a mark among wider numbers.
 pub fn states_at(mark: u32) -> States
     ensures { λ r. ⌜ r ≡ setAt mark ⌝ }
 {
     match mark {
         0 => States::Two,
         1 => States::Four,
-        2 => States::Nine,
         _ => States::Nine,
     }
 }

@@ -2,9 +2,10 @@
 ghost use mathlib.Core.Path.{_≡_};
 ghost use Rattle.value.specs.Level.{markOf};
 ghost use Rattle.fst.specs.Refusal.{number, numberOf, madeOf};
+ghost use Rattle.fst.specs.declared.Encoding.the-variants.{BitVector};
 ghost use Rattle.signal.specs.Compare.{equalOf};
 ghost use Rattle.signal.specs.Offset.{offsetOf};
-ghost use Rattle.yoksimert.specs.Flat.{decoded, encoded, kindNumber, noEntry, levelLength, flatMade, flatEqual, nowhere, placed, flatOffset};
+ghost use Rattle.yoksimert.specs.Flat.{known, decoded, encoded, kindNumber, noEntry, levelLength, flatMade, flatEqual, nowhere, placed, flatOffset};
 use crate::Decoded;
 use crate::FlatDescription;
 use crate::FlatEntry;
@@ -21,7 +22,6 @@ use signal::EqualAnswer;
 use signal::Kind;
 use signal::NextIndex;
 use signal::OffsetAnswer;
-use signal::decode::states_at;
 use value::States;
 
 // ---- numbers of enums
@@ -62,20 +62,28 @@ pub fn kind_number(kind: Kind) -> u32
 
 // ---- descriptions
 
+fn known_vector(width: u32, max_states: States, count: u32) -> Decoded
+    ensures { λ r. ⌜ r ≡ known (BitVector width «max_states») count ⌝ }
+{
+    Decoded::Known(Description {
+        encoding: Encoding::BitVector { width, max_states },
+        count,
+    })
+}
+
+// An arm for each set: the compiler then sees that the numbers of both sides are the same.
 pub fn decode(flat: FlatDescription) -> Decoded
     ensures { λ r. ⌜ r ≡ decoded flat ⌝ }
 {
     let count = flat.count;
     if flat.kind == 2 {
-        if 2 < flat.set {
-            return Decoded::Unknown;
-        }
-        let max_states = states_at(flat.set);
-        let encoding = Encoding::BitVector {
-            width: flat.width,
-            max_states,
+        let set = flat.set;
+        return match set {
+            0 => known_vector(flat.width, States::Two, count),
+            1 => known_vector(flat.width, States::Four, count),
+            2 => known_vector(flat.width, States::Nine, count),
+            _ => Decoded::Unknown,
         };
-        return Decoded::Known(Description { encoding, count });
     }
     if flat.width != 0 {
         return Decoded::Unknown;

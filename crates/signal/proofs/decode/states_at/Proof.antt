@@ -12,10 +12,7 @@ returns-2 : tie.Need-returns-2
 returns-2 c = search needs
 
 returns-3 : tie.Need-returns-3
-returns-3 c = search needs
-
-returns-4 : tie.Need-returns-4
-returns-4 c = set-rest _ (c .match .rest .0 .0 .1) (c .match .rest .0 .1)
+returns-3 c = set-rest _ (c .match .rest .0 .1) (c .match .rest .1)
 
 pub states-at-spec : {M : Type 1} → statement M
-states-at-spec = tie.close (tie.spec returns returns-2 returns-3 returns-4)
+states-at-spec = tie.close (tie.spec returns returns-2 returns-3)

@@ -1,43 +1,71 @@
 -- `yoksimert::flat::decode` meets its contract.
 -- Assumes nothing.
+use mathlib.Core.Path.{sym, ap, _∙_}
+use native.Mathlib.Omega.{arith}
+use Rattle.value.specs.Level.{setAt}
 use Rattle.yoksimert.proofs.Numbers.{vector, no-set, some-width, some-set, event, real, no-kind}
 use borrow.Author.Needs.{needs}
 use Rattle.yoksimert.proofs.flat.decode.Statement.{statement}
 use Rattle.yoksimert.proofs.flat.decode.Tie as tie
 
-returns : tie.Need-returns
-returns c = no-set (c .before .before .before .before .args .flat) (c .before .before .if1 .taken) (c .if2 .taken)
+known-vector-requires : tie.Need-known-vector-requires
+known-vector-requires c κs = search needs
 
-states-at-requires : tie.Need-states-at-requires
-states-at-requires c κs = search needs
+known-vector-requires-2 : tie.Need-known-vector-requires-2
+known-vector-requires-2 c κs = search needs
+
+known-vector-requires-3 : tie.Need-known-vector-requires-3
+known-vector-requires-3 c κs = search needs
+
+returns : tie.Need-returns
+returns c =
+    let m = c .before in
+    c .known-vector .ensures
+    ∙ vector (m .before .before .before .args .flat) (m .before .if1 .taken) (omega (arith, m .match .keys1)) _ (ap setAt (sym (m .match .keys1)))
 
 returns-2 : tie.Need-returns-2
-returns-2 c = vector (c .before .before .before .before .before .args .flat) (c .before .before .before .if1 .taken) (c .before .if2 .left) _ (c .states-at .ensures)
+returns-2 c =
+    let m = c .before in
+    c .known-vector2 .ensures
+    ∙ vector (m .before .before .before .args .flat) (m .before .if1 .taken) (omega (arith, m .match .keys2)) _ (ap setAt (sym (m .match .keys2)))
 
 returns-3 : tie.Need-returns-3
-returns-3 c = some-width (c .before .before .before .before .args .flat) (c .before .before .if1 .left) (c .if3 .taken)
+returns-3 c =
+    let m = c .before in
+    c .known-vector3 .ensures
+    ∙ vector (m .before .before .before .args .flat) (m .before .if1 .taken) (omega (arith, m .match .keys3)) _ (ap setAt (sym (m .match .keys3)))
 
 returns-4 : tie.Need-returns-4
-returns-4 c = some-set (c .before .before .before .before .before .before .args .flat) (c .before .before .before .before .if1 .left) (c .before .before .if3 .left) (c .if4 .taken)
+returns-4 c = no-set (c .before .before .before .args .flat) (c .before .if1 .taken) (omega (arith, c .match .rest))
 
 returns-5 : tie.Need-returns-5
-returns-5 c = event (c .before .before .before .before .before .before .before .before .args .flat) (c .before .before .before .before .before .before .if1 .left) (c .before .before .before .before .if3 .left) (c .before .before .if4 .left) (c .if5 .taken)
+returns-5 c = some-width (c .before .before .before .before .args .flat) (c .before .before .if1 .left) (c .if2 .taken)
 
 returns-6 : tie.Need-returns-6
-returns-6 c = real (c .before .before .before .before .before .before .before .before .before .before .args .flat) (c .before .before .before .before .before .before .before .before .if1 .left) (c .before .before .before .before .before .before .if3 .left) (c .before .before .before .before .if4 .left) (c .before .before .if5 .left) (c .if6 .taken)
+returns-6 c = some-set (c .before .before .before .before .before .before .args .flat) (c .before .before .before .before .if1 .left) (c .before .before .if2 .left) (c .if3 .taken)
 
 returns-7 : tie.Need-returns-7
-returns-7 c = no-kind (c .before .before .before .before .before .before .before .before .before .before .args .flat) (c .before .before .before .before .before .before .before .before .if1 .left) (c .before .before .before .before .before .before .if3 .left) (c .before .before .before .before .if4 .left) (c .before .before .if5 .left) (c .if6 .left)
+returns-7 c = event (c .before .before .before .before .before .before .before .before .args .flat) (c .before .before .before .before .before .before .if1 .left) (c .before .before .before .before .if2 .left) (c .before .before .if3 .left) (c .if4 .taken)
+
+returns-8 : tie.Need-returns-8
+returns-8 c = real (c .before .before .before .before .before .before .before .before .before .before .args .flat) (c .before .before .before .before .before .before .before .before .if1 .left) (c .before .before .before .before .before .before .if2 .left) (c .before .before .before .before .if3 .left) (c .before .before .if4 .left) (c .if5 .taken)
+
+returns-9 : tie.Need-returns-9
+returns-9 c = no-kind (c .before .before .before .before .before .before .before .before .before .before .args .flat) (c .before .before .before .before .before .before .before .before .if1 .left) (c .before .before .before .before .before .before .if2 .left) (c .before .before .before .before .if3 .left) (c .before .before .if4 .left) (c .if5 .left)
 
 pub decode-spec : {M : Type 1} → statement M
 decode-spec =
     tie.close
     (tie.spec
+    known-vector-requires
+    known-vector-requires-2
+    known-vector-requires-3
     returns
-    states-at-requires
     returns-2
     returns-3
     returns-4
     returns-5
     returns-6
-    returns-7)
+    returns-7
+    returns-8
+    returns-9)
