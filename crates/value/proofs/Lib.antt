@@ -2,6 +2,7 @@ pub mod Examples
 pub mod Digits
 pub mod Tests
 pub mod Slices
+pub mod Lists
 pub mod Backward
 pub mod Levels
 pub mod Classes
