@@ -13,10 +13,10 @@ use crate::fields::read_pieces;
 use crate::records::description;
 use crate::records::has_made;
 use crate::records::index_buffer;
-use transform::DerivedBitVecSignal;
+use derivation::DerivedBitVecSignal;
+use derivation::Joined;
 use transform::Input;
 use transform::Inputs;
-use transform::Joined;
 
 // ---- derivations
 

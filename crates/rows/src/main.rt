@@ -2,6 +2,7 @@
 // largest set, the bytes and the indices, whole. Two bytes aa and three indices 46 stand before the record, and what is behind the used
 // part is aa and 46 too. A look-up writes its number, start, entries, whether equal, and the next index or `-`.
 ghost use Prim.Native.Nat.{_<_};
+use derivation::DerivedBitVecSignal;
 use fst::Added;
 use fst::Description;
 use fst::Encoding;
@@ -9,7 +10,6 @@ use fst::Made;
 use signal::DataOffset;
 use signal::NextIndex;
 use signal::OffsetAnswer;
-use transform::DerivedBitVecSignal;
 use transform::Input;
 use transform::Inputs;
 

@@ -38,15 +38,15 @@ use Rattle.signal.specs.Offset.{falls, headOf}
 use Rattle.signal.specs.Read.{widthOf}
 use Rattle.signal.proofs.ReadBack as back
 use Rattle.signal.proofs.ReadBack.{Tells}
-use Rattle.transform.specs.declared.Extract.{Extract}
-use Rattle.transform.specs.declared.DerivedBitVecSignal.{DerivedBitVecSignal}
+use Rattle.derivation.specs.declared.Extract.{Extract}
+use Rattle.derivation.specs.declared.DerivedBitVecSignal.{DerivedBitVecSignal}
 use Rattle.transform.specs.declared.Inputs.{Inputs}
-use Rattle.transform.specs.Piece.{endOf, extractOf, piecesOf, pieceWidth, isBadPiece}
+use Rattle.derivation.specs.Piece.{endOf, extractOf, piecesOf, pieceWidth, isBadPiece}
 use Rattle.transform.specs.Steps.{Shown, shownBy, indexOf, Track, unbegun, nowOf, smaller, smallest, moved, Moment, momentsFrom, countOf, momentsOf}
 use Rattle.transform.specs.Derive.{pickedOf, codesShown, setShown, picked, largestShown, yielded, sameStep, shownIn, derivedList, largestAmong, lentOut, encodingOf, isBeyond, isUnfit, startsLate, isLate, indicesFall, entryIsBad, markIsBad, pickIsBad, codeIsBad, deriveRefusals, Derived, derivedBy, derive}
 use Rattle.transform.specs.Tests.{keptAll, Derivable}
-use Rattle.transform.proofs.Pieces.{Sized, sound, good-piece}
-use Rattle.transform.proofs.Joins.{count-is}
+use Rattle.derivation.proofs.Pieces.{Sized, sound, good-piece}
+use Rattle.derivation.proofs.Joins.{count-is}
 use Rattle.transform.proofs.SteppingLevels.{levels-length, levels-below, mark-within}
 use Rattle.transform.proofs.InputTests.{indexed, entries-count, entry-is, entries-each, fit}
 

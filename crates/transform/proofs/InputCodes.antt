@@ -27,11 +27,11 @@ use Rattle.signal.specs.Decode.{Indexed, entriesIn, levelsIn, hasBadCode, codes
 use Rattle.signal.specs.Parts.{Levels}
 use Rattle.signal.specs.Read.{widthOf}
 use Rattle.signal.proofs.Decoding.{level-in, level-code}
-use Rattle.transform.specs.declared.Extract.{Extract}
-use Rattle.transform.specs.declared.DerivedBitVecSignal.{DerivedBitVecSignal}
+use Rattle.derivation.specs.declared.Extract.{Extract}
+use Rattle.derivation.specs.declared.DerivedBitVecSignal.{DerivedBitVecSignal}
 use Rattle.transform.specs.declared.Input.{Input}
 use Rattle.transform.specs.declared.Inputs.{Inputs}
-use Rattle.transform.specs.Piece.{endOf, extractOf, piecesOf}
+use Rattle.derivation.specs.Piece.{endOf, extractOf, piecesOf}
 use Rattle.transform.specs.Derive.{lentTo, inputsOf, isBadInput, inputKept, pickedOf, pickIsBad, codeIsBad, entryIsBad, markIsBad}
 use Rattle.transform.specs.Tests.{TwoCodes, Picking, Readable, keptWith, keptAll}
 use Rattle.transform.proofs.InputTests.{any-map, any-each, noInput, slot-none, input-stands, input-count, entries-none, entries-each, pick-none, pick-count, pick-code, fit, signal-low, code-told, piece-is, pieces-count}

@@ -31,16 +31,16 @@ use Rattle.signal.specs.Parts.{ownStates}
 use Rattle.signal.specs.Read.{hasNoText, widthOf}
 use Rattle.signal.proofs.Decoding.{codes-length, few-bits}
 use Rattle.signal.proofs.Reading.{vector, Owned, owned, whole}
-use Rattle.transform.specs.declared.Extract.{Extract}
-use Rattle.transform.specs.declared.DerivedBitVecSignal.{DerivedBitVecSignal}
+use Rattle.derivation.specs.declared.Extract.{Extract}
+use Rattle.derivation.specs.declared.DerivedBitVecSignal.{DerivedBitVecSignal}
 use Rattle.transform.specs.declared.Input.{Input}
 use Rattle.transform.specs.declared.Inputs.{Inputs}
-use Rattle.transform.specs.Piece.{endOf, extractOf, piecesOf, isBadPiece, isBadDerivation}
+use Rattle.derivation.specs.Piece.{endOf, extractOf, piecesOf, isBadPiece, isBadDerivation}
 use Rattle.transform.specs.Derive.{lentTo, inputsOf, isBadInput, inputKept, isNoBitVector, isBeyond, isUnfit, pickedOf, pickIsBad, codeIsBad, isLate, encodingOf, entryIsBad, markIsBad}
 use Rattle.transform.specs.Tests.{Pickable, Picking, Readable, keptWith, keptAll}
 use Rattle.transform.proofs.Inputs.{the-type}
-use Rattle.transform.proofs.Pieces.{sound, good-piece}
-use Rattle.transform.proofs.Joins.{count-is, piece-at}
+use Rattle.derivation.proofs.Pieces.{sound, good-piece}
+use Rattle.derivation.proofs.Joins.{count-is, piece-at}
 
 -- ---- a test over a list
 

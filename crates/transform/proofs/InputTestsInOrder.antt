@@ -8,9 +8,9 @@ use native.Mathlib.Omega.{arith}
 use Rattle.value.specs.Slice.{any}
 use Rattle.fst.specs.Refusal.{Reply, refused, given, _⇐_, tried}
 use Rattle.fst.specs.Record.{Lent, Kept, fits}
-use Rattle.transform.specs.declared.DerivedBitVecSignal.{DerivedBitVecSignal}
+use Rattle.derivation.specs.declared.DerivedBitVecSignal.{DerivedBitVecSignal}
 use Rattle.transform.specs.declared.Inputs.{Inputs}
-use Rattle.transform.specs.Piece.{piecesOf}
+use Rattle.derivation.specs.Piece.{piecesOf}
 use Rattle.transform.specs.Derive.{inputsOf, isBadInput, isUnfit, startsLate, indicesFall, markIsBad, codeIsBad, derivedKept, deriveRefusals}
 use Rattle.transform.specs.Tests.{keptAll, Derivable, firstTests}
 

@@ -22,7 +22,7 @@ use Rattle.signal.specs.Offset.{falls}
 use Rattle.signal.proofs.Rows as sought
 use Rattle.transform.specs.declared.Input.{Input}
 use Rattle.transform.specs.declared.Inputs.{Inputs}
-use Rattle.transform.specs.Piece.{packedOf, extractOf, isBadPiece, isBadDerivation, adjoin, merging, pieceAdded, nameAdded, derivationWith, isBadRange, isOverfull, addPiece, emptyDerivation, sliceOf}
+use Rattle.derivation.specs.Piece.{packedOf, extractOf, isBadPiece, isBadDerivation, adjoin, merging, pieceAdded, nameAdded, derivationWith, isBadRange, isOverfull, addPiece, emptyDerivation, sliceOf}
 use Rattle.transform.specs.Steps.{smallest, moved, momentsFrom, momentsOf}
 use Rattle.transform.specs.Derive.{picked, derivedList, isUnfit, deriveRefusals, Derived, derive}
 

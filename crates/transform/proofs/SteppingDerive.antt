@@ -16,8 +16,8 @@ use Rattle.fst.specs.Refusal.{Reply, refused, given, _⇐_, tried}
 use Rattle.runs.specs.Runs.{Step, indexOf, entriesOf, laidOut}
 use Rattle.fst.proofs.Records.{fits-room}
 use Rattle.transform.specs.declared.Inputs.{Inputs}
-use Rattle.transform.specs.declared.DerivedBitVecSignal.{DerivedBitVecSignal}
-use Rattle.transform.specs.Piece.{piecesOf}
+use Rattle.derivation.specs.declared.DerivedBitVecSignal.{DerivedBitVecSignal}
+use Rattle.derivation.specs.Piece.{piecesOf}
 use Rattle.transform.specs.Derive.{Derived, derivedBy, derive, derivedList, derivedKept, largestAmong, lentOut}
 use Rattle.transform.specs.Tests.{keptAll, Derivable, firstTests}
 use Rattle.transform.specs.Stepping.{Roomy}

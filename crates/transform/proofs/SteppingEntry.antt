@@ -20,9 +20,9 @@ use Rattle.layout.specs.Writable.{Writable, entryFrom}
 use Rattle.runs.specs.All.{All}
 use Rattle.signal.specs.Decode.{codesAt}
 use Rattle.signal.proofs.Decoding.{codes-length}
-use Rattle.transform.specs.declared.Extract.{Extract}
+use Rattle.derivation.specs.declared.Extract.{Extract}
 use Rattle.transform.specs.declared.Inputs.{Inputs}
-use Rattle.transform.specs.Piece.{endOf, extractOf, pieceWidth}
+use Rattle.derivation.specs.Piece.{endOf, extractOf, pieceWidth}
 use Rattle.transform.specs.Derive.{pickedOf}
 use Rattle.transform.specs.Stepping.{setNow, Cursor, cursor, cursorsOf, widthNow, levelsNow, shownBytes, pickedNow, Showing, Under, PieceIn, Picks, Pickable, Stepped}
 use Rattle.transform.proofs.Stepping.{all-map-at, count-is, shown-at, cursor-at}

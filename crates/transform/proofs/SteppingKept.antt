@@ -24,12 +24,12 @@ use Rattle.runs.proofs.Laid.{entryFor, sameEntry, entries-snoc, entries-length}
 use Rattle.signal.specs.declared.NextIndex.{NextIndex}
 use Rattle.signal.specs.declared.NextIndex.the-variants.{Absent, At}
 use Rattle.transform.specs.declared.Inputs.{Inputs}
-use Rattle.transform.specs.declared.DerivedBitVecSignal.{DerivedBitVecSignal}
-use Rattle.transform.specs.Piece.{extractOf, piecesOf}
+use Rattle.derivation.specs.declared.DerivedBitVecSignal.{DerivedBitVecSignal}
+use Rattle.derivation.specs.Piece.{extractOf, piecesOf}
 use Rattle.transform.specs.Derive.{derivedList, sameStep}
 use Rattle.transform.specs.Tests.{keptAll, Derivable}
 use Rattle.transform.specs.Stepping.{cursorsOf, soonest, advanced, largestNow, pickedNow, Pickable, Stepped, repeatsLast, lastAt, Appendable, Appended, Roomy, Stored}
-use Rattle.transform.proofs.Pieces.{Sized}
+use Rattle.derivation.proofs.Pieces.{Sized}
 use Rattle.transform.proofs.SteppingEntry.{pickable, front-long, writable, entry-told}
 use Rattle.transform.proofs.SteppingTracks.{tracks, toCome}
 use Rattle.transform.proofs.SteppingSources.{stepped, set-in, wide}

@@ -23,13 +23,13 @@ use Rattle.signal.specs.Read.{hasNoText}
 use Rattle.signal.proofs.Reading.{inside, whole}
 use Rattle.transform.specs.declared.Input.{Input}
 use Rattle.transform.specs.declared.Inputs.{Inputs}
-use Rattle.transform.specs.declared.Extract.{Extract}
-use Rattle.transform.specs.declared.DerivedBitVecSignal.{DerivedBitVecSignal}
-use Rattle.transform.specs.Piece.{piecesOf, isBadPiece, pieceWidth}
+use Rattle.derivation.specs.declared.Extract.{Extract}
+use Rattle.derivation.specs.declared.DerivedBitVecSignal.{DerivedBitVecSignal}
+use Rattle.derivation.specs.Piece.{piecesOf, isBadPiece, pieceWidth}
 use Rattle.transform.specs.Derive.{inputsOf, inputKept, lentTo, isBadInput, isNoBitVector, isBeyond, startsLate, entryIsBad, markIsBad, pickedOf, pickIsBad, codeIsBad, largestAmong}
 use Rattle.transform.specs.Tests.{keptAll, Derivable}
 use Rattle.transform.specs.Stepping.{Cursor, cursor, cursors, cursorsOf, Vectors, Reaches, Indexable, shownBytes, setNow, levelsNow, widthNow, largestNow, largestOver, pickedNow, Showing, AllShowing, PieceIn, Under, Stepped}
-use Rattle.transform.proofs.Pieces.{Sized, Sound, sound, good-piece}
+use Rattle.derivation.proofs.Pieces.{Sized, Sound, sound, good-piece}
 use Rattle.transform.proofs.InputTests.{any-map, noInput, input-fits, entries-each, Fit, fit, beyond-told, code-told, pieces-count}
 use Rattle.transform.proofs.Stepping.{count-is, shown-at, cursor-at}
 use Rattle.transform.proofs.SteppingLevels.{mark-within}

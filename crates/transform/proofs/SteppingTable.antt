@@ -21,8 +21,8 @@ use Rattle.signal.specs.Parts.{Levels}
 use Rattle.signal.specs.Read.{widthOf, hasNoText}
 use Rattle.transform.specs.declared.Input.{Input}
 use Rattle.transform.specs.declared.Inputs.{Inputs}
-use Rattle.transform.specs.declared.DerivedBitVecSignal.{DerivedBitVecSignal}
-use Rattle.transform.specs.Piece.{piecesOf}
+use Rattle.derivation.specs.declared.DerivedBitVecSignal.{DerivedBitVecSignal}
+use Rattle.derivation.specs.Piece.{piecesOf}
 use Rattle.transform.specs.Derive.{inputKept, isBadInput, isUnfit, startsLate, indicesFall, markIsBad, codeIsBad, largestAmong}
 use Rattle.transform.specs.Tests.{keptAll, Derivable}
 use Rattle.transform.specs.Stepping.{Cursor, cursor, shownBytes, setNow, levelsNow, Showing, inputIn, inputsIn, entryIn, SizedAt, Tables, TableOf, Walkable}

@@ -25,7 +25,7 @@ use Rattle.signal.specs.declared.NextIndex.the-variants.{Absent, At}
 use Rattle.signal.specs.Offset.{headOf}
 use Rattle.signal.specs.Decode.{Indexed, entryAt, entriesFrom, entriesIn, setIn, levelsIn}
 use Rattle.transform.specs.declared.Input.{Input}
-use Rattle.transform.specs.declared.Extract.{Extract}
+use Rattle.derivation.specs.declared.Extract.{Extract}
 use Rattle.transform.specs.Steps.{Shown, shownBy, indexOf, Track, unbegun, nowOf, smaller, smallest, moved, countOf}
 use Rattle.transform.specs.Derive.{codesShown, setShown, picked, pickedOf, largestShown, shownIn, lentTo, inputKept}
 use Rattle.transform.specs.Stepping.{Cursor, cursors, nextIn, soonest, begunAt, advanced, shownBytes, setNow, levelsNow, largestNow, pickedNow}

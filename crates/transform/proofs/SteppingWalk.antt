@@ -31,13 +31,13 @@ use Rattle.signal.specs.Offset.{headOf}
 use Rattle.signal.specs.Decode.{entriesIn}
 use Rattle.transform.specs.declared.Input.{Input}
 use Rattle.transform.specs.declared.Inputs.{Inputs}
-use Rattle.transform.specs.declared.DerivedBitVecSignal.{DerivedBitVecSignal}
-use Rattle.transform.specs.Piece.{piecesOf}
+use Rattle.derivation.specs.declared.DerivedBitVecSignal.{DerivedBitVecSignal}
+use Rattle.derivation.specs.Piece.{piecesOf}
 use Rattle.transform.specs.Steps.{shownBy, Track, unbegun, nowOf, smaller, smallest, moved, momentsFrom, momentsOf}
 use Rattle.transform.specs.Derive.{inputsOf, inputKept, lentTo, isLate, yielded, sameStep, shownIn, derivedList, largestAmong}
 use Rattle.transform.specs.Tests.{keptAll, Derivable}
 use Rattle.transform.specs.Stepping.{Cursor, cursors, cursorsOf, Reaches, nextIn, soonest, begunAt, advanced, largestNow, pickedNow}
-use Rattle.transform.proofs.Pieces.{Sized}
+use Rattle.derivation.proofs.Pieces.{Sized}
 use Rattle.transform.proofs.InputTests.{input-fits, entries-count}
 use Rattle.transform.proofs.Stepping.{next-within, cursors-length}
 use Rattle.transform.proofs.SteppingEntry.{picked-all, picked-below}

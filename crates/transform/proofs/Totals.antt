@@ -23,13 +23,13 @@ use Rattle.signal.specs.declared.NextIndex.the-variants.{Absent, At}
 use Rattle.signal.specs.Decode.{entriesIn}
 use Rattle.transform.specs.declared.Input.{Input}
 use Rattle.transform.specs.declared.Inputs.{Inputs}
-use Rattle.transform.specs.declared.DerivedBitVecSignal.{DerivedBitVecSignal}
-use Rattle.transform.specs.Piece.{piecesOf}
+use Rattle.derivation.specs.declared.DerivedBitVecSignal.{DerivedBitVecSignal}
+use Rattle.derivation.specs.Piece.{piecesOf}
 use Rattle.transform.specs.Steps.{shownBy, Track, unbegun, countOf, smallest, moved, momentsFrom, momentsOf}
 use Rattle.transform.specs.Derive.{inputsOf, inputKept, lentTo, yielded, sameStep, shownIn, derivedList}
 use Rattle.transform.specs.Tests.{keptAll, Derivable}
 use Rattle.transform.specs.Room.{Few, totalOver, roomFor}
-use Rattle.transform.proofs.Pieces.{Sized}
+use Rattle.derivation.proofs.Pieces.{Sized}
 use Rattle.transform.proofs.InputTests.{noInput, input-fits, entries-count}
 use Rattle.transform.proofs.SteppingSources.{Source, sources}
 use Rattle.transform.proofs.SteppingWalk.{joined-length}

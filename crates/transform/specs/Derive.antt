@@ -19,11 +19,11 @@ use Rattle.runs.specs.Runs.{Step, joined, laidOut}
 use Rattle.signal.specs.Decode.{Indexed, entriesIn, levelsIn, hasBadMark}
 use Rattle.signal.specs.Read.{hasNoText, widthOf}
 use Rattle.signal.specs.Offset.{falls}
-use Rattle.transform.specs.declared.Extract.{Extract}
-use Rattle.transform.specs.declared.DerivedBitVecSignal.{DerivedBitVecSignal}
+use Rattle.derivation.specs.declared.Extract.{Extract}
+use Rattle.derivation.specs.declared.DerivedBitVecSignal.{DerivedBitVecSignal}
 use Rattle.transform.specs.declared.Input.{Input}
 use Rattle.transform.specs.declared.Inputs.{Inputs}
-use Rattle.transform.specs.Piece.{endOf, piecesOf, isBadDerivation}
+use Rattle.derivation.specs.Piece.{endOf, piecesOf, isBadDerivation}
 use Rattle.transform.specs.Steps.{Shown, shownBy, Moment, momentsOf}
 
 -- ---- what a step yields

@@ -1,5 +1,3 @@
-pub mod Piece
-pub mod Answer
 pub mod Steps
 pub mod Derive
 pub mod Tests

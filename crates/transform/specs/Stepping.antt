@@ -24,9 +24,9 @@ use Rattle.signal.specs.Read.{widthOf, hasNoText}
 use Rattle.signal.specs.Parts.{Whole, Inside}
 use Rattle.transform.specs.declared.Input.{Input}
 use Rattle.transform.specs.declared.Inputs.{Inputs}
-use Rattle.transform.specs.declared.Extract.{Extract}
-use Rattle.transform.specs.declared.DerivedBitVecSignal.{DerivedBitVecSignal}
-use Rattle.transform.specs.Piece.{extractOf, endOf, pieceWidth}
+use Rattle.derivation.specs.declared.Extract.{Extract}
+use Rattle.derivation.specs.declared.DerivedBitVecSignal.{DerivedBitVecSignal}
+use Rattle.derivation.specs.Piece.{extractOf, endOf, pieceWidth}
 use Rattle.transform.specs.Steps.{smaller}
 use Rattle.transform.specs.Derive.{inputsOf, pickedOf, largestAmong}
 use Rattle.transform.specs.Tests.{keptAll, Derivable}

@@ -15,13 +15,13 @@ use Rattle.fst.specs.Record.{Kept, isBadBytes}
 use Rattle.signal.specs.Decode.{hasBadMark, entryAt}
 use Rattle.signal.specs.Parts.{Whole}
 use Rattle.signal.specs.Read.{widthOf}
-use Rattle.transform.specs.declared.Extract.{Extract}
-use Rattle.transform.specs.declared.DerivedBitVecSignal.{DerivedBitVecSignal}
+use Rattle.derivation.specs.declared.Extract.{Extract}
+use Rattle.derivation.specs.declared.DerivedBitVecSignal.{DerivedBitVecSignal}
 use Rattle.transform.specs.declared.Input.{Input}
 use Rattle.transform.specs.declared.Inputs.{Inputs}
 use Rattle.transform.specs.declared.InputTest.{InputTest}
 use Rattle.transform.specs.declared.InputTest.the-variants as test
-use Rattle.transform.specs.Piece.{endOf, piecesOf, isBadDerivation}
+use Rattle.derivation.specs.Piece.{endOf, piecesOf, isBadDerivation}
 use Rattle.transform.specs.Derive.{inputsOf, isBadInput, inputKept, isNoBitVector, isUnfit, startsLate, indicesFall, markIsBad, codeIsBad}
 
 -- ---- one input

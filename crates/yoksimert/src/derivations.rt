@@ -1,7 +1,7 @@
 // Add a piece and Derive. A derivation crosses as three numbers beside its names and its pieces, lent as arrays.
 ghost use mathlib.Core.Path.{_≡_};
-ghost use Rattle.transform.specs.declared.Side.the-variants.{Left, Right};
-ghost use Rattle.transform.specs.Piece.{joinedOf, addPiece, addFull};
+ghost use Rattle.derivation.specs.declared.Side.the-variants.{Left, Right};
+ghost use Rattle.derivation.specs.Piece.{joinedOf, addPiece, addFull};
 ghost use Rattle.transform.specs.Derive.{derive};
 ghost use Rattle.yoksimert.specs.Derivations.{derivationOf, leftByJoined, inputOf, inputsBy, FlatDerived, flatDerived};
 use crate::Decoded;
@@ -13,12 +13,12 @@ use crate::FlatMade;
 use crate::flat::decode;
 use crate::flat::flat_made;
 use crate::flat::verdict_number;
+use derivation::DerivedBitVecSignal;
+use derivation::Joined;
 use fst::Description;
 use fst::Encoding;
-use transform::DerivedBitVecSignal;
 use transform::Input;
 use transform::Inputs;
-use transform::Joined;
 use transform::derive::derive;
 use value::States;
 

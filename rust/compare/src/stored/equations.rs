@@ -37,11 +37,11 @@ use Rattle.signal.specs.Decode.{entryAt, entriesFrom, markIn, setIn, levelPart,
 use Rattle.signal.specs.Read.{Entry, readEntry, hasNoText, readText}
 use Rattle.signal.specs.Compare.{sameReal, sameValue, walked, compareRecords}
 use Rattle.signal.specs.Offset.{falls, greatest, runOf, none, at, placeOf, place, lookUp}
-use Rattle.transform.specs.declared.DerivedBitVecSignal.{DerivedBitVecSignal}
+use Rattle.derivation.specs.declared.DerivedBitVecSignal.{DerivedBitVecSignal}
 use Rattle.transform.specs.declared.Input.{Input}
 use Rattle.transform.specs.declared.Inputs.{Inputs}
-use Rattle.transform.specs.declared.Side.the-variants.{Left, Right}
-use Rattle.transform.specs.Piece.{packedOf, extractOf, isBadPiece, isBadDerivation, adjoin, merging, pieceAdded, nameAdded, derivationWith, isBadRange, isOverfull, addPiece}
+use Rattle.derivation.specs.declared.Side.the-variants.{Left, Right}
+use Rattle.derivation.specs.Piece.{packedOf, extractOf, isBadPiece, isBadDerivation, adjoin, merging, pieceAdded, nameAdded, derivationWith, isBadRange, isOverfull, addPiece}
 use Rattle.transform.specs.Steps.{smallest, moved, momentsFrom, momentsOf}
 use Rattle.transform.specs.Derive.{picked, derivedList, isUnfit, deriveRefusals, Derived, derive}
 ";

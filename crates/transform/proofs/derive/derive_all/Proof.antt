@@ -5,7 +5,7 @@ use denote.Ref.{now}
 use Rattle.transform.specs.Derive.{inputsOf, largestAmong}
 use Rattle.transform.specs.Tests.{keptAll}
 use Rattle.transform.specs.Stepping.{Walkable}
-use Rattle.transform.proofs.Walks.{sized}
+use Rattle.derivation.proofs.Walks.{sized}
 use Rattle.transform.proofs.InputTests.{slotted}
 use Rattle.transform.proofs.SteppingDerive.{no-room, roomy, all-stored}
 use Rattle.transform.proofs.SteppingSources.{few-inputs, largest-is}

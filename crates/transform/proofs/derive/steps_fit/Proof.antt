@@ -8,8 +8,8 @@ use denote.Ref.{now}
 use lib.ListN.{length, length-replicate}
 use Rattle.layout.specs.Entry.{entrySize}
 use Rattle.fst.proofs.Rooms.{size-small}
-use Rattle.transform.proofs.Pieces.{Sized}
-use Rattle.transform.proofs.Walks.{sized}
+use Rattle.derivation.proofs.Pieces.{Sized}
+use Rattle.derivation.proofs.Walks.{sized}
 use Rattle.transform.proofs.InputTests.{slotted}
 use Rattle.transform.proofs.SteppingSources.{few-inputs, narrow}
 use Rattle.transform.proofs.Totals.{few-each, steps-bound, fits-counted, fits-together}

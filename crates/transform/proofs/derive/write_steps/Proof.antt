@@ -14,14 +14,14 @@ use Rattle.value.specs.Level.{textOf}
 use Rattle.layout.specs.Entry.{entrySize}
 use Rattle.fst.specs.Record.{Kept}
 use Rattle.runs.specs.Runs.{Step, indexOf, entriesOf}
-use Rattle.transform.specs.Piece.{extractOf, piecesOf}
+use Rattle.derivation.specs.Piece.{extractOf, piecesOf}
 use Rattle.transform.specs.Derive.{derivedList}
 use Rattle.transform.specs.Tests.{keptAll}
 use Rattle.signal.specs.declared.NextIndex.the-variants.{At}
 use Rattle.transform.specs.Stepping.{inputsIn, cursorsOf, pickedNow, Walkable, Indexable, Pickable, Roomy}
 use Rattle.transform.specs.declared.Inputs.{Inputs}
-use Rattle.transform.proofs.Walks.{sized}
-use Rattle.transform.proofs.Pieces.{Sized}
+use Rattle.derivation.proofs.Walks.{sized}
+use Rattle.derivation.proofs.Pieces.{Sized}
 use Rattle.transform.proofs.InputTests.{slotted}
 use Rattle.transform.proofs.SteppingTracks.{tracks, toCome}
 use Rattle.transform.proofs.SteppingSources.{vectors, indexable, few-pieces, narrow}

@@ -12,7 +12,7 @@ use Rattle.value.specs.Slice.{overlay}
 use Rattle.transform.specs.declared.Input.{Input}
 use Rattle.transform.specs.declared.Inputs.{Inputs}
 use Rattle.transform.specs.Derive.{pickedOf}
-use Rattle.transform.specs.Piece.{extractOf}
+use Rattle.derivation.specs.Piece.{extractOf}
 use Rattle.transform.specs.Stepping.{inputIn, inputsIn, cursor, cursorsOf, levelsNow, pickedNow, Picks}
 use Rattle.transform.proofs.InputTests.{noInput}
 use Rattle.transform.proofs.SteppingTable.{slot-is}

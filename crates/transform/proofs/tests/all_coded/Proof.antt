@@ -11,8 +11,8 @@ use Rattle.transform.specs.Derive.{inputsOf}
 use Rattle.transform.specs.Tests.{keptAll}
 use Rattle.transform.proofs.InputTests.{Clear, clear-none, noInput, slotted, slot-more, slots-all, input-fits, fit}
 use Rattle.transform.proofs.InputCodes.{uncoded, input-sound, input-narrow, whole-picking, whole-coded, pieces-coded}
-use Rattle.transform.proofs.Pieces.{sound}
-use Rattle.transform.proofs.Walks.{sized}
+use Rattle.derivation.proofs.Pieces.{sound}
+use Rattle.derivation.proofs.Walks.{sized}
 use Rattle.transform.proofs.tests.all_coded.Statement.{statement}
 use Rattle.transform.proofs.tests.all_coded.Tie as tie
 

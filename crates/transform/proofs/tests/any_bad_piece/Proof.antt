@@ -7,12 +7,12 @@ use native.Mathlib.Omega.{arith}
 use borrow.Author.Needs.{needs}
 use denote.Ref.{now}
 use lib.ListN.{length, getD}
-use Rattle.transform.specs.declared.Extract.{Extract}
-use Rattle.transform.specs.Piece.{piecesOf, isBadDerivation}
+use Rattle.derivation.specs.declared.Extract.{Extract}
+use Rattle.derivation.specs.Piece.{piecesOf, isBadDerivation}
 use Rattle.transform.specs.Derive.{codeIsBad}
 use Rattle.transform.specs.Tests.{keptAll}
 use Rattle.transform.proofs.InputTests.{Clear, clear-none, noInput, slotted, fit, piece-low, piece-one, piece-more, pieces-all, input-fits, signal-low, input-good, picking, picks-told}
-use Rattle.transform.proofs.Walks.{sized}
+use Rattle.derivation.proofs.Walks.{sized}
 use Rattle.transform.proofs.tests.any_bad_piece.Statement.{statement}
 use Rattle.transform.proofs.tests.any_bad_piece.Tie as tie
 

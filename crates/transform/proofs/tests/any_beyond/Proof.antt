@@ -5,11 +5,11 @@ use mathlib.Core.List.{List}
 use Prim.Native.Nat.{ℕ, _-_, _≤_, _<_, min}
 use native.Mathlib.Omega.{arith}
 use borrow.Author.Needs.{needs}
-use Rattle.transform.specs.Piece.{piecesOf}
+use Rattle.derivation.specs.Piece.{piecesOf}
 use Rattle.transform.specs.Derive.{isBeyond}
 use Rattle.transform.specs.Tests.{keptAll}
 use Rattle.transform.proofs.InputTests.{Clear, clear-none, slotted, piece-low, piece-input, piece-one, piece-more, pieces-all, beyond-is, beyond-not}
-use Rattle.transform.proofs.Walks.{sized}
+use Rattle.derivation.proofs.Walks.{sized}
 use Rattle.transform.proofs.tests.any_beyond.Statement.{statement}
 use Rattle.transform.proofs.tests.any_beyond.Tie as tie
 

@@ -8,7 +8,7 @@ use denote.Ref.{now}
 use lib.ListN.{length}
 use Rattle.value.specs.Slice.{part}
 use Rattle.value.proofs.Digits.{below-all}
-use Rattle.transform.specs.Piece.{endOf}
+use Rattle.derivation.specs.Piece.{endOf}
 use Rattle.transform.proofs.InputCodes.{none-picked, picked-room}
 use Rattle.transform.proofs.tests.has_bad_level.Statement.{statement}
 use Rattle.transform.proofs.tests.has_bad_level.Tie as tie

@@ -1,9 +1,9 @@
 -- `yoksimert::derivations::yoksimert_concat_left_full` meets its contract.
 -- Assumes nothing.
 use mathlib.Core.Path.{ap, _∙_}
-use Rattle.transform.specs.declared.DerivedBitVecSignal.{DerivedBitVecSignal}
-use Rattle.transform.specs.declared.Side.the-variants.{Left}
-use Rattle.transform.specs.Piece.{addFull}
+use Rattle.derivation.specs.declared.DerivedBitVecSignal.{DerivedBitVecSignal}
+use Rattle.derivation.specs.declared.Side.the-variants.{Left}
+use Rattle.derivation.specs.Piece.{addFull}
 use borrow.Author.Needs.{needs}
 use Rattle.yoksimert.proofs.derivations.yoksimert_concat_left_full.Statement.{statement}
 use Rattle.yoksimert.proofs.derivations.yoksimert_concat_left_full.Tie as tie

@@ -1,9 +1,9 @@
 -- `yoksimert::derivations::yoksimert_concat_right` meets its contract.
 -- Assumes nothing.
 use mathlib.Core.Path.{ap, _∙_}
-use Rattle.transform.specs.declared.DerivedBitVecSignal.{DerivedBitVecSignal}
-use Rattle.transform.specs.declared.Side.the-variants.{Right}
-use Rattle.transform.specs.Piece.{addPiece}
+use Rattle.derivation.specs.declared.DerivedBitVecSignal.{DerivedBitVecSignal}
+use Rattle.derivation.specs.declared.Side.the-variants.{Right}
+use Rattle.derivation.specs.Piece.{addPiece}
 use borrow.Author.Needs.{needs}
 use Rattle.yoksimert.proofs.derivations.yoksimert_concat_right.Statement.{statement}
 use Rattle.yoksimert.proofs.derivations.yoksimert_concat_right.Tie as tie

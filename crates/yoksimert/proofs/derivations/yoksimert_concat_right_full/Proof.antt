@@ -1,9 +1,9 @@
 -- `yoksimert::derivations::yoksimert_concat_right_full` meets its contract.
 -- Assumes nothing.
 use mathlib.Core.Path.{ap, _∙_}
-use Rattle.transform.specs.declared.DerivedBitVecSignal.{DerivedBitVecSignal}
-use Rattle.transform.specs.declared.Side.the-variants.{Right}
-use Rattle.transform.specs.Piece.{addFull}
+use Rattle.derivation.specs.declared.DerivedBitVecSignal.{DerivedBitVecSignal}
+use Rattle.derivation.specs.declared.Side.the-variants.{Right}
+use Rattle.derivation.specs.Piece.{addFull}
 use borrow.Author.Needs.{needs}
 use Rattle.yoksimert.proofs.derivations.yoksimert_concat_right_full.Statement.{statement}
 use Rattle.yoksimert.proofs.derivations.yoksimert_concat_right_full.Tie as tie

@@ -1,0 +1,4 @@
+pub mod Examples
+pub mod Pieces
+pub mod Joins
+pub mod Walks
