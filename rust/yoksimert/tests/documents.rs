@@ -1,0 +1,351 @@
+//! The documents keep up with the repository: what they cite is there, their links lead somewhere, and their prose is wrapped.
+
+use std::collections::{BTreeMap, BTreeSet};
+use std::fs;
+use std::path::{Path, PathBuf};
+
+const DOCUMENTS: [&str; 7] = [
+    "README.md",
+    "docs/FORMAT.md",
+    "docs/PROOFS.md",
+    "docs/DECISIONS.md",
+    "docs/DIFFERENCES.md",
+    "docs/FROM-WELLEN.md",
+    "docs/BENCHMARKS.md",
+];
+const WIDEST: usize = 120;
+
+fn root() -> PathBuf {
+    Path::new(env!("CARGO_MANIFEST_DIR")).join("../..")
+}
+
+fn file(path: &str) -> String {
+    let path = root().join(path);
+    fs::read_to_string(&path).unwrap_or_else(|error| panic!("{}: {error}", path.display()))
+}
+
+/// The files below a folder, by their paths from there.
+fn files(folder: &str) -> Vec<String> {
+    let Ok(entries) = fs::read_dir(root().join(folder)) else {
+        return Vec::new();
+    };
+    let mut all = Vec::new();
+    for entry in entries {
+        let entry = entry.expect("the folder is read");
+        let path = format!("{folder}/{}", entry.file_name().to_string_lossy());
+        if entry.path().is_dir() && !path.ends_with("/target") {
+            all.extend(files(&path));
+        } else {
+            all.push(path);
+        }
+    }
+    all
+}
+
+fn crates() -> Vec<String> {
+    let list = file("crates.txt");
+    let lines = list.lines().filter_map(|line| line.split_once(':'));
+    lines.map(|(name, _)| name.to_string()).collect()
+}
+
+/// The lines of a document outside its programs, numbered from 1.
+fn lines(text: &str) -> Vec<(usize, &str)> {
+    let mut inside = false;
+    let outside = text.lines().enumerate().filter(|(_, line)| {
+        let fence = line.starts_with("```");
+        inside ^= fence;
+        !inside && !fence
+    });
+    outside.map(|(at, line)| (at + 1, line)).collect()
+}
+
+/// The code spans of a line, and what stands between them.
+fn spans(line: &str) -> impl Iterator<Item = (bool, &str)> {
+    let parts = line.split('`').enumerate();
+    parts.map(|(at, part)| (at % 2 == 1, part))
+}
+
+#[test]
+fn prose_is_wrapped() {
+    for document in DOCUMENTS {
+        let text = file(document);
+        for (at, line) in lines(&text) {
+            let long = line.chars().count() > WIDEST && !line.starts_with('|');
+            assert!(!long, "{document}:{at} has more than {WIDEST} characters");
+        }
+    }
+}
+
+/// A heading as a link names it.
+fn anchor(heading: &str) -> String {
+    let kept = heading
+        .trim_start_matches('#')
+        .trim()
+        .chars()
+        .filter(|c| c.is_alphanumeric() || [' ', '-', '_'].contains(c));
+    kept.collect::<String>().to_lowercase().replace(' ', "-")
+}
+
+#[test]
+fn links_lead_somewhere() {
+    for document in DOCUMENTS {
+        let text = file(document);
+        let here = Path::new(document).parent().expect("a folder");
+        for (at, line) in lines(&text) {
+            for link in line.split("](").skip(1) {
+                let link = link.split(')').next().unwrap_or_default();
+                let (path, heading) = link.split_once('#').unwrap_or((link, ""));
+                let target = match path {
+                    "" => document.to_string(),
+                    _ => here.join(path).to_string_lossy().into_owned(),
+                };
+                let target = file(&target);
+                let mut headings = target.lines().filter(|line| line.starts_with('#'));
+                let there = heading.is_empty() || headings.any(|line| anchor(line) == heading);
+                assert!(there, "{document}:{at}: {link}");
+            }
+        }
+    }
+}
+
+/// Paths from the repository's root, but for what a build writes.
+#[test]
+fn paths_are_there() {
+    let folders = ["crates/", "docs/", "include/", "rust/"];
+    for document in DOCUMENTS {
+        let text = file(document);
+        for (at, line) in lines(&text) {
+            let paths = spans(line).filter(|(is_code, path)| {
+                *is_code && folders.iter().any(|folder| path.starts_with(folder))
+            });
+            for (_, path) in paths.filter(|(_, path)| !path.contains('*')) {
+                assert!(root().join(path).exists(), "{document}:{at}: {path}");
+            }
+        }
+    }
+}
+
+/// Files of `specs/` that people must believe: all but the inner ones.
+fn definitions() -> BTreeSet<String> {
+    let specs = crates().into_iter().flat_map(|name| {
+        let files = files(&format!("crates/{name}/specs")).into_iter();
+        files.map(move |path| (name.clone(), path))
+    });
+    let believed = specs.filter(|(_, path)| {
+        !path.ends_with("/Lib.antt")
+            && path.ends_with(".antt")
+            && !file(path).starts_with("-- Inner")
+    });
+    let named = believed.map(|(name, path)| {
+        let stem = Path::new(&path).file_stem().expect("a file");
+        format!("{name}/{}", stem.to_string_lossy())
+    });
+    named.collect()
+}
+
+/// docs/FORMAT.md names the files of definitions for each of its sections, and none is left out.
+#[test]
+fn the_format_names_every_file_of_definitions() {
+    let text = file("docs/FORMAT.md");
+    let table = text.split("| section | definitions |").nth(1);
+    let table = table.expect("the table of definitions").trim_start();
+    let rows = table.lines().take_while(|line| line.starts_with('|'));
+    let cells = rows.skip(1).map(|row| {
+        let cells: Vec<_> = row.split('|').collect();
+        cells[2].trim().to_string()
+    });
+    let named = cells.flat_map(|cell| {
+        let names: Vec<_> = cell.split(", ").map(str::to_string).collect();
+        names
+    });
+    assert_eq!(named.collect::<BTreeSet<_>>(), definitions());
+}
+
+/// What a crate declares: the texts of its files by their names without the ending, those of `src/` under no name.
+struct Declared {
+    texts: BTreeMap<(String, String), String>,
+    edits: BTreeSet<(String, String)>,
+}
+
+fn declared() -> Declared {
+    let (mut texts, mut edits) = (BTreeMap::<_, String>::new(), BTreeSet::new());
+    for name in crates() {
+        for path in files(&format!("crates/{name}")) {
+            let (stem, ending) = path.rsplit_once('.').unwrap_or((&path, ""));
+            let stem = stem.rsplit('/').next().unwrap_or_default().to_string();
+            match ending {
+                "rt" => texts
+                    .entry((name.clone(), String::new()))
+                    .or_default()
+                    .push_str(&file(&path)),
+                "antt" => texts
+                    .entry((name.clone(), stem))
+                    .or_default()
+                    .push_str(&file(&path)),
+                "edit" => _ = edits.insert((name.clone(), stem)),
+                _ => (),
+            }
+        }
+    }
+    Declared { texts, edits }
+}
+
+const KEYWORDS: [&str; 16] = [
+    "pub",
+    "abbrev",
+    "unfoldable",
+    "record",
+    "data",
+    "fn",
+    "struct",
+    "enum",
+    "const",
+    "extern",
+    "\"C\"",
+    "export",
+    "program",
+    "type",
+    "static",
+    "unsafe",
+];
+
+/// Whether a line of a text declares a name: the first word that is no keyword.
+fn declares(text: &str, name: &str) -> bool {
+    text.lines().any(|line| {
+        let words = line.split(|c: char| c.is_whitespace() || "({[<:,".contains(c));
+        let mut words = words.filter(|word| !word.is_empty() && !KEYWORDS.contains(word));
+        words.next() == Some(name)
+    })
+}
+
+impl Declared {
+    fn in_file(&self, name: &str, file: &str, word: &str) -> bool {
+        let text = self.texts.get(&(name.to_string(), file.to_string()));
+        text.is_some_and(|text| declares(text, word))
+    }
+
+    /// In the code of a crate, or an edit of it.
+    fn in_crate(&self, name: &str, word: &str) -> bool {
+        let edit = (name.to_string(), word.to_string());
+        let is_there = |part: &str| self.in_file(name, "", part);
+        let path = word.split_once("::");
+        self.edits.contains(&edit)
+            || path.map_or_else(
+                || is_there(word),
+                |(of, part)| is_there(of) && is_there(part),
+            )
+    }
+
+    fn anywhere(&self, word: &str) -> bool {
+        let last = word.rsplit("::").next().unwrap_or_default();
+        let declared = self.texts.values().any(|text| declares(text, last));
+        declared || self.edits.iter().any(|(_, edit)| edit == word)
+    }
+}
+
+/// `States::{mark, bits}` is `States::mark` and `States::bits`.
+fn expanded(span: &str) -> Vec<String> {
+    let Some((before, rest)) = span.split_once('{') else {
+        return vec![span.to_string()];
+    };
+    let parts = rest.trim_end_matches('}').split(", ");
+    parts.map(|part| format!("{before}{part}")).collect()
+}
+
+/// Where names are looked for: in a crate's code, or in one of its files of definitions and proofs.
+type Place = Option<(String, String)>;
+
+/// The place that a word names, if it names one; a file that isn't there is told.
+fn place(word: &str, declared: &Declared, wrong: &mut Vec<String>) -> Place {
+    let word = word.trim_matches(|c: char| !c.is_alphanumeric());
+    let parts: Vec<_> = word.split('/').collect();
+    let crates = crates();
+    match parts.as_slice() {
+        [name] if crates.iter().any(|other| other == name) => {
+            Some((name.to_string(), String::new()))
+        }
+        [name, .., file] if file.starts_with(char::is_uppercase) => {
+            let place = (name.to_string(), file.to_string());
+            if !declared.texts.contains_key(&place) {
+                wrong.push(format!("no file {word}"));
+            }
+            Some(place)
+        }
+        _ => None,
+    }
+}
+
+const PLAIN: [&str; 3] = ["requires", "ensures", "pub"];
+
+/// Whether a code span is a name, and not a command, a path or an example.
+fn is_name(span: &str) -> bool {
+    let plain = span
+        .chars()
+        .all(|c| c.is_alphanumeric() || "_-:'".contains(c));
+    plain && span.starts_with(char::is_alphabetic) && !PLAIN.contains(&span)
+}
+
+/// Names of a line that are declared nowhere, or not where the line says.
+fn undeclared(line: &str, declared: &Declared) -> Vec<String> {
+    let (mut wrong, mut here) = (Vec::new(), None);
+    for (is_code, part) in spans(line) {
+        if !is_code {
+            let words = part.split_whitespace();
+            let places: Vec<_> = words
+                .filter_map(|word| place(word, declared, &mut wrong))
+                .collect();
+            here = places.into_iter().next_back().or(here);
+            continue;
+        }
+        for name in expanded(part).iter().filter(|name| is_name(name)) {
+            let found = match &here {
+                None => declared.anywhere(name),
+                Some((of, file)) if file.is_empty() => declared.in_crate(of, name),
+                Some((of, file)) => declared.in_file(of, file, name),
+            };
+            if !found {
+                let (of, file) = here.clone().unwrap_or_default();
+                wrong.push(format!("no {name} in crates/{of} {file}"));
+            }
+        }
+    }
+    wrong
+}
+
+/// Every name that docs/PROOFS.md cites is declared where it says. The first cell of a row with a sentence of document 01 is that sentence.
+#[test]
+fn the_proofs_are_there() {
+    let (text, declared) = (file("docs/PROOFS.md"), declared());
+    let (mut wrong, mut quoted) = (Vec::new(), false);
+    for (at, line) in lines(&text) {
+        let told = if let Some(row) = line.strip_prefix('|') {
+            quoted |= row.starts_with(" sentence") || row.starts_with(" what must not pass");
+            let cells = row.split(" | ").skip(usize::from(quoted));
+            cells.flat_map(|cell| undeclared(cell, &declared)).collect()
+        } else {
+            quoted = false;
+            let named = spans(line)
+                .filter(|(is_code, _)| *is_code)
+                .flat_map(|(_, span)| expanded(span));
+            let names: Vec<_> = named.filter(|name| is_name(name)).collect();
+            let lost = names.into_iter().filter(|name| !declared.anywhere(name));
+            lost.map(|name| format!("no {name}")).collect::<Vec<_>>()
+        };
+        wrong.extend(
+            told.into_iter()
+                .map(|word| format!("docs/PROOFS.md:{at}: {word}")),
+        );
+    }
+    assert!(wrong.is_empty(), "{}", wrong.join("\n"));
+}
+
+/// Every edit that must be refused is named in docs/PROOFS.md, or all of its crate are.
+#[test]
+fn every_edit_is_named() {
+    let text = file("docs/PROOFS.md");
+    let all = ["value", "wavemem"];
+    for (name, edit) in declared().edits {
+        let named = all.contains(&name.as_str()) || text.contains(&format!("`{edit}`"));
+        assert!(named, "crates/{name}/must-fail/{edit}.edit");
+    }
+}
