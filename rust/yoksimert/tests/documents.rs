@@ -108,20 +108,38 @@ fn links_lead_somewhere() {
     }
 }
 
-/// Paths from the repository's root, but for what a build writes.
+/// Paths from the repository's root, in code spans or in prose.
 #[test]
 fn paths_are_there() {
     let folders = ["crates/", "docs/", "include/", "rust/"];
     for document in DOCUMENTS {
         let text = file(document);
         for (at, line) in lines(&text) {
-            let paths = spans(line).filter(|(is_code, path)| {
-                *is_code && folders.iter().any(|folder| path.starts_with(folder))
-            });
-            for (_, path) in paths.filter(|(_, path)| !path.contains('*')) {
+            let words = line.split(|c: char| c.is_whitespace() || "`()".contains(c));
+            let paths = words.filter(|word| folders.iter().any(|folder| word.starts_with(folder)));
+            for path in paths.filter(|path| !path.contains('*')) {
+                let path = path.trim_end_matches(['.', ',', ';', ':']);
                 assert!(root().join(path).exists(), "{document}:{at}: {path}");
             }
         }
+    }
+}
+
+/// Each difference from wellen is held by the test that its row names.
+#[test]
+fn the_differences_are_tested() {
+    let tests: String = files("rust/compare")
+        .iter()
+        .filter(|path| path.ends_with(".rs"))
+        .map(|path| file(path))
+        .collect();
+    let text = file("docs/DIFFERENCES.md");
+    let rows = text
+        .lines()
+        .filter(|line| line.starts_with('|') && !line.contains("---"));
+    let names = rows.filter_map(|row| row.trim_end_matches([' ', '|']).rsplit("| ").next());
+    for name in names.filter(|name| *name != "test") {
+        assert!(tests.contains(&format!("fn {name}(")), "{name}");
     }
 }
 
