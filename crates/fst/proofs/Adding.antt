@@ -64,32 +64,32 @@ module _ (d : Description) (l : Lent) (i : ℕ) (c : Change) where
   abbrev pub acceptedWith : Recorder → Outcome Recorder
   acceptedWith r = record { refused = 0; left = r }
 
-  pub two : isBad d l ≡ true → refusedWith 2 ≡ addChange d l i c
+  pub gives-2 : isBad d l ≡ true → refusedWith 2 ≡ addChange d l i c
   unfolding addChange refusals tried
-  two h = rw h
+  gives-2 h = rw h
 
-  pub three : isBad d l ≡ false → isOtherKind (d .encoding) c ≡ true → refusedWith 3 ≡ addChange d l i c
+  pub gives-3 : isBad d l ≡ false → isOtherKind (d .encoding) c ≡ true → refusedWith 3 ≡ addChange d l i c
   unfolding addChange refusals tried
-  three sound h = rw (sound, h)
+  gives-3 sound h = rw (sound, h)
 
   module _ (sound : isBad d l ≡ false) (kind : isOtherKind (d .encoding) c ≡ false) where
-    pub four : isOtherLength (d .encoding) c ≡ true → refusedWith 4 ≡ addChange d l i c
+    pub gives-4 : isOtherLength (d .encoding) c ≡ true → refusedWith 4 ≡ addChange d l i c
     unfolding addChange refusals tried
-    four h = rw (sound, kind, h)
+    gives-4 h = rw (sound, kind, h)
 
     module _ (long : isOtherLength (d .encoding) c ≡ false) where
-      pub five : isForeign (d .encoding) c ≡ true → refusedWith 5 ≡ addChange d l i c
+      pub gives-5 : isForeign (d .encoding) c ≡ true → refusedWith 5 ≡ addChange d l i c
       unfolding addChange refusals tried
-      five h = rw (sound, kind, long, h)
+      gives-5 h = rw (sound, kind, long, h)
 
   -- the last index kept
   abbrev below : Bool
   below = isBelowLast i (d .count) (part (l .indexStart) (d .count) (l .indices))
 
   module _ (u : Suited d l c) where
-    pub six : true ≡ below → refusedWith 6 ≡ addChange d l i c
+    pub gives-6 : true ≡ below → refusedWith 6 ≡ addChange d l i c
     unfolding addChange refusals tried keptIn
-    six h = rw (u .sound, u .kind, u .long, u .known, ← h)
+    gives-6 h = rw (u .sound, u .kind, u .long, u .known, ← h)
 
     pub admits : false ≡ below → Admitted d l i c
     unfolding keptIn
@@ -97,9 +97,9 @@ module _ (d : Description) (l : Lent) (i : ℕ) (c : Change) where
 
   -- the record with the change, and whether it has room
   module _ (a : Admitted d l i c) (k : Kept) (e : withChange (keptIn d l) i c ≡ k) where
-    pub seven : widthStands (k .description .encoding) ≡ true → isBad (k .description) l ≡ true → refusedWith 7 ≡ addChange d l i c
+    pub gives-7 : widthStands (k .description .encoding) ≡ true → isBad (k .description) l ≡ true → refusedWith 7 ≡ addChange d l i c
     unfolding addChange refusals tried
-    seven w h = rw (a .sound, a .kind, a .long, a .known, a .rises, e, no-room (k .description) l w h)
+    gives-7 w h = rw (a .sound, a .kind, a .long, a .known, a .rises, e, no-room (k .description) l w h)
 
     pub accepted : (r : Recorder) → stored l k ≡ r → isBad (k .description) l ≡ false → acceptedWith r ≡ addChange d l i c
     unfolding addChange refusals tried

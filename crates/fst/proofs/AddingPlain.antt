@@ -17,15 +17,15 @@ use Rattle.value.proofs.Slices.{overlay-nil, overlay-part}
 use Rattle.fst.specs.declared.Encoding.{Encoding}
 use Rattle.fst.specs.declared.Encoding.the-variants.{Event, Real}
 use Rattle.fst.specs.declared.Description.{Description}
-use Rattle.fst.specs.Record.{Lent, Kept, maximum, sizeOf, usedSize, keptIn, fitsBytes, fits, isBad}
+use Rattle.fst.specs.Record.{Lent, Kept, maximum, sizeOf, usedSize, keptIn, fitsBytes, fits, isBad, described}
 use Rattle.fst.specs.Change.{Change, text, real, isOtherKind, isOtherLength, isForeign, repeats, appended, changed, withChange, stored, addChange}
 use Rattle.fst.specs.Adding.{Admitted}
 use Rattle.fst.proofs.Records.{not-bad}
-use Rattle.fst.proofs.Adding.{standing, refusedWith, acceptedWith, Suited, three, four, seven, accepted, indicesKept, stored-same, stored-behind}
+use Rattle.fst.proofs.Adding.{standing, refusedWith, acceptedWith, Suited, gives-3, gives-4, gives-7, accepted, indicesKept, stored-same, stored-behind}
 
 -- the same description with one entry more
 abbrev pub oneMore : Description → Description
-oneMore d = record { encoding = d .encoding; count = d .count + 1 }
+oneMore d = described (d .encoding) (d .count + 1)
 
 -- ---- nothing more, and room for one more
 
@@ -43,7 +43,7 @@ module _ (d : Description) (l : Lent) (sound : isBad d l ≡ false) where
       let f = standing d l sound in
       stored-same l d (d .count) (part (l .byteStart) (usedSize d) (l .bytes)) (f .indices) ∙ rw (overlay-part (l .bytes) (l .byteStart) (usedSize d) (f .bytes))
 
-  -- by the outcomes of the three tests
+  -- by the outcomes of the gives-3 tests
   by-tests : (x y z : Bool) → leb (d .count + 1) maximum ≡ x → leb (l .byteStart + usedSize (oneMore d)) (length (l .bytes)) ≡ y
       → leb (l .indexStart + (d .count + 1)) (length (l .indices)) ≡ z → not (x && y && z) ≡ isBad (oneMore d) l
   unfolding isBad fits fitsBytes
@@ -82,7 +82,7 @@ module _ (d : Description) (l : Lent) (i : ℕ) (c : Change) (a : Admitted d l i
 
   module _ (kept : withChange (keptIn d l) i c ≡ behind) where
     pub kept-full : isBad (oneMore d) l ≡ true → refusedWith d l i c 7 ≡ addChange d l i c
-    kept-full h = seven d l i c a behind kept ((not-bad d l (a .sound)) .0) h
+    kept-full h = gives-7 d l i c a behind kept ((not-bad d l (a .sound)) .0) h
 
     pub kept-more : isBad (oneMore d) l ≡ false
         → acceptedWith d l i c
@@ -105,9 +105,9 @@ module _ (d : Description) (l : Lent) (i : ℕ) (s : List ℕ) (sound : isBad d 
   unfolding isOtherKind
   event-kind = rw event
 
-  pub event-four : 1 < length s → refusedWith d l i (text s) 4 ≡ addChange d l i (text s)
+  pub event-gives-4 : 1 < length s → refusedWith d l i (text s) 4 ≡ addChange d l i (text s)
   unfolding isOtherLength
-  event-four h = four d l i (text s) sound event-kind (rw (event, lt-ltb 1 (length s) h))
+  event-gives-4 h = gives-4 d l i (text s) sound event-kind (rw (event, lt-ltb 1 (length s) h))
 
   pub event-suited : length s ≤ 1 → Suited d l (text s)
   unfolding isOtherLength isForeign
@@ -133,9 +133,9 @@ module _ (d : Description) (l : Lent) (i : ℕ) (s : List ℕ) (sound : isBad d 
 -- ---- a real
 
 -- a string to a real record
-pub real-three : (d : Description) (l : Lent) (i : ℕ) (s : List ℕ) → isBad d l ≡ false → d .encoding ≡ Real → refusedWith d l i (text s) 3 ≡ addChange d l i (text s)
+pub real-gives-3 : (d : Description) (l : Lent) (i : ℕ) (s : List ℕ) → isBad d l ≡ false → d .encoding ≡ Real → refusedWith d l i (text s) 3 ≡ addChange d l i (text s)
 unfolding isOtherKind
-real-three d l i s sound e = three d l i (text s) sound (rw e)
+real-gives-3 d l i s sound e = gives-3 d l i (text s) sound (rw e)
 
 abbrev pub realBytes : ℕ → List ℕ
 realBytes x = reverse (digits 256 8 x)

@@ -29,14 +29,14 @@ use Rattle.fst.specs.declared.Description.{Description}
 use Rattle.layout.specs.Entry.{entrySize, entryOf, widenAll}
 use Rattle.layout.specs.Writable.{Writable, Numbered}
 use Rattle.layout.specs.Expand.{Widenable}
-use Rattle.fst.specs.Record.{Lent, Kept, sizeOf, keptIn, widthStands, isBad}
+use Rattle.fst.specs.Record.{Lent, Kept, sizeOf, keptIn, widthStands, isBad, described}
 use Rattle.fst.specs.Change.{text, isOtherKind, isOtherLength, isForeign, repeats, appended, changed, withChange, addChange}
-use Rattle.fst.specs.Adding.{Admitted, Levels, Leveled, Comparable}
+use Rattle.fst.specs.Adding.{Admitted, AdmittedString, ShortEntry, Repeatable}
 use Rattle.layout.proofs.Sizes.{size-pos, widen-all-same, widen-all-length}
 use Rattle.layout.proofs.Numbers.{one-word, marked-number}
 use Rattle.fst.proofs.Records.{not-bad}
 use Rattle.fst.proofs.AddingPlain.{oneMore, same-stored, behind, kept-full, kept-more}
-use Rattle.fst.proofs.Adding.{standing, width-known, width-any, refusedWith, acceptedWith, Suited, four, five, seven, accepted, indicesKept, stored-same, stored-more}
+use Rattle.fst.proofs.Adding.{standing, width-known, width-any, refusedWith, acceptedWith, Suited, gives-4, gives-5, gives-7, accepted, indicesKept, stored-same, stored-more}
 
 -- ---- numbers 4 to 6
 
@@ -45,24 +45,24 @@ module _ (d : Description) (l : Lent) (i : ℕ) (s : List ℕ) (w : ℕ) (M : St
   unfolding isOtherKind
   string-kind = rw vector
 
-  pub string-four : (length s ≡ w → ⊥) → refusedWith d l i (text s) 4 ≡ addChange d l i (text s)
+  pub string-gives-4 : (length s ≡ w → ⊥) → refusedWith d l i (text s) 4 ≡ addChange d l i (text s)
   unfolding isOtherLength
-  string-four h = four d l i (text s) sound string-kind (rw (vector, ne-eqb (length s) w h))
+  string-gives-4 h = gives-4 d l i (text s) sound string-kind (rw (vector, ne-eqb (length s) w h))
 
   module _ (long : length s ≡ w) where
     string-long : isOtherLength (d .encoding) (text s) ≡ false
     unfolding isOtherLength
     string-long = rw (vector, eq-eqb (length s) w long)
 
-    pub string-five : leastStates s ≡ answer.Foreign → refusedWith d l i (text s) 5 ≡ addChange d l i (text s)
+    pub string-gives-5 : leastStates s ≡ answer.Foreign → refusedWith d l i (text s) 5 ≡ addChange d l i (text s)
     unfolding isForeign
-    string-five e = five d l i (text s) sound string-kind string-long (rw vector (foreign-told s e))
+    string-gives-5 e = gives-5 d l i (text s) sound string-kind string-long (rw vector (foreign-told s e))
 
     pub string-suited : (own : States) → leastStates s ≡ answer.Least own → Suited d l (text s)
     unfolding isForeign
     string-suited own least = record { sound = sound; kind = string-kind; long = string-long; known = rw vector ((least-told s own least) .0) }
 
-    pub string-levels : (own : States) → leastStates s ≡ answer.Least own → Admitted d l i (text s) → Levels d l i M own s
+    pub string-levels : (own : States) → leastStates s ≡ answer.Least own → Admitted d l i (text s) → AdmittedString d l i M own s
     string-levels own least a =
         record {
           admitted = a;
@@ -72,7 +72,7 @@ module _ (d : Description) (l : Lent) (i : ℕ) (s : List ℕ) (w : ℕ) (M : St
 
 -- ---- a string's levels, for a record of w levels under M, which J joins with the string's own set
 
-module _ (d : Description) (l : Lent) (i : ℕ) (s : List ℕ) (M own J : States) (v : Levels d l i M own s) (j : J ≡ join M own) where
+module _ (d : Description) (l : Lent) (i : ℕ) (s : List ℕ) (M own J : States) (v : AdmittedString d l i M own s) (j : J ≡ join M own) where
   abbrev w : ℕ
   w = length s
 
@@ -87,7 +87,7 @@ module _ (d : Description) (l : Lent) (i : ℕ) (s : List ℕ) (M own J : States
   entry = entryOf w J own (codesOf (foldAll s))
 
   abbrev pub under : ℕ → Description
-  under m = record { encoding = BitVector w J; count = m }
+  under m = described (BitVector w J) m
 
   -- the record with the change
   abbrev kept : Bool → Kept
@@ -122,7 +122,7 @@ module _ (d : Description) (l : Lent) (i : ℕ) (s : List ℕ) (M own J : States
       record { known = b; below = rw (v .least) (levels.under (codesOf (foldAll s)) b) }
 
   -- what the calls ask
-  pub comparable : Comparable M J own s (length (l .bytes)) (l .byteStart) n
+  pub comparable : Repeatable M J own s (length (l .bytes)) (l .byteStart) n
   comparable =
       let p = width-known w M width-here in
       record {
@@ -145,10 +145,10 @@ module _ (d : Description) (l : Lent) (i : ℕ) (s : List ℕ) (M own J : States
       where
         go : (r : Bool) → r ≡ repeats (entrySize w J) n wide entry → next ≡ cond r n (n + 1) → refusedWith d l i (text s) 7 ≡ addChange d l i (text s)
         go true t c =
-            seven d l i (text s) (v .admitted) (kept true) (with-levels true t) (width-any w M J width-here)
+            gives-7 d l i (text s) (v .admitted) (kept true) (with-levels true t) (width-any w M J width-here)
             (ap (λ (d : Description). isBad d l) (sym (count-of true next c)) ∙ h)
         go false t c =
-            seven d l i (text s) (v .admitted) (kept false) (with-levels false t) (width-any w M J width-here)
+            gives-7 d l i (text s) (v .admitted) (kept false) (with-levels false t) (width-any w M J width-here)
             (ap (λ (d : Description). isBad d l) (sym (count-of false next c)) ∙ h)
 
     module _ (roomy : isBad (under next) l ≡ false) where
@@ -229,11 +229,11 @@ module _ (d : Description) (l : Lent) (i : ℕ) (s : List ℕ) (M own J : States
 
 -- ---- a string that raises no set
 
-module _ (d : Description) (l : Lent) (i : ℕ) (s : List ℕ) (M own : States) (v : Levels d l i M own s) (low : markOf own ≤ markOf M) where
+module _ (d : Description) (l : Lent) (i : ℕ) (s : List ℕ) (M own : States) (v : AdmittedString d l i M own s) (low : markOf own ≤ markOf M) where
   joined : M ≡ join M own
   joined = mark-inj M (join M own) (omega (arith, mark-join M own))
 
-  pub same-comparable : Comparable M M own s (length (l .bytes)) (l .byteStart) (d .count)
+  pub same-comparable : Repeatable M M own s (length (l .bytes)) (l .byteStart) (d .count)
   same-comparable = comparable d l i s M own M v joined
 
   -- the string's entry by itself
@@ -243,12 +243,12 @@ module _ (d : Description) (l : Lent) (i : ℕ) (s : List ℕ) (M own : States) 
       record { under = p .under; codes = p .codes; wide = p .wide; short = p .short; fits = omega arith }
 
   -- the levels of a short entry are told by a scan
-  pub levels-told : (size : ℕ) (r : Scanned) → size ≡ entrySize (length s) M → r .answer ≡ answer.Least own → ScanFor s size r → Leveled M own s size (r .levels)
+  pub levels-told : (size : ℕ) (r : Scanned) → size ≡ entrySize (length s) M → r .answer ≡ answer.Least own → ScanFor s size r → ShortEntry M own s size (r .levels)
   levels-told size r e a t =
       record { sized = e; is = λ h. t .levels own a h ((one-word entry-writable (omega arith)) .short) }
 
   -- the number of a short entry, from that of its levels
-  pub levels-numbered : (size levels n : ℕ) → Leveled M own s size levels → (size ≤ 8 → n ≡ bitOr levels (markOf own * 2 ^ (8 * size - 2)))
+  pub levels-numbered : (size levels n : ℕ) → ShortEntry M own s size levels → (size ≤ 8 → n ≡ bitOr levels (markOf own * 2 ^ (8 * size - 2)))
       → Numbered M own s size n
   levels-numbered size levels n t e =
       record {
@@ -260,7 +260,7 @@ module _ (d : Description) (l : Lent) (i : ℕ) (s : List ℕ) (M own : States) 
             ∙ marked-number entry-writable (omega (arith, t .sized));
       }
 
-  pub size-some : (size levels : ℕ) → Leveled M own s size levels → 1 ≤ size
+  pub size-some : (size levels : ℕ) → ShortEntry M own s size levels → 1 ≤ size
   size-some size levels t = omega (arith, t .sized, size-pos (length s) (same-comparable .wide) M)
 
   -- the bytes as they are, and whether their last entry is the string's

@@ -1,11 +1,39 @@
 -- What `tried` replies: the reply behind the tests where each passes, or else a number.
 -- Assumes nothing.
 use mathlib.Core.Path.{_≡_, refl, sym, subst}
-use Prim.Native.Nat.{ℕ, zero, suc}
+use Prim.Native.Nat.{ℕ, zero, suc, _<_}
 use native.Mathlib.Omega.{arith}
-use mathlib.Core.Bool.{true, false, true≢false}
+use mathlib.Core.Bool.{Bool, true, false, true≢false, _&&_}
+use mathlib.Core.Logic.{inl, inr}
 use mathlib.Core.List.{List, [], _∷_}
-use Rattle.fst.specs.Refusal.{Reply, refused, given, Test, _⇐_, tried, outcome}
+use lib.Dec.{T, ltb, ltb→lt}
+use denote.Enum.Declared.{Choice}
+use denote.Struct.Field.{Field}
+use Rattle.value.proofs.Tests.{and-left, and-right}
+use Rattle.fst.specs.declared.Refusal.{Refusal}
+use Rattle.fst.specs.Refusal.{number, Reply, refused, given, Test, _⇐_, tried, outcome}
+use Rattle.fst.proofs.Refusal.{parts, as-values, make, eta}
+
+-- ---- no refusal has number 0
+
+-- a test of each variant of an enum, where no variant holds anything
+abbrev every : (fs : List (List Field)) → (Choice fs → Bool) → Bool
+every [] f = true
+every ([] ∷ fs) f = f (inl tt) && every fs (λ c. f (inr c))
+every ((x ∷ xs) ∷ fs) f = false
+
+every-holds : (fs : List (List Field)) (f : Choice fs → Bool) → T (every fs f) → (c : Choice fs) → T (f c)
+every-holds [] f t c = absurd c
+every-holds ([] ∷ fs) f t (inl v) = and-left (f (inl tt)) (every fs (λ c. f (inr c))) t
+every-holds ([] ∷ fs) f t (inr c) = every-holds fs (λ c. f (inr c)) (and-right (f (inl tt)) (every fs (λ c. f (inr c))) t) c
+every-holds ((x ∷ xs) ∷ fs) f t c = absurd t
+
+pub number-some : (r : Refusal) → 0 < number r
+number-some r =
+    subst (λ (r : Refusal). 0 < number r) (eta r)
+    (ltb→lt 0 (number (make (as-values r))) (every-holds parts (λ c. ltb 0 (number (make c))) tt (as-values r)))
+
+-- ---- what is tried
 
 -- no test holds
 abbrev pub Passed : List Test → Type 0

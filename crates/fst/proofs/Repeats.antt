@@ -14,8 +14,9 @@ use Rattle.fst.specs.declared.Encoding.the-variants.{Event, Real, BitVec
 use Rattle.fst.specs.declared.Description.{Description}
 use Rattle.fst.specs.Refusal.{given, _⇐_, tried, outcome}
 use Rattle.layout.specs.Entry.{entrySize, entryOf}
-use Rattle.fst.specs.Record.{Lent, Kept, sizeOf, usedSize, keptIn, fits, isBad}
+use Rattle.fst.specs.Record.{Lent, Kept, sizeOf, usedSize, keptIn, fits, isBad, described}
 use Rattle.fst.specs.Change.{Change, text, real, isOtherKind, isOtherLength, isForeign, isBelowLast, repeats, appended, changed, withChange, refusals, Recorder, stored, addChange}
+use Rattle.fst.specs.Adding.{Admitted}
 use Rattle.layout.proofs.Sizes.{widen-all-same}
 use Rattle.fst.proofs.Refusals.{passes}
 use Rattle.fst.proofs.Records.{Fits, fits-room, not-bad}
@@ -30,25 +31,17 @@ IsRepeat (BitVector w M) n bytes (text s) =
     (join M (leastOf codes) ≡ M) × (repeats (entrySize w M) n bytes (entryOf w M (leastOf codes) codes) ≡ true)
 IsRepeat (BitVector w M) n bytes (real x) = ⊥
 
--- a change that none of 2 to 6 turns away
-pub record Admitted (d : Description) (l : Lent) (i : ℕ) (c : Change) : Type 0 where
-  pub notBad : isBad d l ≡ false
-  pub notOtherKind : isOtherKind (d .encoding) c ≡ false
-  pub notOtherLength : isOtherLength (d .encoding) c ≡ false
-  pub notForeign : isForeign (d .encoding) c ≡ false
-  pub notBelowLast : isBelowLast i (d .count) ((keptIn d l) .indices) ≡ false
-
 -- ---- a repeat alters nothing
 
 stays : (e : Encoding) (n : ℕ) (bytes indices : List ℕ) (i : ℕ) (new : List ℕ) → repeats (sizeOf e) n bytes new ≡ true
     → _≡_ {A = Kept} (appended e n bytes indices i new)
-    (record { description = record { encoding = e; count = n }; bytes = bytes; indices = indices })
+    (record { description = described e n; bytes = bytes; indices = indices })
 unfolding appended
 stays e n bytes indices i new r = rw r
 
 unchanged : (e : Encoding) (n : ℕ) (bytes indices : List ℕ) (i : ℕ) (c : Change) → length bytes ≡ n * sizeOf e → IsRepeat e n bytes c
     → _≡_ {A = Kept} (changed e n bytes indices i c)
-    (record { description = record { encoding = e; count = n }; bytes = bytes; indices = indices })
+    (record { description = described e n; bytes = bytes; indices = indices })
 unfolding changed
 unchanged Event n bytes indices i c z r = absurd r
 unchanged Real n bytes indices i (text s) z r = absurd r
@@ -88,8 +81,8 @@ module _ (d : Description) (l : Lent) (i : ℕ) (c : Change) (again : IsRepeat (
   repeat-accepted a =
       ap (outcome old)
       (passes (given (stored l (withChange (keptIn d l) i c))) (refusals d l i c)
-      (a .notBad, (a .notOtherKind, (a .notOtherLength, (a .notForeign, (a .notBelowLast, (repeat-fits (a .notBad), tt))))))
-      ∙ ap given (repeat-stored (a .notBad)))
+      (a .sound, (a .kind, (a .long, (a .known, (a .rises, (repeat-fits (a .sound), tt))))))
+      ∙ ap given (repeat-stored (a .sound)))
 
   -- whatever else is wrong with the call
   pub never-7 : (addChange d l i c) .refused ≡ 7 → ⊥

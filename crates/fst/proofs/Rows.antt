@@ -17,7 +17,7 @@ use Rattle.fst.specs.declared.Encoding.the-variants.{Event, Real, BitVec
 use Rattle.fst.specs.declared.Description.{Description}
 use Rattle.fst.specs.Refusal.{Reply, refused, given, tried, Outcome}
 use Rattle.layout.specs.Entry.{entrySize, entryOf, markByte, unmarked, levelBytes, widenEntry, widenAll}
-use Rattle.fst.specs.Record.{Lent, Kept, keptIn, widthStands, fitsBytes, fits, isBad, fresh, freshReal}
+use Rattle.fst.specs.Record.{Lent, Kept, keptIn, widthStands, fitsBytes, fits, isBad, fresh, freshReal, described}
 use Rattle.fst.specs.Change.{Change, text, real, isOtherKind, isOtherLength, isForeign, isBelowLast, repeats, appended, changed, refusals, Recorder, stored, addChange}
 
 -- a change at an index, the number that it gets and the record that is then in the slices
@@ -34,7 +34,7 @@ pub record Row : Type 0 where
   pub indexRoom : ℕ
   pub calls : List Checked
 
--- two bytes and three indices stand before the record, and what is left of the room behind it
+-- gives-2 bytes and gives-3 indices stand before the record, and what is left of the room behind it
 unfoldable pub around : ℕ → ℕ → Kept → Recorder
 around byteRoom indexRoom k =
     record {
@@ -67,7 +67,7 @@ AllHold (r ∷ rs) = Holds r × AllHold rs
 -- ---- rows
 
 abbrev pub kept : Encoding → List ℕ → List ℕ → Kept
-kept e indices bytes = record { description = record { encoding = e; count = length indices }; bytes = bytes; indices = indices }
+kept e indices bytes = record { description = described e (length indices); bytes = bytes; indices = indices }
 
 abbrev pub freshly : Reply Description → Kept
 freshly (given d) = record { description = d; bytes = []; indices = [] }
@@ -126,7 +126,7 @@ abbrev pub edges : List Row
 edges =
     fifthIn 4 (accepted "10xz" 2 (kept (BitVector 4 Four) (0 ∷ 2 ∷ []) (0x00 ∷ 0x0A ∷ 0x40 ∷ 0x4B ∷ [])))
     ∷ fifthIn 3 (refusedBy 7 "10xz" 2 (kept (BitVector 4 Two) (0 ∷ []) (0x0A ∷ [])))
-    -- two entries widened, whose bytes overlap where they stood
+    -- gives-2 entries widened, whose bytes overlap where they stood
     ∷ row 4
     (accepted "1010" 0 (kept (BitVector 4 Two) (0 ∷ []) (0x0A ∷ []))
     ∷ accepted "0101" 1 (kept (BitVector 4 Two) (0 ∷ 1 ∷ []) (0x0A ∷ 0x05 ∷ []))
@@ -180,6 +180,6 @@ hold = (
 )
 
 -- "width 4,096 stands, 4,097 is 1"
-widest : (fresh 4096 ≡ given (record { encoding = BitVector 4096 Two; count = 0 })) × (fresh 4097 ≡ refused 1)
+widest : (fresh 4096 ≡ given (described (BitVector 4096 Two) 0)) × (fresh 4097 ≡ refused 1)
 unfolding fresh tried
 widest = (refl, refl)

@@ -15,7 +15,7 @@ use Rattle.fst.specs.declared.Description.{Description}
 use Rattle.fst.specs.declared.Added.{Added}
 use Rattle.fst.specs.Refusal.{numberOf, Test, _⇐_, given, tried, Outcome, outcome}
 use Rattle.layout.specs.Entry.{entryOf, widenAll}
-use Rattle.fst.specs.Record.{Lent, Held, Kept, sizeOf, keptIn, fits, isBad}
+use Rattle.fst.specs.Record.{Lent, Held, Kept, sizeOf, keptIn, fits, isBad, described}
 
 -- a change: a string's bytes, or a real's 64 bits
 pub data Change : Type 0 where
@@ -60,18 +60,18 @@ repeats size (suc n) bytes new = same (part (n * size) size bytes) new
 unfoldable pub appended : Encoding → ℕ → List ℕ → List ℕ → ℕ → List ℕ → Kept
 appended e n bytes indices i new =
     cond (repeats (sizeOf e) n bytes new)
-    (record { description = record { encoding = e; count = n }; bytes = bytes; indices = indices })
-    (record { description = record { encoding = e; count = suc n }; bytes = bytes ++ new; indices = indices ++ (i ∷ []) })
+    (record { description = described e n; bytes = bytes; indices = indices })
+    (record { description = described e (suc n); bytes = bytes ++ new; indices = indices ++ (i ∷ []) })
 
 -- the record of n entries with a change: an event's "every change kept", with no bytes to be equal; a real's 8 bytes "little-endian"; a
 -- string's entry under its least set, every entry under the set that is then the largest. A change of the other kind adds nothing.
 unfoldable pub changed : Encoding → ℕ → List ℕ → List ℕ → ℕ → Change → Kept
 changed Event n bytes indices i (text s) =
-    record { description = record { encoding = Event; count = suc n }; bytes = bytes; indices = indices ++ (i ∷ []) }
+    record { description = described Event (suc n); bytes = bytes; indices = indices ++ (i ∷ []) }
 changed Event n bytes indices i (real x) =
-    record { description = record { encoding = Event; count = n }; bytes = bytes; indices = indices }
+    record { description = described Event n; bytes = bytes; indices = indices }
 changed Real n bytes indices i (text s) =
-    record { description = record { encoding = Real; count = n }; bytes = bytes; indices = indices }
+    record { description = described Real n; bytes = bytes; indices = indices }
 changed Real n bytes indices i (real x) = appended Real n bytes indices i (reverse (digits 256 8 x))
 changed (BitVector w M) n bytes indices i (text s) =
     let codes = codesOf (foldAll s) in
@@ -79,7 +79,7 @@ changed (BitVector w M) n bytes indices i (text s) =
     let to = join M own in
     appended (BitVector w to) n (widenAll w M to n bytes) indices i (entryOf w to own codes)
 changed (BitVector w M) n bytes indices i (real x) =
-    record { description = record { encoding = BitVector w M; count = n }; bytes = bytes; indices = indices }
+    record { description = described (BitVector w M) n; bytes = bytes; indices = indices }
 
 abbrev pub withChange : Kept → ℕ → Change → Kept
 withChange k i c = changed (k .description .encoding) (k .description .count) (k .bytes) (k .indices) i c

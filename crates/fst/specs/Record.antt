@@ -28,6 +28,9 @@ pub record Lent : Type 0 where
   pub indices : List ℕ
   pub indexStart : ℕ
 
+abbrev pub lent : List ℕ → ℕ → List ℕ → ℕ → Lent
+lent bytes byteStart indices indexStart = record { bytes = bytes; byteStart = byteStart; indices = indices; indexStart = indexStart }
+
 -- a description, of one type or another, with bytes and time indices
 pub record Held (D : Type 0) : Type 0 where
   pub description : D
@@ -44,13 +47,25 @@ sizeOf Event = 0
 sizeOf Real = 8
 sizeOf (BitVector w M) = entrySize w M
 
-abbrev pub usedSize : Description → ℕ
-usedSize d = d .count * sizeOf (d .encoding)
+-- the bits of a value, of which an event and a real have none
+abbrev pub widthOf : Encoding → ℕ
+widthOf Event = 0
+widthOf Real = 0
+widthOf (BitVector w M) = w
 
 abbrev pub largestIn : Encoding → States
 largestIn Event = Two
 largestIn Real = Two
 largestIn (BitVector w M) = M
+
+-- "a real or event is 3"
+unfoldable pub hasNoText : Encoding → Bool
+hasNoText Event = true
+hasNoText Real = true
+hasNoText (BitVector w M) = false
+
+abbrev pub usedSize : Description → ℕ
+usedSize d = d .count * sizeOf (d .encoding)
 
 -- the record that a description finds in two slices
 unfoldable pub keptIn : Description → Lent → Kept
@@ -82,8 +97,11 @@ unfoldable pub isBad : Description → Lent → Bool
 isBad d l = not (widthStands (d .encoding) && fits d l)
 
 -- "Fresh. 1: width above 4,096. Width 0 makes an event; a real is given no width"
+abbrev pub described : Encoding → ℕ → Description
+described e n = record { encoding = e; count = n }
+
 abbrev pub empty : Encoding → Description
-empty e = record { encoding = e; count = 0 }
+empty e = described e 0
 
 abbrev pub encodingFor : ℕ → Encoding
 encodingFor zero = Event

@@ -1,17 +1,17 @@
 // Add a change, a string's: `SignalWriter::add_change` of wellen's src/fst.rs.
 ghost use mathlib.Core.Path.{_≡_};
 ghost use mathlib.Core.Bool.{cond, false};
-ghost use Prim.Native.Nat.{_+_, _*_, _≤_};
+ghost use Prim.Native.Nat.{_+_, _≤_};
 ghost use lib.ListN.{length};
-ghost use Rattle.value.specs.Slice.{part, overlay, same};
+ghost use Rattle.value.specs.Slice.{part, overlay};
 ghost use Rattle.fst.specs.declared.Encoding.the-variants as encoding;
 ghost use Rattle.fst.specs.declared.Verdict.the-variants as verdict;
 ghost use Rattle.value.specs.Level.{markOf};
-ghost use Rattle.layout.specs.Entry.{entrySize, widenEntry, widenAll};
+ghost use Rattle.layout.specs.Entry.{entrySize};
 ghost use Rattle.layout.specs.Writable.{Writable, Numbered, entryFrom};
-ghost use Rattle.fst.specs.Record.{maximum, isBad};
-ghost use Rattle.fst.specs.Change.{text, isBelowLast, repeats, addChange, leftBy};
-ghost use Rattle.fst.specs.Adding.{Levels, Leveled, Comparable};
+ghost use Rattle.fst.specs.Record.{maximum, isBad, lent};
+ghost use Rattle.fst.specs.Change.{text, isBelowLast, addChange, leftBy};
+ghost use Rattle.fst.specs.Adding.{AdmittedString, ShortEntry, Repeatable, equalsWidened, repeatsPlain, repeatsWidened};
 use crate::Added;
 use crate::Description;
 use crate::Encoding;
@@ -55,7 +55,6 @@ pub fn refused(description: Description, refusal: Refusal) -> Added
     }
 }
 
-// Number 6.
 pub fn is_below_last(index: u32, indices: &[u32], index_start: usize, count: u32) -> bool
     requires { ⌜ «index_start» + count ≤ length (now indices) ⌝ }
     ensures { λ r. ⌜ r ≡ isBelowLast index count (part «index_start» count (now (indices .entry))) ⌝ }
@@ -87,8 +86,8 @@ fn widened_equals(
     bytes: &[u8],
     at: usize,
 ) -> bool
-    requires { ⌜ Comparable «max_states» joint states (now value) (length (now bytes)) at 1 ⌝ }
-    ensures { λ r. ⌜ r ≡ same (widenEntry (length (now (value .entry))) «max_states» joint (part at (entrySize (length (now (value .entry))) «max_states») (now (bytes .entry)))) (entryFrom joint states (now (value .entry))) ⌝ }
+    requires { ⌜ Repeatable «max_states» joint states (now value) (length (now bytes)) at 1 ⌝ }
+    ensures { λ r. ⌜ r ≡ equalsWidened «max_states» joint states (now (value .entry)) at (now (bytes .entry)) ⌝ }
 {
     let bits = value.len() as u32;
     let size = entry_size(max_states, bits);
@@ -108,8 +107,8 @@ fn repeats_last(
     byte_start: usize,
     count: u32,
 ) -> bool
-    requires { ⌜ Comparable «max_states» joint states (now value) (length (now bytes)) «byte_start» count ⌝ }
-    ensures { λ r. ⌜ r ≡ repeats (entrySize (length (now (value .entry))) joint) count (widenAll (length (now (value .entry))) «max_states» joint count (part «byte_start» (count * entrySize (length (now (value .entry))) «max_states») (now (bytes .entry)))) (entryFrom joint states (now (value .entry))) ⌝ }
+    requires { ⌜ Repeatable «max_states» joint states (now value) (length (now bytes)) «byte_start» count ⌝ }
+    ensures { λ r. ⌜ r ≡ repeatsWidened «max_states» joint states (now (value .entry)) «byte_start» count (now (bytes .entry)) ⌝ }
 {
     if count < 1 {
         return false;
@@ -135,8 +134,8 @@ fn repeats_number(
     byte_start: usize,
     count: u32,
 ) -> bool
-    requires { ⌜ Comparable «max_states» «max_states» states (now value) (length (now bytes)) «byte_start» count × Numbered «max_states» states (now value) size number ⌝ }
-    ensures { λ r. ⌜ r ≡ repeats (entrySize (length (now (value .entry))) «max_states») count (part «byte_start» (count * entrySize (length (now (value .entry))) «max_states») (now (bytes .entry))) (entryFrom «max_states» states (now (value .entry))) ⌝ }
+    requires { ⌜ Repeatable «max_states» «max_states» states (now value) (length (now bytes)) «byte_start» count × Numbered «max_states» states (now value) size number ⌝ }
+    ensures { λ r. ⌜ r ≡ repeatsPlain «max_states» states (now (value .entry)) «byte_start» count (now (bytes .entry)) ⌝ }
 {
     if count == 0 {
         return false;
@@ -168,7 +167,6 @@ fn store_number(
     write_number(number, size, bytes, at);
 }
 
-// The entries with a change.
 fn next_count(count: u32, repeat: bool) -> u32
     requires { ⌜ count ≤ maximum ⌝ }
     ensures { λ r. ⌜ r ≡ cond repeat count (count + 1) ⌝ }
@@ -189,8 +187,8 @@ impl Description {
         index: u32,
         value: &[u8],
     ) -> Added
-        requires { ⌜ Levels self (record { bytes = now bytes; byteStart = «byte_start»; indices = now indices; indexStart = «index_start» }) index «max_states» states (now value) ⌝ }
-        ensures { λ r. ⌜ leftBy r (now (bytes .exit)) (now (indices .exit)) ≡ addChange self (record { bytes = now (bytes .entry); byteStart = «byte_start»; indices = now (indices .entry); indexStart = «index_start» }) index (text (now (value .entry))) ⌝ }
+        requires { ⌜ AdmittedString self (lent (now bytes) «byte_start» (now indices) «index_start») index «max_states» states (now value) ⌝ }
+        ensures { λ r. ⌜ leftBy r (now (bytes .exit)) (now (indices .exit)) ≡ addChange self (lent (now (bytes .entry)) «byte_start» (now (indices .entry)) «index_start») index (text (now (value .entry))) ⌝ }
     {
         let width = value.len() as u32;
         let count = self.count;
@@ -231,8 +229,8 @@ impl Description {
         index: u32,
         value: &[u8],
     ) -> Added
-        requires { ⌜ Levels self (record { bytes = now bytes; byteStart = «byte_start»; indices = now indices; indexStart = «index_start» }) index «max_states» states (now value) × (markOf states ≤ markOf «max_states») × Leveled «max_states» states (now value) (short .size) (short .levels) ⌝ }
-        ensures { λ r. ⌜ leftBy r (now (bytes .exit)) (now (indices .exit)) ≡ addChange self (record { bytes = now (bytes .entry); byteStart = «byte_start»; indices = now (indices .entry); indexStart = «index_start» }) index (text (now (value .entry))) ⌝ }
+        requires { ⌜ AdmittedString self (lent (now bytes) «byte_start» (now indices) «index_start») index «max_states» states (now value) × (markOf states ≤ markOf «max_states») × ShortEntry «max_states» states (now value) (short .size) (short .levels) ⌝ }
+        ensures { λ r. ⌜ leftBy r (now (bytes .exit)) (now (indices .exit)) ≡ addChange self (lent (now (bytes .entry)) «byte_start» (now (indices .entry)) «index_start») index (text (now (value .entry))) ⌝ }
     {
         let count = self.count;
         let size = short.size;
@@ -272,8 +270,8 @@ impl Description {
         index: u32,
         value: &[u8],
     ) -> Added
-        requires { ⌜ Levels self (record { bytes = now bytes; byteStart = «byte_start»; indices = now indices; indexStart = «index_start» }) index «max_states» states (now value) × (markOf states ≤ markOf «max_states» → Leveled «max_states» states (now value) (short .size) (short .levels)) ⌝ }
-        ensures { λ r. ⌜ leftBy r (now (bytes .exit)) (now (indices .exit)) ≡ addChange self (record { bytes = now (bytes .entry); byteStart = «byte_start»; indices = now (indices .entry); indexStart = «index_start» }) index (text (now (value .entry))) ⌝ }
+        requires { ⌜ AdmittedString self (lent (now bytes) «byte_start» (now indices) «index_start») index «max_states» states (now value) × (markOf states ≤ markOf «max_states» → ShortEntry «max_states» states (now value) (short .size) (short .levels)) ⌝ }
+        ensures { λ r. ⌜ leftBy r (now (bytes .exit)) (now (indices .exit)) ≡ addChange self (lent (now (bytes .entry)) «byte_start» (now (indices .entry)) «index_start») index (text (now (value .entry))) ⌝ }
     {
         if max_states.mark() < states.mark() {
             return self.raise_levels(
@@ -313,8 +311,8 @@ impl Description {
         index: u32,
         value: &[u8],
     ) -> Added
-        requires { ⌜ (isBad self (record { bytes = now bytes; byteStart = «byte_start»; indices = now indices; indexStart = «index_start» }) ≡ false) × (self .encoding ≡ encoding.BitVector width «max_states») × (size ≡ entrySize width «max_states») ⌝ }
-        ensures { λ r. ⌜ leftBy r (now (bytes .exit)) (now (indices .exit)) ≡ addChange self (record { bytes = now (bytes .entry); byteStart = «byte_start»; indices = now (indices .entry); indexStart = «index_start» }) index (text (now (value .entry))) ⌝ }
+        requires { ⌜ (isBad self (lent (now bytes) «byte_start» (now indices) «index_start») ≡ false) × (self .encoding ≡ encoding.BitVector width «max_states») × (size ≡ entrySize width «max_states») ⌝ }
+        ensures { λ r. ⌜ leftBy r (now (bytes .exit)) (now (indices .exit)) ≡ addChange self (lent (now (bytes .entry)) «byte_start» (now (indices .entry)) «index_start») index (text (now (value .entry))) ⌝ }
     {
         if value.len() != width as usize {
             return refused(self, Refusal::WrongLength);
@@ -357,7 +355,7 @@ impl Description {
         value: &[u8],
     ) -> Added
         requires { ⌜ self .encoding ≡ encoding.BitVector width «max_states» ⌝ }
-        ensures { λ r. ⌜ leftBy r (now (bytes .exit)) (now (indices .exit)) ≡ addChange self (record { bytes = now (bytes .entry); byteStart = «byte_start»; indices = now (indices .entry); indexStart = «index_start» }) index (text (now (value .entry))) ⌝ }
+        ensures { λ r. ⌜ leftBy r (now (bytes .exit)) (now (indices .exit)) ≡ addChange self (lent (now (bytes .entry)) «byte_start» (now (indices .entry)) «index_start») index (text (now (value .entry))) ⌝ }
     {
         let size = entry_size(max_states, width);
         if is_bad_vector(self, width, size, bytes, byte_start, indices, index_start) {
@@ -386,8 +384,8 @@ impl Description {
         index: u32,
         value: &[u8],
     ) -> Added
-        requires { ⌜ (isBad self (record { bytes = now bytes; byteStart = «byte_start»; indices = now indices; indexStart = «index_start» }) ≡ false) × (self .encoding ≡ encoding.Event) ⌝ }
-        ensures { λ r. ⌜ leftBy r (now (bytes .entry)) (now (indices .exit)) ≡ addChange self (record { bytes = now (bytes .entry); byteStart = «byte_start»; indices = now (indices .entry); indexStart = «index_start» }) index (text (now (value .entry))) ⌝ }
+        requires { ⌜ (isBad self (lent (now bytes) «byte_start» (now indices) «index_start») ≡ false) × (self .encoding ≡ encoding.Event) ⌝ }
+        ensures { λ r. ⌜ leftBy r (now (bytes .entry)) (now (indices .exit)) ≡ addChange self (lent (now (bytes .entry)) «byte_start» (now (indices .entry)) «index_start») index (text (now (value .entry))) ⌝ }
     {
         if 1 < value.len() {
             return refused(self, Refusal::WrongLength);
@@ -404,7 +402,6 @@ impl Description {
         accepted(self)
     }
 
-    // A string for an event.
     fn add_event(
         self,
         bytes: &[u8],
@@ -415,7 +412,7 @@ impl Description {
         value: &[u8],
     ) -> Added
         requires { ⌜ self .encoding ≡ encoding.Event ⌝ }
-        ensures { λ r. ⌜ leftBy r (now (bytes .entry)) (now (indices .exit)) ≡ addChange self (record { bytes = now (bytes .entry); byteStart = «byte_start»; indices = now (indices .entry); indexStart = «index_start» }) index (text (now (value .entry))) ⌝ }
+        ensures { λ r. ⌜ leftBy r (now (bytes .entry)) (now (indices .exit)) ≡ addChange self (lent (now (bytes .entry)) «byte_start» (now (indices .entry)) «index_start») index (text (now (value .entry))) ⌝ }
     {
         if is_bad(self, bytes, byte_start, indices, index_start) {
             return refused(self, Refusal::BadRecord);
@@ -433,7 +430,7 @@ impl Description {
         index: u32,
         value: &[u8],
     ) -> Added
-        ensures { λ r. ⌜ leftBy r (now (bytes .exit)) (now (indices .exit)) ≡ addChange self (record { bytes = now (bytes .entry); byteStart = «byte_start»; indices = now (indices .entry); indexStart = «index_start» }) index (text (now (value .entry))) ⌝ }
+        ensures { λ r. ⌜ leftBy r (now (bytes .exit)) (now (indices .exit)) ≡ addChange self (lent (now (bytes .entry)) «byte_start» (now (indices .entry)) «index_start») index (text (now (value .entry))) ⌝ }
     {
         let encoding = self.encoding;
         match encoding {

@@ -1,6 +1,8 @@
 // Records and their writer, after wellen's src/fst.rs.
 ghost use mathlib.Core.Path.{_≡_};
 ghost use Rattle.fst.specs.Refusal.{number, numberOf};
+ghost use Rattle.fst.specs.Record.{sizeOf, widthOf, largestIn, hasNoText, described};
+use layout::entry::entry_size;
 use value::States;
 
 pub mod change;
@@ -9,35 +11,20 @@ pub mod record;
 
 // Why a call was refused, by the numbers of document 01.
 pub enum Refusal {
-    // 1
     WidthTooLarge,
-    // 2
     BadRecord,
-    // 3
     WrongKind,
-    // 4
     WrongLength,
-    // 5
     ForeignCharacter,
-    // 6
     IndexBelowLast,
-    // 7
     NoRoom,
-    // 8
     NoSuchEntry,
-    // 9
     BadMark,
-    // 10
     BadCode,
-    // 11
     IndexFalls,
-    // 12
     BadRange,
-    // 13
     DerivationFull,
-    // 14
     BadDerivation,
-    // 15
     LateInput,
 }
 
@@ -91,10 +78,74 @@ pub enum Encoding {
     BitVector { width: u32, max_states: States },
 }
 
+impl Encoding {
+    // The bytes of an entry.
+    pub fn size(self) -> usize
+        ensures { λ r. ⌜ r ≡ sizeOf self ⌝ }
+    {
+        let encoding = self;
+        match encoding {
+            Encoding::Event => 0,
+            Encoding::Real => 8,
+            Encoding::BitVector { width, max_states } => entry_size(max_states, width),
+        }
+    }
+
+    pub fn width(self) -> u32
+        ensures { λ r. ⌜ r ≡ widthOf self ⌝ }
+    {
+        let encoding = self;
+        match encoding {
+            Encoding::Event => 0,
+            Encoding::Real => 0,
+            Encoding::BitVector {
+                width,
+                max_states: _,
+            } => width,
+        }
+    }
+
+    pub fn largest(self) -> States
+        ensures { λ r. ⌜ r ≡ largestIn self ⌝ }
+    {
+        let encoding = self;
+        match encoding {
+            Encoding::Event => States::Two,
+            Encoding::Real => States::Two,
+            Encoding::BitVector {
+                width: _,
+                max_states,
+            } => max_states,
+        }
+    }
+
+    pub fn has_no_text(self) -> bool
+        ensures { λ r. ⌜ r ≡ hasNoText self ⌝ }
+    {
+        let encoding = self;
+        match encoding {
+            Encoding::Event => true,
+            Encoding::Real => true,
+            Encoding::BitVector {
+                width: _,
+                max_states: _,
+            } => false,
+        }
+    }
+}
+
 // What is known of a record besides its bytes and time indices, which the caller lends.
 pub struct Description {
     pub encoding: Encoding,
     pub count: u32,
+}
+
+impl Description {
+    pub fn new(encoding: Encoding, count: u32) -> Description
+        ensures { λ r. ⌜ r ≡ described encoding count ⌝ }
+    {
+        Description { encoding, count }
+    }
 }
 
 // The answer of a call that makes a record.

@@ -5,7 +5,7 @@ ghost use Prim.Native.Nat.{_+_, _*_, _≤_};
 ghost use lib.ListN.{length};
 ghost use Rattle.value.specs.Digits.{digits};
 ghost use Rattle.value.specs.Slice.{part, overlay, same};
-ghost use Rattle.fst.specs.Record.{maximum};
+ghost use Rattle.fst.specs.Record.{maximum, lent};
 ghost use Rattle.fst.specs.Change.{real, repeats, addChange, leftBy};
 use crate::Added;
 use crate::Description;
@@ -66,7 +66,7 @@ impl Description {
         index: u32,
         bits: u64,
     ) -> Added
-        ensures { λ r. ⌜ leftBy r (now (bytes .exit)) (now (indices .exit)) ≡ addChange self (record { bytes = now (bytes .entry); byteStart = «byte_start»; indices = now (indices .entry); indexStart = «index_start» }) index (real bits) ⌝ }
+        ensures { λ r. ⌜ leftBy r (now (bytes .exit)) (now (indices .exit)) ≡ addChange self (lent (now (bytes .entry)) «byte_start» (now (indices .entry)) «index_start») index (real bits) ⌝ }
     {
         if is_bad(self, bytes, byte_start, indices, index_start) {
             return refused(self, Refusal::BadRecord);

@@ -5,8 +5,8 @@ ghost use Prim.Native.Nat.{_+_, _*_, _≤_};
 ghost use lib.Dec.{leb};
 ghost use lib.ListN.{length};
 ghost use Rattle.fst.specs.Refusal.{madeOf};
-ghost use Rattle.fst.specs.Record.{maximum, maxWidth, sizeOf, isBadBytes, isBad, fresh, freshReal};
-ghost use Rattle.fst.specs.Adding.{Vector};
+ghost use Rattle.fst.specs.Record.{maximum, maxWidth, sizeOf, isBadBytes, isBad, lent, described, fresh, freshReal};
+ghost use Rattle.fst.specs.Adding.{SizedVector};
 use crate::Description;
 use crate::Encoding;
 use crate::Made;
@@ -25,27 +25,19 @@ pub fn fresh(width: u32) -> Made
         return Made::Refused(Refusal::WidthTooLarge);
     }
     if width == 0 {
-        return Made::Record(Description {
-            encoding: Encoding::Event,
-            count: 0,
-        });
+        return Made::Record(Description::new(Encoding::Event, 0));
     }
-    Made::Record(Description {
-        encoding: Encoding::BitVector {
-            width,
-            max_states: States::Two,
-        },
-        count: 0,
-    })
+    let encoding = Encoding::BitVector {
+        width,
+        max_states: States::Two,
+    };
+    Made::Record(Description::new(encoding, 0))
 }
 
 pub fn fresh_real() -> Description
     ensures { λ r. ⌜ r ≡ freshReal ⌝ }
 {
-    Description {
-        encoding: Encoding::Real,
-        count: 0,
-    }
+    Description::new(Encoding::Real, 0)
 }
 
 // Whether `count` entries of `size` bytes stand within the maximum and, from a start, within so many bytes.
@@ -110,7 +102,7 @@ pub fn is_bad(
     indices: &[u32],
     index_start: usize,
 ) -> bool
-    ensures { λ r. ⌜ r ≡ isBad description (record { bytes = now (bytes .entry); byteStart = «byte_start»; indices = now (indices .entry); indexStart = «index_start» }) ⌝ }
+    ensures { λ r. ⌜ r ≡ isBad description (lent (now (bytes .entry)) «byte_start» (now (indices .entry)) «index_start») ⌝ }
 {
     if is_bad_bytes(description, bytes, byte_start) {
         return true;
@@ -128,8 +120,8 @@ pub fn is_bad_vector(
     indices: &[u32],
     index_start: usize,
 ) -> bool
-    requires { ⌜ Vector description width size ⌝ }
-    ensures { λ r. ⌜ r ≡ isBad description (record { bytes = now (bytes .entry); byteStart = «byte_start»; indices = now (indices .entry); indexStart = «index_start» }) ⌝ }
+    requires { ⌜ SizedVector description width size ⌝ }
+    ensures { λ r. ⌜ r ≡ isBad description (lent (now (bytes .entry)) «byte_start» (now (indices .entry)) «index_start») ⌝ }
 {
     let count = description.count;
     if is_bad_levels(width, size, count, bytes.len(), byte_start) {
@@ -147,8 +139,8 @@ pub fn lacks_room(
     indices: &[u32],
     index_start: usize,
 ) -> bool
-    requires { ⌜ (isBad description (record { bytes = now bytes; byteStart = «byte_start»; indices = now indices; indexStart = «index_start» }) ≡ false) × (size ≡ sizeOf (description .encoding)) ⌝ }
-    ensures { λ r. ⌜ r ≡ isBad (record { encoding = description .encoding; count = description .count + 1 }) (record { bytes = now (bytes .entry); byteStart = «byte_start»; indices = now (indices .entry); indexStart = «index_start» }) ⌝ }
+    requires { ⌜ (isBad description (lent (now bytes) «byte_start» (now indices) «index_start») ≡ false) × (size ≡ sizeOf (description .encoding)) ⌝ }
+    ensures { λ r. ⌜ r ≡ isBad (described (description .encoding) (description .count + 1)) (lent (now (bytes .entry)) «byte_start» (now (indices .entry)) «index_start») ⌝ }
 {
     let count = description.count;
     if count == MAXIMUM {

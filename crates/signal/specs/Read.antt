@@ -12,6 +12,8 @@ use Rattle.fst.specs.declared.Encoding.the-variants.{Event, Real, BitVector}
 use Rattle.fst.specs.declared.Description.{Description}
 use Rattle.fst.specs.Refusal.{Reply, refused, given, _⇐_, tried, Outcome, outcome, number}
 use Rattle.fst.specs.Record.{isBadBytes}
+pub use Rattle.fst.specs.Record.{widthOf}
+unfoldable pub use Rattle.fst.specs.Record.{hasNoText}
 use Rattle.signal.specs.declared.Kind.{Kind}
 use Rattle.signal.specs.declared.Kind.the-variants as kind
 use Rattle.signal.specs.declared.EntryAnswer.{EntryAnswer}
@@ -51,17 +53,6 @@ partOf (given e) = e .part
 abbrev pub replyOf : EntryAnswer → List ℕ → Reply Entry
 replyOf (answer.Entry k s) p = given (record { kind = k; set = s; part = p })
 replyOf (answer.Refused r) p = refused (number r)
-
--- "a real or event is 3"
-unfoldable pub hasNoText : Encoding → Bool
-hasNoText Event = true
-hasNoText Real = true
-hasNoText (BitVector w M) = false
-
-abbrev pub widthOf : Encoding → ℕ
-widthOf Event = 0
-widthOf Real = 0
-widthOf (BitVector w M) = w
 
 -- "As reading; a real or event is 3, tried after 2. 10: .. 7: the lent text slice is shorter than the width. .. bytes past the width unaltered"
 unfoldable pub readText : Description → List ℕ → ℕ → ℕ → List ℕ → Outcome (List ℕ)

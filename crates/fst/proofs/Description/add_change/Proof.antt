@@ -2,17 +2,16 @@
 -- Assumes nothing.
 use mathlib.Core.Path.{sym, _∙_}
 use denote.Ref.{now}
-use Rattle.fst.specs.Record.{Lent}
+use Rattle.fst.specs.Record.{Lent, lent}
 use Rattle.fst.specs.Change.{text}
-use Rattle.fst.proofs.Adding.{two, untouched}
-use Rattle.fst.proofs.AddingPlain.{real-three}
+use Rattle.fst.proofs.Adding.{gives-2, untouched}
+use Rattle.fst.proofs.AddingPlain.{real-gives-3}
 use borrow.Author.Needs.{needs}
 use Rattle.fst.proofs.Description.add_change.Statement.{statement}
 use Rattle.fst.proofs.Description.add_change.Tie as tie
 
--- the slices that are lent
-abbrev lent : tie.Start → Lent
-lent x = record { bytes = now (x .args .bytes); byteStart = x .args .byte-start; indices = now (x .args .indices); indexStart = x .args .index-start }
+abbrev here : tie.Start → Lent
+here x = lent (now (x .args .bytes)) (x .args .byte-start) (now (x .args .indices)) (x .args .index-start)
 
 enum-told : tie.Need-enum-told
 enum-told c = search needs
@@ -39,8 +38,8 @@ returns : tie.Need-returns
 returns c =
     let b = c .before .before in
     let x = b .before .before .before .before .before .before .before .before in
-    untouched (lent x) (c .refused .ensures)
-    ∙ two (x .args .self) (lent x) (x .args .index) (text (now (x .args .value))) (sym (b .is-bad .ensures) ∙ c .before .if1 .taken)
+    untouched (here x) (c .refused .ensures)
+    ∙ gives-2 (x .args .self) (here x) (x .args .index) (text (now (x .args .value))) (sym (b .is-bad .ensures) ∙ c .before .if1 .taken)
 
 refused-requires-2 : tie.Need-refused-requires-2
 refused-requires-2 c κs = search needs
@@ -71,8 +70,8 @@ returns-3 c =
     let b = c .before .before in
     let e = b .before .before .before in
     let x = e .before .before .before .before .before in
-    untouched (lent x) (c .refused2 .ensures)
-    ∙ real-three (x .args .self) (lent x) (x .args .index) (now (x .args .value)) (sym (b .is-bad .ensures) ∙ c .before .if1 .left) (e .enum-told2 .given .1)
+    untouched (here x) (c .refused2 .ensures)
+    ∙ real-gives-3 (x .args .self) (here x) (x .args .index) (now (x .args .value)) (sym (b .is-bad .ensures) ∙ c .before .if1 .left) (e .enum-told2 .given .1)
 
 same-length-7 : tie.Need-same-length-7
 same-length-7 c = search needs

@@ -2,16 +2,15 @@
 -- Assumes nothing.
 use mathlib.Core.Path.{sym, _∙_}
 use denote.Ref.{now}
-use Rattle.fst.specs.Record.{Lent}
+use Rattle.fst.specs.Record.{Lent, lent}
 use Rattle.fst.specs.Change.{text}
-use Rattle.fst.proofs.Adding.{two, untouched}
+use Rattle.fst.proofs.Adding.{gives-2, untouched}
 use borrow.Author.Needs.{needs}
 use Rattle.fst.proofs.Description.add_event.Statement.{statement}
 use Rattle.fst.proofs.Description.add_event.Tie as tie
 
--- the slices that are lent
-abbrev lent : tie.Start → Lent
-lent x = record { bytes = now (x .args .bytes); byteStart = x .args .byte-start; indices = now (x .args .indices); indexStart = x .args .index-start }
+abbrev here : tie.Start → Lent
+here x = lent (now (x .args .bytes)) (x .args .byte-start) (now (x .args .indices)) (x .args .index-start)
 
 is-bad-requires : tie.Need-is-bad-requires
 is-bad-requires c κs = search needs
@@ -26,8 +25,8 @@ returns : tie.Need-returns
 returns c =
     let b = c .before .before in
     let x = b .before .before .before .before .before in
-    untouched (lent x) (c .refused .ensures)
-    ∙ two (x .args .self) (lent x) (x .args .index) (text (now (x .args .value))) (sym (b .is-bad .ensures) ∙ c .before .if1 .taken)
+    untouched (here x) (c .refused .ensures)
+    ∙ gives-2 (x .args .self) (here x) (x .args .index) (text (now (x .args .value))) (sym (b .is-bad .ensures) ∙ c .before .if1 .taken)
 
 keep-event-requires : tie.Need-keep-event-requires
 keep-event-requires c κs =

@@ -9,7 +9,7 @@ use native.Mathlib.Omega.{arith}
 use denote.Ref.{now}
 use lib.ListN.{length, set}
 use Rattle.fst.specs.declared.Added.{Added}
-use Rattle.fst.specs.Record.{Lent, isBad}
+use Rattle.fst.specs.Record.{Lent, lent, isBad}
 use Rattle.fst.specs.Change.{leftBy, real, isOtherKind}
 use types.Run
 use denote.Enum.Declared
@@ -17,15 +17,14 @@ use Rattle.fst.specs.declared.Encoding.{Encoding}
 use Rattle.fst.specs.declared.Encoding.the-variants.{Event, Real, BitVector}
 use Rattle.fst.specs.Adding.{Admitted}
 use Rattle.fst.proofs.Encoding.{the-type}
-use Rattle.fst.proofs.Adding.{Suited, standing, two, three, six, admits, untouched}
+use Rattle.fst.proofs.Adding.{Suited, standing, gives-2, gives-3, gives-6, admits, untouched}
 use Rattle.fst.proofs.AddingPlain.{oneMore, real-suited, real-room, real-stays, real-full, real-more, real-roomier}
 use borrow.Author.Needs.{needs}
 use Rattle.fst.proofs.Description.add_real.Statement.{statement}
 use Rattle.fst.proofs.Description.add_real.Tie as tie
 
--- the slices that are lent
-abbrev lent : tie.Start → Lent
-lent x = record { bytes = now (x .args .bytes); byteStart = x .args .byte-start; indices = now (x .args .indices); indexStart = x .args .index-start }
+abbrev here : tie.Start → Lent
+here x = lent (now (x .args .bytes)) (x .args .byte-start) (now (x .args .indices)) (x .args .index-start)
 
 -- an index's place counts no more bytes than a slice has
 few-indices : (x : tie.Start) → length (now (x .args .indices)) * 4 < 18446744073709551616
@@ -43,24 +42,24 @@ module _ (b : tie.After-is-below-last) where
   abbrev start : tie.Start
   start = b .before .before .before .before .before .before .before .before .before .before
 
-  sound : isBad (start .args .self) (lent start) ≡ false
+  sound : isBad (start .args .self) (here start) ≡ false
   sound = sym (b .before .before .before .before .before .is-bad .ensures) ∙ b .before .before .before .before .if1 .left
 
   isReal : start .args .self .encoding ≡ Real
   isReal = b .before .before .enum-told .given .1
 
-  suited : Suited (start .args .self) (lent start) (real (start .args .bits))
-  suited = real-suited (start .args .self) (lent start) (start .args .index) (start .args .bits) sound isReal
+  suited : Suited (start .args .self) (here start) (real (start .args .bits))
+  suited = real-suited (start .args .self) (here start) (start .args .index) (start .args .bits) sound isReal
 
-  passes : b .is-below-last .result ≡ false → Admitted (start .args .self) (lent start) (start .args .index) (real (start .args .bits))
-  passes h = admits (start .args .self) (lent start) (start .args .index) (real (start .args .bits)) suited (sym h ∙ b .is-below-last .ensures)
+  passes : b .is-below-last .result ≡ false → Admitted (start .args .self) (here start) (start .args .index) (real (start .args .bits))
+  passes h = admits (start .args .self) (here start) (start .args .index) (real (start .args .bits)) suited (sym h ∙ b .is-below-last .ensures)
 
 -- and once the room is
 module _ (z : tie.After-is-bad2) where
   abbrev known : tie.After-is-below-last
   known = z .before .before .before .before .before .before .before .before
 
-  roomy : z .is-bad2 .result ≡ false → isBad (oneMore (start known .args .self)) (lent (start known)) ≡ false
+  roomy : z .is-bad2 .result ≡ false → isBad (oneMore (start known .args .self)) (here (start known)) ≡ false
   roomy h = sym (z .is-bad2 .ensures) ∙ h
 
   places : z .is-bad2 .result ≡ false
@@ -68,7 +67,7 @@ module _ (z : tie.After-is-bad2) where
       × (start known .args .index-start + start known .args .self .count < length (now (start known .args .indices)))
   places h =
       let x = start known in
-      real-roomier (x .args .self) (lent x) (x .args .index) (x .args .bits) (sound known) (isReal known) (passes known (z .before .before .before .before .before .before .before .if2 .left)) (roomy h)
+      real-roomier (x .args .self) (here x) (x .args .index) (x .args .bits) (sound known) (isReal known) (passes known (z .before .before .before .before .before .before .before .if2 .left)) (roomy h)
 
 is-bad-requires : tie.Need-is-bad-requires
 is-bad-requires c κs = search needs
@@ -85,8 +84,8 @@ same-length-2 c = search needs
 returns : tie.Need-returns
 returns c =
     let x = c .before .before .before .before .before .before .before in
-    untouched (lent x) (c .refused .ensures)
-    ∙ two (x .args .self) (lent x) (x .args .index) (real (x .args .bits)) (sym (c .before .before .is-bad .ensures) ∙ c .before .if1 .taken)
+    untouched (here x) (c .refused .ensures)
+    ∙ gives-2 (x .args .self) (here x) (x .args .index) (real (x .args .bits)) (sym (c .before .before .is-bad .ensures) ∙ c .before .if1 .taken)
 
 enum-told : tie.Need-enum-told
 enum-told c = search needs
@@ -103,13 +102,13 @@ same-length-4 c = search needs
 returns-2 : tie.Need-returns-2
 returns-2 c =
     let x = c .before .before .before .before .before .before .before .before in
-    untouched (lent x) (c .refused2 .ensures)
-    ∙ three (x .args .self) (lent x) (x .args .index) (real (x .args .bits)) (sym (c .before .before .before .is-bad .ensures) ∙ c .before .before .if1 .left) (other (x .args .bits) (x .args .self .encoding) (c .before .match .keys2))
+    untouched (here x) (c .refused2 .ensures)
+    ∙ gives-3 (x .args .self) (here x) (x .args .index) (real (x .args .bits)) (sym (c .before .before .before .is-bad .ensures) ∙ c .before .before .if1 .left) (other (x .args .bits) (x .args .self .encoding) (c .before .match .keys2))
 
 is-below-last-requires : tie.Need-is-below-last-requires
 is-below-last-requires c κs =
     let x = c .before .before .before .before .before .before .before .before .before in
-    (standing (x .args .self) (lent x) (sym (c .before .before .before .before .is-bad .ensures) ∙ c .before .before .before .if1 .left)) .indices
+    (standing (x .args .self) (here x) (sym (c .before .before .before .before .is-bad .ensures) ∙ c .before .before .before .if1 .left)) .indices
 
 refused-requires-3 : tie.Need-refused-requires-3
 refused-requires-3 c κs = search needs
@@ -124,14 +123,14 @@ returns-3 : tie.Need-returns-3
 returns-3 c =
     let b = c .before .before in
     let x = start b in
-    untouched (lent x) (c .refused3 .ensures)
-    ∙ six (x .args .self) (lent x) (x .args .index) (real (x .args .bits)) (suited b) (sym (c .before .if2 .taken) ∙ b .is-below-last .ensures)
+    untouched (here x) (c .refused3 .ensures)
+    ∙ gives-6 (x .args .self) (here x) (x .args .index) (real (x .args .bits)) (suited b) (sym (c .before .if2 .taken) ∙ b .is-below-last .ensures)
 
 repeats-real-requires : tie.Need-repeats-real-requires
 repeats-real-requires c κs =
     let b = c .before .before in
     let x = start b in
-    ((standing (x .args .self) (lent x) (sound b)) .count, real-room (x .args .self) (lent x) (x .args .index) (x .args .bits) (sound b) (isReal b))
+    ((standing (x .args .self) (here x) (sound b)) .count, real-room (x .args .self) (here x) (x .args .index) (x .args .bits) (sound b) (isReal b))
 
 accepted-requires : tie.Need-accepted-requires
 accepted-requires c κs = search needs
@@ -146,14 +145,14 @@ returns-4 : tie.Need-returns-4
 returns-4 c =
     let b = c .before .before .before .before .before in
     let x = start b in
-    untouched (lent x) (c .accepted .ensures)
-    ∙ real-stays (x .args .self) (lent x) (x .args .index) (x .args .bits) (sound b) (isReal b) (passes b (c .before .before .before .before .if2 .left)) (sym (c .before .if3 .taken) ∙ c .before .before .repeats-real .ensures)
+    untouched (here x) (c .accepted .ensures)
+    ∙ real-stays (x .args .self) (here x) (x .args .index) (x .args .bits) (sound b) (isReal b) (passes b (c .before .before .before .before .if2 .left)) (sym (c .before .if3 .taken) ∙ c .before .before .repeats-real .ensures)
 
 add-self : tie.Need-add-self
 add-self c =
     let b = c .before .before .before .before .before in
     let x = start b in
-    let f = (standing (x .args .self) (lent x) (sound b)) .count in
+    let f = (standing (x .args .self) (here x) (sound b)) .count in
     omega arith
 
 is-bad-requires-2 : tie.Need-is-bad-requires-2
@@ -173,8 +172,8 @@ returns-5 c =
     let z = c .before .before in
     let b = known z in
     let x = start b in
-    untouched (lent x) (c .refused4 .ensures)
-    ∙ real-full (x .args .self) (lent x) (x .args .index) (x .args .bits) (sound b) (isReal b) (passes b (z .before .before .before .before .before .before .before .if2 .left)) (sym (z .before .before .before .before .if3 .left) ∙ z .before .before .before .before .before .repeats-real .ensures) (sym (z .is-bad2 .ensures) ∙ c .before .if4 .taken)
+    untouched (here x) (c .refused4 .ensures)
+    ∙ real-full (x .args .self) (here x) (x .args .index) (x .args .bits) (sound b) (isReal b) (passes b (z .before .before .before .before .before .before .before .if2 .left)) (sym (z .before .before .before .before .if3 .left) ∙ z .before .before .before .before .before .repeats-real .ensures) (sym (z .is-bad2 .ensures) ∙ c .before .if4 .taken)
 
 cast-entries : tie.Need-cast-entries
 cast-entries c = search needs
@@ -212,7 +211,7 @@ returns-6 c =
     let b = known z in
     let x = start b in
     ap₂ (λ (r : Added) (l : List ℕ). leftBy r l (set (now (x .args .indices)) (x .args .index-start + x .args .self .count) (x .args .index))) (c .accepted2 .ensures) (c .before .before .before .write-real .ensures)
-    ∙ real-more (x .args .self) (lent x) (x .args .index) (x .args .bits) (sound b) (isReal b) (passes b (z .before .before .before .before .before .before .before .if2 .left)) (sym (z .before .before .before .before .if3 .left) ∙ z .before .before .before .before .before .repeats-real .ensures) (roomy z (c .before .before .before .before .before .if4 .left))
+    ∙ real-more (x .args .self) (here x) (x .args .index) (x .args .bits) (sound b) (isReal b) (passes b (z .before .before .before .before .before .before .before .if2 .left)) (sym (z .before .before .before .before .if3 .left) ∙ z .before .before .before .before .before .repeats-real .ensures) (roomy z (c .before .before .before .before .before .if4 .left))
 
 pub add-real-spec : {M : Type 1} → statement M
 add-real-spec =

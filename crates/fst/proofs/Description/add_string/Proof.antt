@@ -2,16 +2,15 @@
 -- Assumes nothing.
 use mathlib.Core.Path.{sym, _∙_}
 use denote.Ref.{now}
-use Rattle.fst.specs.Record.{Lent}
+use Rattle.fst.specs.Record.{Lent, lent}
 use Rattle.fst.specs.Change.{text}
-use Rattle.fst.proofs.Adding.{two, untouched}
+use Rattle.fst.proofs.Adding.{gives-2, untouched}
 use borrow.Author.Needs.{needs}
 use Rattle.fst.proofs.Description.add_string.Statement.{statement}
 use Rattle.fst.proofs.Description.add_string.Tie as tie
 
--- the slices that are lent
-abbrev lent : tie.Start → Lent
-lent x = record { bytes = now (x .args .bytes); byteStart = x .args .byte-start; indices = now (x .args .indices); indexStart = x .args .index-start }
+abbrev here : tie.Start → Lent
+here x = lent (now (x .args .bytes)) (x .args .byte-start) (now (x .args .indices)) (x .args .index-start)
 
 entry-size-requires : tie.Need-entry-size-requires
 entry-size-requires c κs = search needs
@@ -35,8 +34,8 @@ returns : tie.Need-returns
 returns c =
     let b = c .before .before in
     let x = b .before .before .before .before .before .before .before in
-    untouched (lent x) (c .refused .ensures)
-    ∙ two (x .args .self) (lent x) (x .args .index) (text (now (x .args .value))) (sym (b .is-bad-vector .ensures) ∙ c .before .if1 .taken)
+    untouched (here x) (c .refused .ensures)
+    ∙ gives-2 (x .args .self) (here x) (x .args .index) (text (now (x .args .value))) (sym (b .is-bad-vector .ensures) ∙ c .before .if1 .taken)
 
 add-text-requires : tie.Need-add-text-requires
 add-text-requires c κs =

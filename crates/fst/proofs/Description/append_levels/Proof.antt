@@ -11,7 +11,7 @@ use Rattle.value.specs.Slice.{overlay}
 use Rattle.layout.specs.Entry.{entrySize}
 use Rattle.layout.specs.Writable.{Numbered, entryFrom}
 use Rattle.fst.specs.declared.Added.{Added}
-use Rattle.fst.specs.Record.{Lent, isBad}
+use Rattle.fst.specs.Record.{Lent, lent, isBad}
 use Rattle.fst.specs.Change.{leftBy}
 use Rattle.fst.proofs.Adding.{standing}
 use Rattle.fst.proofs.AddingPlain.{oneMore}
@@ -20,9 +20,8 @@ use borrow.Author.Needs.{needs}
 use Rattle.fst.proofs.Description.append_levels.Statement.{statement}
 use Rattle.fst.proofs.Description.append_levels.Tie as tie
 
--- the slices that are lent
-abbrev lent : tie.Start → Lent
-lent x = record { bytes = now (x .args .bytes); byteStart = x .args .byte-start; indices = now (x .args .indices); indexStart = x .args .index-start }
+abbrev here : tie.Start → Lent
+here x = lent (now (x .args .bytes)) (x .args .byte-start) (now (x .args .indices)) (x .args .index-start)
 
 -- an index's place counts no more bytes than a slice has
 few-indices : (x : tie.Start) → length (now (x .args .indices)) * 4 < 18446744073709551616
@@ -43,22 +42,22 @@ module _ (z : tie.After-lacks-room) where
   sized : start .args .short .size ≡ entrySize (length (now (start .args .value))) (start .args .max-states)
   sized = start .pre .2 .sized
 
-  other : false ≡ repeated (start .args .self) (lent start) (start .args .index) (now (start .args .value)) (start .args .max-states) (start .args .states) (start .pre .0) (start .pre .1)
+  other : false ≡ repeated (start .args .self) (here start) (start .args .index) (now (start .args .value)) (start .args .max-states) (start .args .states) (start .pre .0) (start .pre .1)
   other = sym (z .before .before .before .if1 .left) ∙ z .before .before .before .before .repeats-number .ensures
 
-  roomy : z .lacks-room .result ≡ false → isBad (oneMore (start .args .self)) (lent start) ≡ false
+  roomy : z .lacks-room .result ≡ false → isBad (oneMore (start .args .self)) (here start) ≡ false
   roomy h = sym (z .lacks-room .ensures) ∙ h
 
   places : z .lacks-room .result ≡ false
       → (start .args .byte-start + start .args .self .count * entrySize (length (now (start .args .value))) (start .args .max-states) + entrySize (length (now (start .args .value))) (start .args .max-states) ≤ length (now (start .args .bytes)))
       × (start .args .index-start + start .args .self .count < length (now (start .args .indices)))
   places h =
-      append-roomier (start .args .self) (lent start) (start .args .index) (now (start .args .value)) (start .args .max-states) (start .args .states) (start .pre .0) (start .pre .1) (roomy h)
+      append-roomier (start .args .self) (here start) (start .args .index) (now (start .args .value)) (start .args .max-states) (start .args .states) (start .pre .0) (start .pre .1) (roomy h)
 
 marked-number-requires : tie.Need-marked-number-requires
 marked-number-requires c κs =
     let x = c .before .before .before in
-    size-some (x .args .self) (lent x) (x .args .index) (now (x .args .value)) (x .args .max-states) (x .args .states) (x .pre .0) (x .pre .1) _ _ (x .pre .2)
+    size-some (x .args .self) (here x) (x .args .index) (now (x .args .value)) (x .args .max-states) (x .args .states) (x .pre .0) (x .pre .1) _ _ (x .pre .2)
 
 -- the entry's number
 numbered : (n : tie.After-marked-number) →
@@ -66,13 +65,13 @@ numbered : (n : tie.After-marked-number) →
     Numbered (a .max-states) (a .states) (now (a .value)) (a .short .size) (n .marked-number .result)
 numbered n =
     let x = n .before .before .before .before in
-    levels-numbered (x .args .self) (lent x) (x .args .index) (now (x .args .value)) (x .args .max-states) (x .args .states) (x .pre .0) (x .pre .1) _ _ _ (x .pre .2) (n .marked-number .ensures)
+    levels-numbered (x .args .self) (here x) (x .args .index) (now (x .args .value)) (x .args .max-states) (x .args .states) (x .pre .0) (x .pre .1) _ _ _ (x .pre .2) (n .marked-number .ensures)
 
 repeats-number-requires : tie.Need-repeats-number-requires
 repeats-number-requires c κs =
     let n = c .before in
     let x = n .before .before .before .before in
-    (same-comparable (x .args .self) (lent x) (x .args .index) (now (x .args .value)) (x .args .max-states) (x .args .states) (x .pre .0) (x .pre .1), numbered n)
+    (same-comparable (x .args .self) (here x) (x .args .index) (now (x .args .value)) (x .args .max-states) (x .args .states) (x .pre .0) (x .pre .1), numbered n)
 
 accepted-requires : tie.Need-accepted-requires
 accepted-requires c κs = search needs
@@ -83,13 +82,13 @@ same-length c = search needs
 returns : tie.Need-returns
 returns c =
     let x = c .before .before .before .before .before .before .before .before in
-    ap (λ (r : Added). leftBy r ((lent x) .bytes) ((lent x) .indices)) (c .accepted .ensures)
-    ∙ append-stays (x .args .self) (lent x) (x .args .index) (now (x .args .value)) (x .args .max-states) (x .args .states) (x .pre .0) (x .pre .1) (sym (c .before .if1 .taken) ∙ c .before .before .repeats-number .ensures)
+    ap (λ (r : Added). leftBy r ((here x) .bytes) ((here x) .indices)) (c .accepted .ensures)
+    ∙ append-stays (x .args .self) (here x) (x .args .index) (now (x .args .value)) (x .args .max-states) (x .args .states) (x .pre .0) (x .pre .1) (sym (c .before .if1 .taken) ∙ c .before .before .repeats-number .ensures)
 
 lacks-room-requires : tie.Need-lacks-room-requires
 lacks-room-requires c κs =
     let x = c .before .before .before .before .before .before .before .before .before in
-    (x .pre .0 .admitted .sound, x .pre .2 .sized ∙ sym (append-size (x .args .self) (lent x) (x .args .index) (now (x .args .value)) (x .args .max-states) (x .args .states) (x .pre .0) (x .pre .1)))
+    (x .pre .0 .admitted .sound, x .pre .2 .sized ∙ sym (append-size (x .args .self) (here x) (x .args .index) (now (x .args .value)) (x .args .max-states) (x .args .states) (x .pre .0) (x .pre .1)))
 
 refused-requires : tie.Need-refused-requires
 refused-requires c κs = search needs
@@ -104,13 +103,13 @@ returns-2 : tie.Need-returns-2
 returns-2 c =
     let z = c .before .before in
     let x = start z in
-    ap (λ (r : Added). leftBy r ((lent x) .bytes) ((lent x) .indices)) (c .refused .ensures)
-    ∙ append-full (x .args .self) (lent x) (x .args .index) (now (x .args .value)) (x .args .max-states) (x .args .states) (x .pre .0) (x .pre .1) (other z) (sym (z .lacks-room .ensures) ∙ c .before .if2 .taken)
+    ap (λ (r : Added). leftBy r ((here x) .bytes) ((here x) .indices)) (c .refused .ensures)
+    ∙ append-full (x .args .self) (here x) (x .args .index) (now (x .args .value)) (x .args .max-states) (x .args .states) (x .pre .0) (x .pre .1) (other z) (sym (z .lacks-room .ensures) ∙ c .before .if2 .taken)
 
 add-self : tie.Need-add-self
 add-self c =
     let x = c .before .before .before .before .before .before .before .before .before .before .before .before in
-    let f = (standing (x .args .self) (lent x) (x .pre .0 .admitted .sound)) .count in
+    let f = (standing (x .args .self) (here x) (x .pre .0 .admitted .sound)) .count in
     omega arith
 
 cast-entries : tie.Need-cast-entries
@@ -135,7 +134,7 @@ store-number-requires : tie.Need-store-number-requires
 store-number-requires c κs =
     let z = c .before .before .before in
     let x = start z in
-    let p = same-comparable (x .args .self) (lent x) (x .args .index) (now (x .args .value)) (x .args .max-states) (x .args .states) (x .pre .0) (x .pre .1) in
+    let p = same-comparable (x .args .self) (here x) (x .args .index) (now (x .args .value)) (x .args .max-states) (x .args .states) (x .pre .0) (x .pre .1) in
     let S = entrySize (length (now (x .args .value))) (x .args .max-states) in (
       record {
         under = p .under;
@@ -178,7 +177,7 @@ returns-3 c =
     let E = entryFrom (x .args .max-states) (x .args .states) (now (x .args .value)) in
     ap₂ (λ (r : Added) (b : List ℕ). leftBy r b (set (now (x .args .indices)) (x .args .index-start + x .args .self .count) (x .args .index))) (c .accepted2 .ensures)
     (w .ensures ∙ ap (λ (k : ℕ). overlay (now (x .args .bytes)) (x .args .byte-start + x .args .self .count * k) E) (sized z))
-    ∙ append-more (x .args .self) (lent x) (x .args .index) (now (x .args .value)) (x .args .max-states) (x .args .states) (x .pre .0) (x .pre .1) (other z) (roomy z (c .before .before .before .before .before .before .if2 .left))
+    ∙ append-more (x .args .self) (here x) (x .args .index) (now (x .args .value)) (x .args .max-states) (x .args .states) (x .pre .0) (x .pre .1) (other z) (roomy z (c .before .before .before .before .before .before .if2 .left))
 
 pub append-levels-spec : {M : Type 1} → statement M
 append-levels-spec =

@@ -7,40 +7,39 @@ use native.Mathlib.Omega.{arith}
 use denote.Ref.{now}
 use lib.ListN.{length, set}
 use Rattle.fst.specs.declared.Added.{Added}
-use Rattle.fst.specs.Record.{Lent, isBad}
+use Rattle.fst.specs.Record.{Lent, lent, isBad}
 use Rattle.fst.specs.Change.{leftBy, text}
 use Rattle.fst.specs.Adding.{Admitted}
-use Rattle.fst.proofs.Adding.{Suited, standing, six, admits, untouched}
-use Rattle.fst.proofs.AddingPlain.{oneMore, event-four, event-suited, event-full, event-more}
+use Rattle.fst.proofs.Adding.{Suited, standing, gives-6, admits, untouched}
+use Rattle.fst.proofs.AddingPlain.{oneMore, event-gives-4, event-suited, event-full, event-more}
 use borrow.Author.Needs.{needs}
 use Rattle.fst.proofs.Description.keep_event.Statement.{statement}
 use Rattle.fst.proofs.Description.keep_event.Tie as tie
 
--- the slices that are lent
-abbrev lent : tie.Start → Lent
-lent x = record { bytes = now (x .args .bytes); byteStart = x .args .byte-start; indices = now (x .args .indices); indexStart = x .args .index-start }
+abbrev here : tie.Start → Lent
+here x = lent (now (x .args .bytes)) (x .args .byte-start) (now (x .args .indices)) (x .args .index-start)
 
 -- what is known once the index is tried
 module _ (b : tie.After-is-below-last) where
   abbrev start : tie.Start
   start = b .before .before .before .before .before .before
 
-  suited : Suited (start .args .self) (lent start) (text (now (start .args .value)))
-  suited = event-suited (start .args .self) (lent start) (start .args .index) (now (start .args .value)) (start .pre .0) (start .pre .1) (b .before .before .if1 .left)
+  suited : Suited (start .args .self) (here start) (text (now (start .args .value)))
+  suited = event-suited (start .args .self) (here start) (start .args .index) (now (start .args .value)) (start .pre .0) (start .pre .1) (b .before .before .if1 .left)
 
-  passes : b .is-below-last .result ≡ false → Admitted (start .args .self) (lent start) (start .args .index) (text (now (start .args .value)))
-  passes h = admits (start .args .self) (lent start) (start .args .index) (text (now (start .args .value))) suited (sym h ∙ b .is-below-last .ensures)
+  passes : b .is-below-last .result ≡ false → Admitted (start .args .self) (here start) (start .args .index) (text (now (start .args .value)))
+  passes h = admits (start .args .self) (here start) (start .args .index) (text (now (start .args .value))) suited (sym h ∙ b .is-below-last .ensures)
 
 -- and once the room is
 module _ (z : tie.After-is-bad) where
   abbrev told : tie.After-is-below-last
   told = z .before .before .before .before
 
-  roomy : z .is-bad .result ≡ false → isBad (oneMore (start told .args .self)) (lent (start told)) ≡ false
+  roomy : z .is-bad .result ≡ false → isBad (oneMore (start told .args .self)) (here (start told)) ≡ false
   roomy h = sym (z .is-bad .ensures) ∙ h
 
   index-in : z .is-bad .result ≡ false → start told .args .index-start + start told .args .self .count < length (now (start told .args .indices))
-  index-in h = let f = (standing (oneMore (start told .args .self)) (lent (start told)) (roomy h)) .indices in omega arith
+  index-in h = let f = (standing (oneMore (start told .args .self)) (here (start told)) (roomy h)) .indices in omega arith
 
 refused-requires : tie.Need-refused-requires
 refused-requires c κs = search needs
@@ -48,13 +47,13 @@ refused-requires c κs = search needs
 returns : tie.Need-returns
 returns c =
     let x = c .before .before .before .before .before in
-    untouched (lent x) (c .refused .ensures)
-    ∙ event-four (x .args .self) (lent x) (x .args .index) (now (x .args .value)) (x .pre .0) (x .pre .1) (c .before .if1 .taken)
+    untouched (here x) (c .refused .ensures)
+    ∙ event-gives-4 (x .args .self) (here x) (x .args .index) (now (x .args .value)) (x .pre .0) (x .pre .1) (c .before .if1 .taken)
 
 is-below-last-requires : tie.Need-is-below-last-requires
 is-below-last-requires c κs =
     let x = c .before .before .before .before .before in
-    (standing (x .args .self) (lent x) (x .pre .0)) .indices
+    (standing (x .args .self) (here x) (x .pre .0)) .indices
 
 refused-requires-2 : tie.Need-refused-requires-2
 refused-requires-2 c κs = search needs
@@ -66,13 +65,13 @@ returns-2 : tie.Need-returns-2
 returns-2 c =
     let b = c .before .before in
     let x = start b in
-    untouched (lent x) (c .refused2 .ensures)
-    ∙ six (x .args .self) (lent x) (x .args .index) (text (now (x .args .value))) (suited b) (sym (c .before .if2 .taken) ∙ b .is-below-last .ensures)
+    untouched (here x) (c .refused2 .ensures)
+    ∙ gives-6 (x .args .self) (here x) (x .args .index) (text (now (x .args .value))) (suited b) (sym (c .before .if2 .taken) ∙ b .is-below-last .ensures)
 
 add-self : tie.Need-add-self
 add-self c =
     let x = start (c .before .before) in
-    let f = (standing (x .args .self) (lent x) (x .pre .0)) .count in
+    let f = (standing (x .args .self) (here x) (x .pre .0)) .count in
     omega arith
 
 is-bad-requires : tie.Need-is-bad-requires
@@ -88,8 +87,8 @@ returns-3 : tie.Need-returns-3
 returns-3 c =
     let z = c .before .before in
     let x = start (told z) in
-    untouched (lent x) (c .refused3 .ensures)
-    ∙ event-full (x .args .self) (lent x) (x .args .index) (now (x .args .value)) (x .pre .0) (x .pre .1) (passes (told z) (z .before .before .before .if2 .left)) (sym (z .is-bad .ensures) ∙ c .before .if3 .taken)
+    untouched (here x) (c .refused3 .ensures)
+    ∙ event-full (x .args .self) (here x) (x .args .index) (now (x .args .value)) (x .pre .0) (x .pre .1) (passes (told z) (z .before .before .before .if2 .left)) (sym (z .is-bad .ensures) ∙ c .before .if3 .taken)
 
 cast-indices : tie.Need-cast-indices
 cast-indices c = search needs
@@ -113,8 +112,8 @@ returns-4 : tie.Need-returns-4
 returns-4 c =
     let z = c .before .before .before in
     let x = start (told z) in
-    ap (λ (r : Added). leftBy r ((lent x) .bytes) (set (now (x .args .indices)) (x .args .index-start + x .args .self .count) (x .args .index))) (c .accepted .ensures)
-    ∙ event-more (x .args .self) (lent x) (x .args .index) (now (x .args .value)) (x .pre .0) (x .pre .1) (passes (told z) (z .before .before .before .if2 .left)) (roomy z (c .before .before .if3 .left))
+    ap (λ (r : Added). leftBy r ((here x) .bytes) (set (now (x .args .indices)) (x .args .index-start + x .args .self .count) (x .args .index))) (c .accepted .ensures)
+    ∙ event-more (x .args .self) (here x) (x .args .index) (now (x .args .value)) (x .pre .0) (x .pre .1) (passes (told z) (z .before .before .before .if2 .left)) (roomy z (c .before .before .if3 .left))
 
 pub keep-event-spec : {M : Type 1} → statement M
 keep-event-spec =

@@ -8,7 +8,7 @@ use native.Mathlib.Omega.{arith}
 use denote.Ref.{now}
 use lib.ListN.{length, set}
 use Rattle.fst.specs.declared.Added.{Added}
-use Rattle.fst.specs.Record.{Lent, isBad}
+use Rattle.fst.specs.Record.{Lent, lent, isBad, described}
 use Rattle.fst.specs.Change.{leftBy, repeats}
 use Rattle.value.specs.declared.States.{States}
 use Rattle.value.specs.Slice.{overlay}
@@ -23,9 +23,8 @@ use borrow.Author.Needs.{needs}
 use Rattle.fst.proofs.Description.raise_levels.Statement.{statement}
 use Rattle.fst.proofs.Description.raise_levels.Tie as tie
 
--- the slices that are lent
-abbrev lent : tie.Start → Lent
-lent x = record { bytes = now (x .args .bytes); byteStart = x .args .byte-start; indices = now (x .args .indices); indexStart = x .args .index-start }
+abbrev here : tie.Start → Lent
+here x = lent (now (x .args .bytes)) (x .args .byte-start) (now (x .args .indices)) (x .args .index-start)
 
 -- an index's place counts no more bytes than a slice has
 few-indices : (x : tie.Start) → length (now (x .args .indices)) * 4 < 18446744073709551616
@@ -45,7 +44,7 @@ module _ (z : tie.After-is-bad) where
   abbrev repeat : Bool
   repeat = z .before .before .before .before .repeats-last .result
 
-  told : repeat ≡ repeats (entrySize (length (now (start .args .value))) joint) (start .args .self .count) (wide (start .args .self) (lent start) (start .args .index) (now (start .args .value)) (start .args .max-states) (start .args .states) joint (start .pre) joined) (entryFrom joint (start .args .states) (now (start .args .value)))
+  told : repeat ≡ repeats (entrySize (length (now (start .args .value))) joint) (start .args .self .count) (wide (start .args .self) (here start) (start .args .index) (now (start .args .value)) (start .args .max-states) (start .args .states) joint (start .pre) joined) (entryFrom joint (start .args .states) (now (start .args .value)))
   told = z .before .before .before .before .repeats-last .ensures
 
   abbrev next : ℕ
@@ -55,16 +54,16 @@ module _ (z : tie.After-is-bad) where
   counted = z .before .before .before .next-count .ensures
 
   abbrev nextIs : Description
-  nextIs = record { encoding = BitVector (length (now (start .args .value))) joint; count = next }
+  nextIs = described (BitVector (length (now (start .args .value))) joint) next
 
-  roomy : z .is-bad .result ≡ false → isBad nextIs (lent start) ≡ false
+  roomy : z .is-bad .result ≡ false → isBad nextIs (here start) ≡ false
   roomy h = sym (z .is-bad .ensures) ∙ h
 
   -- room for one entry more
   places : z .is-bad .result ≡ false → repeat ≡ false
       → (start .args .byte-start + start .args .self .count * entrySize (length (now (start .args .value))) joint + entrySize (length (now (start .args .value))) joint ≤ length (now (start .args .bytes)))
       × (start .args .index-start + start .args .self .count < length (now (start .args .indices)))
-  places h e = roomier (start .args .self) (lent start) (start .args .index) (now (start .args .value)) (start .args .max-states) (start .args .states) joint (start .pre) joined repeat told next counted (roomy h) e
+  places h e = roomier (start .args .self) (here start) (start .args .index) (now (start .args .value)) (start .args .max-states) (start .args .states) joint (start .pre) joined repeat told next counted (roomy h) e
 
 -- the new entry's place
 place : (c : tie.After-entry-size) →
@@ -75,7 +74,7 @@ place c = rw (c .entry-size .ensures) ((places (c .before .before .before .befor
 cast-width : tie.Need-cast-width
 cast-width c =
     let x = c .before .before .before in
-    let p = (comparable (x .args .self) (lent x) (x .args .index) (now (x .args .value)) (x .args .max-states) (x .args .states) _ (x .pre) refl) .short in
+    let p = (comparable (x .args .self) (here x) (x .args .index) (now (x .args .value)) (x .args .max-states) (x .args .states) _ (x .pre) refl) .short in
     omega arith
 
 join-requires : tie.Need-join-requires
@@ -84,12 +83,12 @@ join-requires c κs = search needs
 repeats-last-requires : tie.Need-repeats-last-requires
 repeats-last-requires c κs =
     let x = c .before .before .before .before .before in
-    comparable (x .args .self) (lent x) (x .args .index) (now (x .args .value)) (x .args .max-states) (x .args .states) _ (x .pre) (c .before .join .ensures)
+    comparable (x .args .self) (here x) (x .args .index) (now (x .args .value)) (x .args .max-states) (x .args .states) _ (x .pre) (c .before .join .ensures)
 
 next-count-requires : tie.Need-next-count-requires
 next-count-requires c κs =
     let x = c .before .before .before .before .before .before in
-    (standing (x .args .self) (lent x) (x .pre .admitted .sound)) .count
+    (standing (x .args .self) (here x) (x .pre .admitted .sound)) .count
 
 is-bad-requires : tie.Need-is-bad-requires
 is-bad-requires c κs = search needs
@@ -107,8 +106,8 @@ returns : tie.Need-returns
 returns c =
     let z = c .before .before in
     let x = start z in
-    untouched (lent x) (c .refused .ensures)
-    ∙ levels-full (x .args .self) (lent x) (x .args .index) (now (x .args .value)) (x .args .max-states) (x .args .states) (joint z) (x .pre) (joined z) (repeat z) (told z) (next z) (counted z) (sym (z .is-bad .ensures) ∙ c .before .if1 .taken)
+    untouched (here x) (c .refused .ensures)
+    ∙ levels-full (x .args .self) (here x) (x .args .index) (now (x .args .value)) (x .args .max-states) (x .args .states) (joint z) (x .pre) (joined z) (repeat z) (told z) (next z) (counted z) (sym (z .is-bad .ensures) ∙ c .before .if1 .taken)
 
 cast-entries : tie.Need-cast-entries
 cast-entries c = search needs
@@ -117,7 +116,7 @@ expand-entries-requires : tie.Need-expand-entries-requires
 expand-entries-requires c κs =
     let z = c .before .before in
     let x = start z in
-    widenable (x .args .self) (lent x) (x .args .index) (now (x .args .value)) (x .args .max-states) (x .args .states) (joint z) (x .pre) (joined z) (repeat z) (told z) (next z) (counted z) (roomy z (c .before .if1 .left))
+    widenable (x .args .self) (here x) (x .args .index) (now (x .args .value)) (x .args .max-states) (x .args .states) (joint z) (x .pre) (joined z) (repeat z) (told z) (next z) (counted z) (roomy z (c .before .if1 .left))
 
 accepted-requires : tie.Need-accepted-requires
 accepted-requires c κs = search needs
@@ -133,7 +132,7 @@ returns-2 c =
     let z = c .before .before .before .before .before .before .before in
     let x = start z in
     ap₂ (λ (r : Added) (b : List ℕ). leftBy r b (now (x .args .indices))) (c .accepted .ensures) (c .before .before .before .before .expand-entries .ensures)
-    ∙ levels-stay (x .args .self) (lent x) (x .args .index) (now (x .args .value)) (x .args .max-states) (x .args .states) (joint z) (x .pre) (joined z) (repeat z) (told z) (next z) (counted z) (roomy z (c .before .before .before .before .before .before .if1 .left)) (c .before .if2 .taken)
+    ∙ levels-stay (x .args .self) (here x) (x .args .index) (now (x .args .value)) (x .args .max-states) (x .args .states) (joint z) (x .pre) (joined z) (repeat z) (told z) (next z) (counted z) (roomy z (c .before .before .before .before .before .before .if1 .left)) (c .before .if2 .taken)
 
 entry-size-requires : tie.Need-entry-size-requires
 entry-size-requires c κs = search needs
@@ -148,7 +147,7 @@ write-entry-requires : tie.Need-write-entry-requires
 write-entry-requires c κs =
     let z = c .before .before .before .before .before .before .before .before in
     let x = start z in
-    writable (x .args .self) (lent x) (x .args .index) (now (x .args .value)) (x .args .max-states) (x .args .states) (joint z) (x .pre) (joined z) (repeat z) (told z) (next z) (counted z) (roomy z (c .before .before .before .before .before .before .before .if1 .left)) (c .before .before .if2 .left) _ _ (c .before .before .before .before .before .expand-entries .kept .1 .1 .0)
+    writable (x .args .self) (here x) (x .args .index) (now (x .args .value)) (x .args .max-states) (x .args .states) (joint z) (x .pre) (joined z) (repeat z) (told z) (next z) (counted z) (roomy z (c .before .before .before .before .before .before .before .if1 .left)) (c .before .before .if2 .left) _ _ (c .before .before .before .before .before .expand-entries .kept .1 .1 .0)
     (ap (λ (k : ℕ). x .args .byte-start + x .args .self .count * k) (c .before .entry-size .ensures))
 
 index-in : (c : tie.After-slice-known4) →
@@ -185,7 +184,7 @@ returns-3 c =
     (λ (b : List ℕ) (k : ℕ).
     overlay b (x .args .byte-start + x .args .self .count * k) (entryFrom (joint z) (x .args .states) (now (x .args .value))))
     (c .before .before .before .before .before .before .before .before .before .expand-entries .ensures) (c .before .before .before .before .before .entry-size .ensures))
-    ∙ levels-grow (x .args .self) (lent x) (x .args .index) (now (x .args .value)) (x .args .max-states) (x .args .states) (joint z) (x .pre) (joined z) (repeat z) (told z) (next z) (counted z) (roomy z (c .before .before .before .before .before .before .before .before .before .before .before .if1 .left)) (c .before .before .before .before .before .before .if2 .left)
+    ∙ levels-grow (x .args .self) (here x) (x .args .index) (now (x .args .value)) (x .args .max-states) (x .args .states) (joint z) (x .pre) (joined z) (repeat z) (told z) (next z) (counted z) (roomy z (c .before .before .before .before .before .before .before .before .before .before .before .if1 .left)) (c .before .before .before .before .before .before .if2 .left)
 
 pub raise-levels-spec : {M : Type 1} → statement M
 raise-levels-spec =

@@ -1,23 +1,26 @@
 -- `fst::record::fresh` meets its contract.
 -- Assumes nothing.
-use native.Mathlib.Omega.{arith}
+use mathlib.Core.Path.{ap, _∙_}
+use borrow.Author.Needs.{needs}
+use Rattle.fst.specs.Refusal.{given}
 use Rattle.fst.proofs.Rooms.{fresh-wide, fresh-event, fresh-vector}
 use Rattle.fst.proofs.record.fresh.Statement.{statement}
 use Rattle.fst.proofs.record.fresh.Tie as tie
-use Rattle.fst.proofs.record.fresh.Reads as reads
-use Rattle.fst.proofs.record.fresh.Lts as lts
 
--- src/record.rt:24:9
 returns : tie.Need-returns
 returns c = fresh-wide (c .before .args .width) (c .if1 .taken)
 
--- src/record.rt:27:9
-returns-2 : tie.Need-returns-2
-returns-2 c = fresh-event (c .before .before .args .width) (c .if2 .taken)
+new-requires : tie.Need-new-requires
+new-requires c κs = search needs
 
--- src/record.rt:20:1
+returns-2 : tie.Need-returns-2
+returns-2 c = ap given (c .new .ensures) ∙ fresh-event (c .before .before .before .args .width) (c .before .if2 .taken)
+
+new-requires-2 : tie.Need-new-requires-2
+new-requires-2 c κs = search needs
+
 returns-3 : tie.Need-returns-3
-returns-3 c = fresh-vector (c .before .before .args .width) (omega arith) (c .if2 .left)
+returns-3 c = ap given (c .new2 .ensures) ∙ fresh-vector (c .before .before .before .args .width) (c .before .before .if1 .left) (c .before .if2 .left)
 
 pub fresh-spec : {M : Type 1} → statement M
-fresh-spec = tie.close (tie.spec returns returns-2 returns-3)
+fresh-spec = tie.close (tie.spec returns new-requires returns-2 new-requires-2 returns-3)

@@ -2,15 +2,14 @@
 -- Assumes nothing.
 use mathlib.Core.Path.{_≡_, sym, _∙_}
 use denote.Ref.{now}
-use Rattle.fst.specs.Record.{Lent}
+use Rattle.fst.specs.Record.{Lent, lent}
 use Rattle.fst.proofs.Rooms.{bad-bytes, by-indices}
 use borrow.Author.Needs.{needs}
 use Rattle.fst.proofs.record.is_bad.Statement.{statement}
 use Rattle.fst.proofs.record.is_bad.Tie as tie
 
--- the slices that are lent
-abbrev lent : tie.Start → Lent
-lent x = record { bytes = now (x .args .bytes); byteStart = x .args .byte-start; indices = now (x .args .indices); indexStart = x .args .index-start }
+abbrev here : tie.Start → Lent
+here x = lent (now (x .args .bytes)) (x .args .byte-start) (now (x .args .indices)) (x .args .index-start)
 
 is-bad-bytes-requires : tie.Need-is-bad-bytes-requires
 is-bad-bytes-requires c κs = search needs
@@ -18,7 +17,7 @@ is-bad-bytes-requires c κs = search needs
 returns : tie.Need-returns
 returns c =
     let x = c .before .before .before .before in
-    bad-bytes (x .args .description) (lent x) (sym (c .before .is-bad-bytes .ensures) ∙ c .if1 .taken)
+    bad-bytes (x .args .description) (here x) (sym (c .before .is-bad-bytes .ensures) ∙ c .if1 .taken)
 
 lacks-indices-requires : tie.Need-lacks-indices-requires
 lacks-indices-requires c κs = search needs
@@ -26,7 +25,7 @@ lacks-indices-requires c κs = search needs
 returns-2 : tie.Need-returns-2
 returns-2 c =
     let x = c .before .before .before .before .before in
-    c .lacks-indices .ensures ∙ sym (by-indices (x .args .description) (lent x) (sym (c .before .before .is-bad-bytes .ensures) ∙ c .before .if1 .left))
+    c .lacks-indices .ensures ∙ sym (by-indices (x .args .description) (here x) (sym (c .before .before .is-bad-bytes .ensures) ∙ c .before .if1 .left))
 
 pub is-bad-spec : {M : Type 1} → statement M
 is-bad-spec = tie.close (tie.spec is-bad-bytes-requires returns lacks-indices-requires returns-2)

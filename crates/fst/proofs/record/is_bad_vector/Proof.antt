@@ -3,15 +3,14 @@
 use mathlib.Core.Path.{_≡_, sym, _∙_}
 use native.Mathlib.Omega.{arith}
 use denote.Ref.{now}
-use Rattle.fst.specs.Record.{Lent, isBadBytes}
+use Rattle.fst.specs.Record.{Lent, lent, isBadBytes}
 use Rattle.fst.proofs.Rooms.{bad-vector, bad-bytes, by-indices, size-small}
 use borrow.Author.Needs.{needs}
 use Rattle.fst.proofs.record.is_bad_vector.Statement.{statement}
 use Rattle.fst.proofs.record.is_bad_vector.Tie as tie
 
--- the slices that are lent
-abbrev lent : tie.Start → Lent
-lent x = record { bytes = now (x .args .bytes); byteStart = x .args .byte-start; indices = now (x .args .indices); indexStart = x .args .index-start }
+abbrev here : tie.Start → Lent
+here x = lent (now (x .args .bytes)) (x .args .byte-start) (now (x .args .indices)) (x .args .index-start)
 
 -- number 2 of the bytes
 module _ (c : tie.After-is-bad-levels) where
@@ -32,7 +31,7 @@ is-bad-levels-requires c κs =
 returns : tie.Need-returns
 returns c =
     let x = start (c .before) in
-    bad-bytes (x .args .description) (lent x) (sym (bytes (c .before)) ∙ c .if1 .taken)
+    bad-bytes (x .args .description) (here x) (sym (bytes (c .before)) ∙ c .if1 .taken)
 
 lacks-indices-requires : tie.Need-lacks-indices-requires
 lacks-indices-requires c κs = search needs
@@ -41,7 +40,7 @@ returns-2 : tie.Need-returns-2
 returns-2 c =
     let b = c .before .before in
     let x = start b in
-    c .lacks-indices .ensures ∙ sym (by-indices (x .args .description) (lent x) (sym (bytes b) ∙ c .before .if1 .left))
+    c .lacks-indices .ensures ∙ sym (by-indices (x .args .description) (here x) (sym (bytes b) ∙ c .before .if1 .left))
 
 pub is-bad-vector-spec : {M : Type 1} → statement M
 is-bad-vector-spec =
