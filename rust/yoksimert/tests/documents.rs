@@ -125,6 +125,22 @@ fn paths_are_there() {
     }
 }
 
+/// The README's table of folders has every crate.
+#[test]
+fn the_readme_names_every_crate() {
+    let text = file("README.md");
+    let manifest = file("rust/Cargo.toml");
+    let members = manifest
+        .split(['[', ']'])
+        .find(|part| part.contains("\"yoksimert\""));
+    let members = members.expect("the members").split(", ");
+    let rust = members.map(|name| format!("rust/{}", name.trim_matches('"')));
+    let rattle = crates().into_iter().map(|name| format!("crates/{name}"));
+    for folder in rattle.chain(rust) {
+        assert!(text.contains(&format!("\n| `{folder}` |")), "{folder}");
+    }
+}
+
 /// Each difference from wellen is held by the test that its row names.
 #[test]
 fn the_differences_are_tested() {
