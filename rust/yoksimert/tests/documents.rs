@@ -383,3 +383,33 @@ fn every_edit_is_named() {
         assert!(named, "crates/{name}/must-fail/{edit}.edit");
     }
 }
+
+/// The words of all sources, and the names of their files.
+fn words() -> BTreeSet<String> {
+    let sources = ["crates", "rust", "include"].into_iter().flat_map(files);
+    let endings = [".rt", ".antt", ".edit", ".rs", ".h"];
+    let sources = sources.filter(|path| endings.iter().any(|ending| path.ends_with(ending)));
+    let mut all = BTreeSet::new();
+    for path in sources.filter(|path| !path.ends_with("/documents.rs")) {
+        let text = file(&path) + " " + &path;
+        let words = text.split(|c: char| !c.is_alphanumeric() && c != '_' && c != '-');
+        all.extend(words.map(str::to_string));
+    }
+    all
+}
+
+/// The names in the decisions and beside the times are words of the sources, or the C library's.
+#[test]
+fn names_are_known() {
+    let (words, of_c) = (words(), ["memset", "memmove"]);
+    for document in ["docs/DECISIONS.md", "docs/BENCHMARKS.md"] {
+        let text = file(document);
+        for (at, line) in lines(&text) {
+            let code = spans(line).filter(|(is_code, span)| *is_code && is_name(span));
+            for (_, name) in code.filter(|(_, name)| name.len() > 3 && !of_c.contains(name)) {
+                let last = name.rsplit("::").next().unwrap_or_default();
+                assert!(words.contains(last), "{document}:{at}: {name}");
+            }
+        }
+    }
+}
