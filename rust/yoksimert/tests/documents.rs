@@ -270,10 +270,15 @@ impl Declared {
             )
     }
 
-    fn anywhere(&self, word: &str) -> bool {
+    /// Where a name is declared.
+    fn places(&self, word: &str) -> Vec<String> {
         let last = word.rsplit("::").next().unwrap_or_default();
-        let declared = self.texts.values().any(|text| declares(text, last));
-        declared || self.edits.iter().any(|(_, edit)| edit == word)
+        let texts = self.texts.iter().filter(|(_, text)| declares(text, last));
+        let edits = self.edits.iter().filter(|(_, edit)| edit == word);
+        let places = texts.map(|((of, file), _)| format!("{of}/{file}"));
+        places
+            .chain(edits.map(|(of, _)| format!("{of}/must-fail")))
+            .collect()
     }
 }
 
@@ -293,11 +298,9 @@ type Place = Option<(String, String)>;
 fn place(word: &str, declared: &Declared, wrong: &mut Vec<String>) -> Place {
     let word = word.trim_matches(|c: char| !c.is_alphanumeric());
     let parts: Vec<_> = word.split('/').collect();
-    let crates = crates();
+    let code = |name: &str| (name.to_string(), String::new());
     match parts.as_slice() {
-        [name] if crates.iter().any(|other| other == name) => {
-            Some((name.to_string(), String::new()))
-        }
+        [name] if declared.texts.contains_key(&code(name)) => Some(code(name)),
         [name, .., file] if file.starts_with(char::is_uppercase) => {
             let place = (name.to_string(), file.to_string());
             if !declared.texts.contains_key(&place) {
@@ -333,13 +336,14 @@ fn undeclared(line: &str, declared: &Declared) -> Vec<String> {
         }
         for name in expanded(part).iter().filter(|name| is_name(name)) {
             let found = match &here {
-                None => declared.anywhere(name),
+                None => !declared.places(name).is_empty(),
                 Some((of, file)) if file.is_empty() => declared.in_crate(of, name),
                 Some((of, file)) => declared.in_file(of, file, name),
             };
             if !found {
                 let (of, file) = here.clone().unwrap_or_default();
-                wrong.push(format!("no {name} in crates/{of} {file}"));
+                let places = declared.places(name).join(", ");
+                wrong.push(format!("no {name} in {of}/{file}, but in: {places}"));
             }
         }
     }
@@ -362,7 +366,9 @@ fn the_proofs_are_there() {
                 .filter(|(is_code, _)| *is_code)
                 .flat_map(|(_, span)| expanded(span));
             let names: Vec<_> = named.filter(|name| is_name(name)).collect();
-            let lost = names.into_iter().filter(|name| !declared.anywhere(name));
+            let lost = names
+                .into_iter()
+                .filter(|name| declared.places(name).is_empty());
             lost.map(|name| format!("no {name}")).collect::<Vec<_>>()
         };
         wrong.extend(
