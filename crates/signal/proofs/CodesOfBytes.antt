@@ -13,31 +13,18 @@ use lib.Bits.{bitAnd, bitOr, and-mask, or-zero-l, or-add-and, and-le-r}
 use lib.Dec.{ltb, leb}
 use lib.ListN.{length, take, drop, getD, length-map, length-drop, take-append-drop}
 use lib.Pow.{pow-add, pow-pos}
-use lib.Seq.{take-all}
+use lib.Seq.{take-suc, take-all}
 use Rattle.value.specs.declared.States.{States}
 use Rattle.value.specs.declared.States.the-variants.{Two, Four, Nine}
 use Rattle.value.specs.Digits.{number, digits, Below}
 use Rattle.value.specs.Slice.{any, overlay}
 use Rattle.value.specs.Level.{bitsOf, lenOf, letterOf, isNoCode, hasNoCode, textOf}
 use Rattle.value.proofs.Classes.{same-tests}
-use Rattle.value.proofs.Digits.{below-at, below-drop, pow-pow, number-append, number-lt, number-more, digits-length, digits-high}
+use Rattle.value.proofs.Digits.{below-at, below-drop, pow-pow, number-append, number-lt, number-more, digits-length, digits-append}
 use Rattle.value.proofs.Slices.{any-append, any-snoc, overlay-nil, overlay-length, overlay-overlay}
 use Rattle.value.proofs.Tests.{by-eq}
 use Rattle.signal.specs.Decode.{codesAt}
-use Rattle.signal.specs.Parts.{Levels}
-
--- ---- digits behind digits
-
-module _ (B : ℕ) (pos : 0 < B) where
-  digits-append : (a c m n : ℕ) → n < B ^ c → digits B (a + c) (m * B ^ c + n) ≡ digits B a m ++ digits B c n
-  unfolding digits
-  digits-append zero c m n h = rw (zero-add, add-comm (m * B ^ c) n) (digits-high B pos c n m)
-  digits-append (suc a) c m n h =
-      let e : (m * B ^ c + n) / B ^ (a + c) ≡ m / B ^ a =
-      ap (λ (p : ℕ). (m * B ^ c + n) / p) (pow-add B a c ∙ mul-comm (B ^ a) (B ^ c))
-      ∙ sym (div-div-eq-div-mul (m * B ^ c + n) (B ^ c) (B ^ a))
-      ∙ ap (λ (q : ℕ). q / B ^ a) (digits-div m h) in
-      rw (suc-add a c, e, digits-append a c m n h)
+use Rattle.signal.specs.Parts.{Levels, isBadByte}
 
 -- ---- one byte
 
@@ -237,9 +224,9 @@ nine-bits Two h = absurd (omega arith)
 nine-bits Four h = absurd (omega arith)
 nine-bits Nine h = refl
 
-pub bad-byte : (x : ℕ) → x < 256 → ltb 0 (bitAnd (bitAnd (bitAnd x 119 + 119) x) 136) ≡ hasNoCode (digits 16 2 x)
+pub bad-byte : (x : ℕ) → x < 256 → ltb 0 (bitAnd (bitAnd (bitAnd x 119 + 119) x) 136) ≡ isBadByte x
 unfolding digits any
-bad-byte x h = same-tests (λ (n : ℕ). ltb 0 (bitAnd (bitAnd (bitAnd n 119 + 119) n) 136)) (λ (n : ℕ). hasNoCode (digits 16 2 n)) tt x h
+bad-byte x h = same-tests (λ (n : ℕ). ltb 0 (bitAnd (bitAnd (bitAnd n 119 + 119) n) 136)) isBadByte tt x h
 
 or-some : (a b : ℕ) → ltb 0 (bitOr a b) ≡ ltb 0 a || ltb 0 b
 or-some a b =
@@ -250,14 +237,23 @@ or-some a b =
     let p : 0 < a = omega arith in
     rw (lt-ltb 0 a p, lt-ltb 0 (bitOr a b) (omega arith)))
 
-pub bad-more : (v : List ℕ) (i u k : ℕ) → i < length v → Below 256 v → ltb 0 u ≡ hasNoCode (digits 16 (2 * i) (number 256 (take i v)))
-    → ltb 0 k ≡ hasNoCode (digits 16 2 (getD v i 0)) → ltb 0 (bitOr u k) ≡ hasNoCode (digits 16 (2 * (i + 1)) (number 256 (take (i + 1) v)))
-bad-more v i u k h b e f =
-    let m : 2 * i + 2 ≡ 2 * (i + 1) = omega arith in
-    or-some u k
-    ∙ ap₂ (λ (s t : Bool). s || t) e f
-    ∙ sym (any-append isNoCode (digits 16 (2 * i) (number 256 (take i v))) (digits 16 2 (getD v i 0)))
-    ∙ ap (λ (cs : List ℕ). hasNoCode cs) (sym (byte-more Nine v (2 * i) i h b) ∙ ap (λ (n : ℕ). digits 16 n (number 256 (take (i + 1) v))) m)
+pub bad-more : (v : List ℕ) (i u k : ℕ) → i < length v → ltb 0 u ≡ any isBadByte (take i v) → ltb 0 k ≡ isBadByte (getD v i 0)
+    → ltb 0 (bitOr u k) ≡ any isBadByte (take (i + 1) v)
+bad-more v i u k h e f =
+    rw (add-one, take-suc v i 0 h) (or-some u k ∙ ap₂ (λ (s t : Bool). s || t) e f ∙ sym (any-snoc isBadByte (take i v) (getD v i 0)))
+
+-- the codes of full bytes are those of each
+bad-bytes : (v : List ℕ) → Below 256 v → any isBadByte v ≡ hasNoCode (digits 16 (2 * length v) (number 256 v))
+unfolding any digits number
+bad-bytes [] b = refl
+bad-bytes (x ∷ v) b =
+    let n = number 256 v in
+    let m : 2 * suc (length v) ≡ 2 + 2 * length v = omega arith in
+    let p : 256 ^ length v ≡ 16 ^ (2 * length v) = pow-pow 16 2 (length v) ∙ ap (λ (k : ℕ). 16 ^ k) (mul-comm (length v) 2) in
+    ap (λ (t : Bool). isBadByte x || t) (bad-bytes v (b .1))
+    ∙ sym (any-append isNoCode (digits 16 2 x) (digits 16 (2 * length v) n))
+    ∙ ap (λ (cs : List ℕ). hasNoCode cs)
+    (sym (digits-append 16 (omega arith) 2 (2 * length v) x n (rw (← p) (number-lt 256 v (b .1)))) ∙ ap₂ (λ (k q : ℕ). digits 16 k (x * q + n)) (sym m) (sym p))
 
 -- the code of a first byte that has but one
 pub bad-one : (v : List ℕ) → 0 < length v → leb 9 (bitAnd (getD v 0 0) 15) ≡ hasNoCode (digits 16 1 (number 256 (take 1 v)))
@@ -269,13 +265,12 @@ bad-one v h =
 
 -- the codes of the first byte where it has but one, and of the full ones
 pub bad-whole : (w : ℕ) (S : States) (levels : List ℕ) → S ≡ Nine → Levels w S levels → Below 256 levels → (p q : Bool)
-    → p ≡ hasNoCode (digits 16 (w % 2) (number 256 (take (w % 2) levels)))
-    → q ≡ hasNoCode (digits 16 (2 * length (drop (w % 2) levels)) (number 256 (drop (w % 2) levels)))
-    → p || q ≡ hasNoCode (codesAt w S levels)
+    → p ≡ hasNoCode (digits 16 (w % 2) (number 256 (take (w % 2) levels))) → q ≡ any isBadByte (drop (w % 2) levels) → p || q ≡ hasNoCode (codesAt w S levels)
 bad-whole w S levels n h b p q e f =
     let z : lenOf (w % 2) Nine ≡ w % 2 = omega arith in
     let s : Split w Nine levels (w % 2) (w % 2) = rw z at (split-first w levels Nine (rw n at h)) in
+    let ys = drop (w % 2) levels in
     rw n
-    (ap₂ (λ (s t : Bool). s || t) e f
-    ∙ sym (any-append isNoCode (digits 16 (w % 2) (number 256 (take (w % 2) levels))) (digits 16 (2 * length (drop (w % 2) levels)) (number 256 (drop (w % 2) levels))))
+    (ap₂ (λ (s t : Bool). s || t) e (f ∙ bad-bytes ys (below-drop 256 levels b (w % 2)))
+    ∙ sym (any-append isNoCode (digits 16 (w % 2) (number 256 (take (w % 2) levels))) (digits 16 (2 * length ys) (number 256 ys)))
     ∙ ap (λ (cs : List ℕ). hasNoCode cs) (sym (split-codes w levels Nine s b)))

@@ -5,7 +5,7 @@ use mathlib.Core.Bool.{Bool, true, false, cond, _&&_}
 use mathlib.Core.List.{List, [], _∷_, _++_, reverse, reverse-cons}
 use mathlib.Core.Logic.{⊎-elim}
 use Prim.Native.Nat.{ℕ, suc, _+_, _-_, _*_, _^_, _%_, _≤_, _<_}
-use native.Mathlib.Nat.{suc-mul, pow-suc, pow-le-pow-right, lt-of-lt-of-le, mul-le-mul-right}
+use native.Mathlib.Nat.{pow-suc, pow-le-pow-right, lt-of-lt-of-le, mul-le-mul-right}
 use native.Mathlib.Numerals.{add-one}
 use native.Mathlib.Omega.{arith}
 use denote.Enum.Declared.{tagOf}
@@ -18,11 +18,11 @@ use lib.ListN.{length, getD, take, drop, length-map, drop-of-length-le}
 use lib.Seq.{take-suc, take-take, take-all, drop-cons, getD-take}
 use Rattle.value.specs.declared.States.{States}
 use Rattle.value.specs.Digits.{number as digitsNumber}
-use Rattle.value.specs.Slice.{part, same, any}
+use Rattle.value.specs.Slice.{same, any}
 use Rattle.value.specs.Level.{markOf, lenOf, setAt, letterOf, hasNoCode, textOf}
 use Rattle.value.proofs.Digits.{number-snoc}
 use Rattle.value.proofs.Levels.{mark-inj, text-inj, all-below}
-use Rattle.value.proofs.Slices.{part-length, part-at, same-sound, same-refl, same-by}
+use Rattle.value.proofs.Slices.{same-sound, same-refl, same-by}
 use Rattle.value.proofs.Tests.{to-T, from-T, both-ways}
 use Rattle.fst.specs.declared.Encoding.{Encoding}
 use Rattle.fst.specs.declared.Encoding.the-variants.{Event, Real, BitVector}
@@ -31,17 +31,17 @@ use Rattle.fst.specs.declared.Description.{Description}
 use Rattle.fst.specs.declared.Refusal.{Refusal}
 use Rattle.fst.specs.declared.Refusal.the-variants as refusal
 use Rattle.fst.specs.Refusal.{Reply, refused, given, Test, _⇐_, tried, number}
-use Rattle.fst.specs.Record.{Lent, maximum, sizeOf, usedSize, keptIn, isBad}
-use Rattle.fst.proofs.Records.{Fits, fits-room, not-bad}
+use Rattle.fst.specs.Record.{Lent, isBad}
 use Rattle.signal.specs.declared.EqualAnswer.{EqualAnswer}
 use Rattle.signal.specs.declared.EqualAnswer.the-variants as answer
 use Rattle.signal.proofs.EqualAnswer.{the-type as equal-type}
 use Rattle.signal.specs.Compare.{sameValue, agree, walked, compareRecords, equalOf}
 use Rattle.signal.specs.declared.OwnStates.the-variants as own
-use Rattle.signal.specs.Decode.{Indexed, entryAt, entriesFrom, markIn, setIn, levelPart, levelsIn, hasBadMark, hasBadCode, textIn, codesAt}
-use Rattle.signal.specs.Parts.{ownStates, Whole, Inside, badNumber, Sound, pairOf}
-use Rattle.signal.proofs.Decoding.{codes-length}
-use Rattle.signal.proofs.Reading.{Owned, owned, bad-told, entry-within}
+use Rattle.signal.specs.Decode.{Indexed, entryAt, markIn, setIn, levelPart, levelsIn, hasBadMark, hasBadCode, textIn, codesAt}
+use Rattle.signal.specs.Parts.{ownStates, Whole, badNumber, Sound, pairOf}
+use Rattle.signal.proofs.Decoding.{mark-by, codes-length}
+use Rattle.signal.proofs.Reading.{Owned, owned, bad-told}
+use Rattle.signal.proofs.Entries.{Has, entryNumber, rest, rest-more, rest-end}
 
 -- ---- a real's bits
 
@@ -127,34 +127,36 @@ module _ (e : Encoding) (v : List ℕ) where
       go Real o = refl
       go (BitVector w M) o = absurd (⊎-elim (λ z. omega arith) (λ z. omega arith) o)
 
-  module _ (w : ℕ) (M : States) (q : e ≡ BitVector w M) where
-    pub bad-mark : ownStates M v ≡ own.Bad → 9 ≡ badNumber e v
+module _ {e : Encoding} {w : ℕ} {M : States} (q : e ≡ BitVector w M) where
+  pub bad-mark : (v : List ℕ) → ownStates M v ≡ own.Bad → 9 ≡ badNumber e v
+  unfolding badNumber
+  bad-mark v h = rw (q, bad-told w M v h)
+
+  module _ {v : List ℕ} {S : States} {levels : List ℕ} (o : Owned w M v S) (p : levels ≡ levelPart (BitVector w M) v) where
+    codes-are : hasNoCode (codesAt w S levels) ≡ hasBadCode (BitVector w M) v
+    codes-are = ap hasNoCode (ap (codesAt w S) p ∙ o .codes)
+
+    pub bad-code : hasNoCode (codesAt w S levels) ≡ true → 10 ≡ badNumber e v
     unfolding badNumber
-    bad-mark h = rw (q, bad-told w M v h)
+    bad-code h = rw (q, o .sound, sym codes-are ∙ h)
 
-    module _ (S : States) (o : Owned w M v S) (levels : List ℕ) (p : levels ≡ levelPart (BitVector w M) v) where
-      codes-are : hasNoCode (codesAt w S levels) ≡ hasBadCode (BitVector w M) v
-      codes-are = ap hasNoCode (ap (codesAt w S) p ∙ o .codes)
-
-      pub bad-code : hasNoCode (codesAt w S levels) ≡ true → 10 ≡ badNumber e v
-      unfolding badNumber
-      bad-code h = rw (q, o .sound, sym codes-are ∙ h)
-
-      pub bad-no-code : hasNoCode (codesAt w S levels) ≡ false → 0 ≡ badNumber e v
-      unfolding badNumber
-      bad-no-code h = rw (q, o .sound, sym codes-are ∙ h)
+    pub bad-no-code : hasNoCode (codesAt w S levels) ≡ false → 0 ≡ badNumber e v
+    unfolding badNumber
+    bad-no-code h = rw (q, o .sound, sym codes-are ∙ h)
 
 -- ---- two sound entries
 
 pub sound-vector : {e : Encoding} {w : ℕ} {M : States} {v : List ℕ} → e ≡ BitVector w M → Sound e v → Sound (BitVector w M) v
 sound-vector q h = rw q at h
 
-module _ (w : ℕ) (M : States) (v : List ℕ) (h : Sound (BitVector w M) v) where
-  pub sound-owned : (S : States) → S ≡ setAt (markIn M v) → Owned w M v S
-  unfolding ownStates hasBadMark
-  sound-owned S e = owned w M v (h .whole) S (rw (h .mark, e))
+-- the own set, as it is found by the mark of the largest set
+pub sound-owned : {w : ℕ} {M : States} {v : List ℕ} {m : ℕ} {S : States} → Sound (BitVector w M) v → m ≡ markOf M → S ≡ setAt (markIn (setAt m) v) → Owned w M v S
+unfolding ownStates hasBadMark
+sound-owned {w} {M} {v} {m} {S} h d e =
+    let k = markIn (setAt m) v in
+    owned (h .whole) (rw (h .mark, e, ← mark-by M v m k d refl))
 
-module _ (w : ℕ) (M N : States) (v u : List ℕ) (S R : States) (o : Owned w M v S) (q : Owned w N u R) (x y : List ℕ)
+module _ {w : ℕ} {M N S R : States} {v u x y : List ℕ} (o : Owned w M v S) (q : Owned w N u R)
     (a : x ≡ levelPart (BitVector w M) v) (b : y ≡ levelPart (BitVector w N) u) where
   codes-l : codesAt w S x ≡ levelsIn (BitVector w M) v
   codes-l = ap (codesAt w S) a ∙ o .codes
@@ -173,9 +175,9 @@ module _ (w : ℕ) (M N : States) (v u : List ℕ) (S R : States) (o : Owned w M
   same-length m = ap length a ∙ o .levels .long ∙ ap (lenOf w) (mark-inj S R m) ∙ sym (ap length b ∙ q .levels .long)
 
   -- letters differ where codes do
-  pub codes-alike : Sound (BitVector w M) v → Sound (BitVector w N) u → (r : Bool) → r ≡ same (codesAt w S x) (codesAt w R y)
+  pub codes-alike : Sound (BitVector w M) v → Sound (BitVector w N) u → {r : Bool} → r ≡ same (codesAt w S x) (codesAt w R y)
       → r ≡ same (textIn (BitVector w M) v) (textIn (BitVector w N) u)
-  codes-alike k l r e =
+  codes-alike k l e =
       let cs = levelsIn (BitVector w M) v in
       let ds = levelsIn (BitVector w N) u in
       e ∙ ap₂ same codes-l codes-r
@@ -183,7 +185,7 @@ module _ (w : ℕ) (M N : States) (v u : List ℕ) (S R : States) (o : Owned w M
 
 -- ---- entries of unlike kind or width
 
-module _ (e f : Encoding) (v u : List ℕ) where
+module _ {e : Encoding} (f : Encoding) (v u : List ℕ) where
   pub unlike-event : e ≡ Event → OneOf (1 ∷ 2 ∷ []) (tagOf the-type f) → false ≡ sameValue e v f u
   unfolding sameValue
   unlike-event q o = rw q (go f o)
@@ -202,7 +204,7 @@ module _ (e f : Encoding) (v u : List ℕ) where
       go Real o = absurd (⊎-elim (λ z. omega arith) (λ z. omega arith) o)
       go (BitVector w M) o = refl
 
-  module _ (w : ℕ) (M : States) (q : e ≡ BitVector w M) where
+  module _ {w : ℕ} {M : States} (q : e ≡ BitVector w M) where
     pub unlike-vector : OneOf (0 ∷ 1 ∷ []) (tagOf the-type f) → false ≡ sameValue e v f u
     unfolding sameValue
     unlike-vector o = rw q (go f o)
@@ -216,16 +218,17 @@ module _ (e f : Encoding) (v u : List ℕ) where
     unfolding levelsIn
     text-length w M v = length-map (levelsIn (BitVector w M) v) letterOf ∙ codes-length w (setIn (BitVector w M) v) (levelPart (BitVector w M) v)
 
-    pub unlike-width : (x : ℕ) (N : States) → f ≡ BitVector x N → (w ≡ x → ⊥) → false ≡ sameValue e v f u
-    unfolding sameValue
-    unlike-width x N p n =
-        rw (q, p)
-        (both-ways false (same (textIn (BitVector w M) v) (textIn (BitVector x N) u)) (λ t. absurd t)
-        (λ t. absurd (n (sym (text-length w M v) ∙ ap length (same-sound (textIn (BitVector w M) v) (textIn (BitVector x N) u) t) ∙ text-length x N u))))
+    module _ {x : ℕ} {N : States} (p : f ≡ BitVector x N) where
+      pub unlike-width : (w ≡ x → ⊥) → false ≡ sameValue e v f u
+      unfolding sameValue
+      unlike-width n =
+          rw (q, p)
+          (both-ways false (same (textIn (BitVector w M) v) (textIn (BitVector x N) u)) (λ t. absurd t)
+          (λ t. absurd (n (sym (text-length w M v) ∙ ap length (same-sound (textIn (BitVector w M) v) (textIn (BitVector x N) u) t) ∙ text-length x N u))))
 
-    pub like-vector : (x : ℕ) (N : States) → f ≡ BitVector x N → w ≡ x → (r : Bool) → r ≡ same (textIn (BitVector w M) v) (textIn (BitVector w N) u) → r ≡ sameValue e v f u
-    unfolding sameValue
-    like-vector x N p n r h = rw (q, p, ← n) h
+      pub like-vector : w ≡ x → {r : Bool} → r ≡ same (textIn (BitVector w M) v) (textIn (BitVector w N) u) → r ≡ sameValue e v f u
+      unfolding sameValue
+      like-vector n h = rw (q, p, ← n) h
 
 -- ---- a pair
 
@@ -247,9 +250,9 @@ number-some refusal.BadDerivation = omega arith
 number-some refusal.LateInput = omega arith
 
 -- an entry that is neither 9 nor 10
-pub sound : (e : Encoding) (v : List ℕ) → Whole e v → 0 ≡ badNumber e v → Sound e v
+pub sound : {e : Encoding} {v : List ℕ} → Whole e v → 0 ≡ badNumber e v → Sound e v
 unfolding badNumber
-sound e v w h = go (hasBadMark e v) refl (hasBadCode e v) refl h
+sound {e} {v} w h = go (hasBadMark e v) refl (hasBadCode e v) refl h
   where
     go : (a : Bool) → hasBadMark e v ≡ a → (b : Bool) → hasBadCode e v ≡ b → _≡_ {A = ℕ} 0 (cond a 9 (cond b 10 0)) → Sound e v
     go true p b q h = absurd (omega arith)
@@ -267,24 +270,23 @@ first-bad e v n l h tests r = go (hasBadMark e v) (hasBadCode e v) h
     go false true h = ap refused h
     go false false h = absurd (omega arith)
 
-module _ (a b : Encoding) (x y : List ℕ) (i j : ℕ) where
-  pub first-refused : (r : Refusal) → number r ≡ badNumber a x → refused (number r) ≡ pairOf a x i b y j
-  unfolding pairOf
-  first-refused r h = first-bad a x (number r) (number-some r) h _ _
+pub first-refused : (a b : Encoding) (x y : List ℕ) (i j : ℕ) (r : Refusal) → number r ≡ badNumber a x → refused (number r) ≡ pairOf a x i b y j
+unfolding pairOf
+first-refused a b x y i j r h = first-bad a x (number r) (number-some r) h _ _
 
-  module _ (p : Sound a x) where
-    pub second-refused : (r : Refusal) → number r ≡ badNumber b y → refused (number r) ≡ pairOf a x i b y j
+module _ {a : Encoding} {x : List ℕ} (p : Sound a x) where
+  pub second-refused : (b : Encoding) (y : List ℕ) (i j : ℕ) (r : Refusal) → number r ≡ badNumber b y → refused (number r) ≡ pairOf a x i b y j
+  unfolding pairOf tried
+  second-refused b y i j r h = rw (p .mark, p .code) (first-bad b y (number r) (number-some r) h [] (given (eqb i j && sameValue a x b y)))
+
+  module _ {b : Encoding} {y : List ℕ} (q : Sound b y) {i j : ℕ} where
+    pub pair-apart : (i ≡ j → ⊥) → given false ≡ pairOf a x i b y j
     unfolding pairOf tried
-    second-refused r h = rw (p .mark, p .code) (first-bad b y (number r) (number-some r) h [] (given (eqb i j && sameValue a x b y)))
+    pair-apart n = rw (p .mark, p .code, q .mark, q .code, ne-eqb i j n)
 
-    module _ (q : Sound b y) where
-      pub pair-apart : (i ≡ j → ⊥) → given false ≡ pairOf a x i b y j
-      unfolding pairOf tried
-      pair-apart n = rw (p .mark, p .code, q .mark, q .code, ne-eqb i j n)
-
-      pub pair-told : i ≡ j → (r : Bool) → r ≡ sameValue a x b y → given r ≡ pairOf a x i b y j
-      unfolding pairOf tried
-      pair-told n r h = rw (p .mark, p .code, q .mark, q .code, eq-eqb i j n, h)
+    pub pair-told : i ≡ j → {r : Bool} → r ≡ sameValue a x b y → given r ≡ pairOf a x i b y j
+    unfolding pairOf tried
+    pair-told n h = rw (p .mark, p .code, q .mark, q .code, eq-eqb i j n, h)
 
 -- ---- the walk over the pairs
 
@@ -320,50 +322,6 @@ walked-step p q l m = go (hasBadMark (p .encoding) (p .bytes)) (hasBadCode (p .e
     go false false false false true = refl
     go false false false false false = refl
 
--- a record's entries from number k on
-unfoldable pub rest : Description → Lent → ℕ → List Indexed
-rest d l k = entriesFrom k (keptIn d l) (drop k ((keptIn d l) .indices))
-
-abbrev entryNumber : Description → Lent → ℕ → Indexed
-entryNumber d l k = record { index = getD (l .indices) (l .indexStart + k) 0; encoding = d .encoding; bytes = entryAt d (l .byteStart) (l .bytes) k }
-
-module _ (d : Description) (l : Lent) (h : isBad d l ≡ false) where
-  stood : Fits d l
-  stood = fits-room d l (not-bad d l h .1)
-
-  pub kept-few : d .count ≤ maximum
-  kept-few = stood .count
-
-  kept-indices : length (part (l .indexStart) (d .count) (l .indices)) ≡ d .count
-  kept-indices = part-length (l .indices) (l .indexStart) (d .count) (stood .indices)
-
-  module _ (k : ℕ) (p : k < d .count) where
-    next-size : k * sizeOf (d .encoding) + sizeOf (d .encoding) ≤ usedSize d
-    next-size = subst (λ (n : ℕ). n ≤ usedSize d) (suc-mul k (sizeOf (d .encoding))) (mul-le-mul-right (sizeOf (d .encoding)) p)
-
-    pub kept-inside : Inside d (l .byteStart) (l .bytes) k
-    kept-inside = omega (arith, next-size, stood .bytes)
-
-    pub kept-whole : Whole (d .encoding) (entryAt d (l .byteStart) (l .bytes) k)
-    unfolding entryAt
-    kept-whole =
-        let i = kept-inside in
-        record { width = not-bad d l h .0; long = part-length (l .bytes) _ _ (omega arith) }
-
-    pub kept-index : l .indexStart + k < length (l .indices)
-    kept-index = omega (arith, stood .indices)
-
-    rest-more : rest d l k ≡ entryNumber d l k ∷ rest d l (k + 1)
-    unfolding rest keptIn entriesFrom
-    rest-more =
-        let is = part (l .indexStart) (d .count) (l .indices) in
-        let e : getD is k 0 ≡ getD (l .indices) (l .indexStart + k) 0 = part-at (l .indices) (l .indexStart) (d .count) k 0 p in
-        rw (drop-cons is k 0 (rw kept-indices p), e, entry-within d (l .bytes) (l .byteStart) k p, add-one)
-
-  rest-end : (k : ℕ) → d .count ≤ k → rest d l k ≡ []
-  unfolding rest keptIn entriesFrom
-  rest-end k p = rw (drop-of-length-le (part (l .indexStart) (d .count) (l .indices)) {i = k} (rw kept-indices p))
-
 module _ (d : Description) (l : Lent) (e : Description) (m : Lent) where
   pub first-record : isBad d l ≡ true → refused 2 ≡ compareRecords d l e m
   unfolding compareRecords tried
@@ -373,33 +331,43 @@ module _ (d : Description) (l : Lent) (e : Description) (m : Lent) where
   unfolding compareRecords tried
   second-record h k = rw (h, k)
 
-  module _ (h : isBad d l ≡ false) (g : isBad e m ≡ false) where
-    pub walk-starts : compareRecords d l e m ≡ walked (rest d l 0) (rest e m 0)
-    unfolding compareRecords tried rest
-    walk-starts = rw (h, g)
+-- two records that are not 2, where the pairs before entry k agree
+pub record Walked (d : Description) (l : Lent) (e : Description) (m : Lent) (k : ℕ) : Type 0 where
+  pub first : isBad d l ≡ false
+  pub second : isBad e m ≡ false
+  pub left : compareRecords d l e m ≡ walked (rest d l k) (rest e m k)
 
-    module _ (k : ℕ) (w : compareRecords d l e m ≡ walked (rest d l k) (rest e m k)) where
-      -- the pair of entries k, as it was compared
-      module _ (p : k < d .count) (q : k < e .count) (r : EqualAnswer) (x y : List ℕ) (i j : ℕ)
-          (a : x ≡ entryAt d (l .byteStart) (l .bytes) k) (b : y ≡ entryAt e (m .byteStart) (m .bytes) k)
-          (u : i ≡ getD (l .indices) (l .indexStart + k) 0) (v : j ≡ getD (m .indices) (m .indexStart + k) 0)
-          (t : equalOf r ≡ pairOf (d .encoding) x i (e .encoding) y j) where
-        pair : equalOf r ≡ pairOf (d .encoding) (entryAt d (l .byteStart) (l .bytes) k) (getD (l .indices) (l .indexStart + k) 0) (e .encoding) (entryAt e (m .byteStart) (m .bytes) k) (getD (m .indices) (m .indexStart + k) 0)
-        pair = rw (← a, ← b, ← u, ← v) t
+pub walk-starts : (d : Description) (l : Lent) (e : Description) (m : Lent) → isBad d l ≡ false → isBad e m ≡ false → Walked d l e m 0
+unfolding compareRecords tried rest
+walk-starts d l e m h g = record { first = h; second = g; left = rw (h, g) }
 
-        pub step : compareRecords d l e m ≡ follow (equalOf r) (walked (rest d l (k + 1)) (rest e m (k + 1)))
-        step =
-            w ∙ ap₂ walked (rest-more d l h k p) (rest-more e m g k q) ∙ walked-step (entryNumber d l k) (entryNumber e m k) (rest d l (k + 1)) (rest e m (k + 1))
-            ∙ ap (λ (z : Reply Bool). follow z (walked (rest d l (k + 1)) (rest e m (k + 1)))) (sym pair)
+module _ {d : Description} {l : Lent} {e : Description} {m : Lent} {k : ℕ} (w : Walked d l e m k) where
+  has-first : k < d .count → Has d l k
+  has-first p = record { sound = w .first; below = p }
 
-      pub first-longer : k < d .count → e .count ≤ k → given false ≡ compareRecords d l e m
-      unfolding walked
-      first-longer p q = sym (w ∙ ap₂ walked (rest-more d l h k p) (rest-end e m g k q))
+  has-second : k < e .count → Has e m k
+  has-second p = record { sound = w .second; below = p }
 
-      pub second-longer : d .count ≤ k → k < e .count → given false ≡ compareRecords d l e m
-      unfolding walked
-      second-longer p q = sym (w ∙ ap₂ walked (rest-end d l h k p) (rest-more e m g k q))
+  -- the pair of entries k, as it was compared
+  pub step : k < d .count → k < e .count → (r : EqualAnswer) {x y : List ℕ} {i j : ℕ}
+      → x ≡ entryAt d (l .byteStart) (l .bytes) k → i ≡ getD (l .indices) (l .indexStart + k) 0
+      → y ≡ entryAt e (m .byteStart) (m .bytes) k → j ≡ getD (m .indices) (m .indexStart + k) 0
+      → equalOf r ≡ pairOf (d .encoding) x i (e .encoding) y j → compareRecords d l e m ≡ follow (equalOf r) (walked (rest d l (k + 1)) (rest e m (k + 1)))
+  step p q r a u b v t =
+      let z : equalOf r ≡ pairOf (d .encoding) (entryAt d (l .byteStart) (l .bytes) k) (getD (l .indices) (l .indexStart + k) 0) (e .encoding) (entryAt e (m .byteStart) (m .bytes) k) (getD (m .indices) (m .indexStart + k) 0) = rw (← a, ← u, ← b, ← v) t in
+      w .left
+      ∙ ap₂ walked (rest-more (has-first p)) (rest-more (has-second q))
+      ∙ walked-step (entryNumber d l k) (entryNumber e m k) (rest d l (k + 1)) (rest e m (k + 1))
+      ∙ ap (λ (o : Reply Bool). follow o (walked (rest d l (k + 1)) (rest e m (k + 1)))) (sym z)
 
-      pub both-end : d .count ≤ k → e .count ≤ k → given true ≡ compareRecords d l e m
-      unfolding walked
-      both-end p q = sym (w ∙ ap₂ walked (rest-end d l h k p) (rest-end e m g k q))
+  pub first-longer : k < d .count → e .count ≤ k → given false ≡ compareRecords d l e m
+  unfolding walked
+  first-longer p q = sym (w .left ∙ ap₂ walked (rest-more (has-first p)) (rest-end e m (w .second) k q))
+
+  pub second-longer : d .count ≤ k → k < e .count → given false ≡ compareRecords d l e m
+  unfolding walked
+  second-longer p q = sym (w .left ∙ ap₂ walked (rest-end d l (w .first) k p) (rest-more (has-second q)))
+
+  pub both-end : d .count ≤ k → e .count ≤ k → given true ≡ compareRecords d l e m
+  unfolding walked
+  both-end p q = sym (w .left ∙ ap₂ walked (rest-end d l (w .first) k p) (rest-end e m (w .second) k q))

@@ -3,7 +3,7 @@
 use mathlib.Core.Path.{_≡_, refl, sym, ap, _∙_}
 use mathlib.Core.Bool.{true, false}
 use mathlib.Core.List.{List, [], _∷_, _++_, map-append}
-use Prim.Native.Nat.{ℕ, suc, _+_, _-_, _*_, _^_, _≤_, _<_}
+use Prim.Native.Nat.{ℕ, zero, suc, _+_, _-_, _*_, _/_, _^_, _≤_, _<_}
 use native.Mathlib.Nat.{mul-le-mul-right, suc-mul}
 use native.Mathlib.Numerals.{add-one}
 use native.Mathlib.Omega.{arith}
@@ -17,21 +17,35 @@ use Rattle.value.specs.Slice.{any, overlay}
 use Rattle.value.specs.Level.{markOf, bitsOf, setAt, letterOf, isNoCode, hasNoCode, textOf}
 use Rattle.value.specs.Answer.{levelAt, LevelIn}
 use Rattle.value.proofs.Digits.{digits-length, digits-at, digits-below}
-use Rattle.value.proofs.Levels.{len-room, none-foreign}
+use Rattle.value.proofs.Levels.{set-mark, len-room, none-foreign}
 use Rattle.value.proofs.Tests.{or-both}
 use Rattle.value.proofs.Slices.{any-at, any-snoc, overlay-store}
 use Rattle.signal.specs.declared.OwnStates.the-variants as own
 use Rattle.signal.specs.Decode.{markIn, codesAt}
 use Rattle.signal.specs.Parts.{ownStates, Levels}
 
-module _ (M : States) (v : List ℕ) where
-  pub own-bad : (m k : ℕ) → m ≡ markOf M → k ≡ markIn M v → m < k → own.Bad ≡ ownStates M v
-  unfolding ownStates
-  own-bad m k d e h = rw (lt-ltb (markOf M) (markIn M v) (rw (← d, ← e) h))
+-- the own mark by the mark of the largest set
+pub mark-by : (M : States) (v : List ℕ) (m k : ℕ) → m ≡ markOf M → k ≡ markIn (setAt m) v → k ≡ markIn M v
+mark-by M v m k d e = e ∙ ap (λ (N : States). markIn N v) (ap setAt d ∙ set-mark M)
 
-  pub own-good : (m k : ℕ) (S : States) → m ≡ markOf M → k ≡ markIn M v → k ≤ m → S ≡ setAt k → own.Own S ≡ ownStates M v
+module _ (M : States) (v : List ℕ) (m k : ℕ) (d : m ≡ markOf M) (e : k ≡ markIn (setAt m) v) where
+  pub own-bad : m < k → own.Bad ≡ ownStates M v
   unfolding ownStates
-  own-good m k S d e h f = rw (le-ltb (markOf M) (markIn M v) (rw (← d, ← e) h), f, e)
+  own-bad h = rw (lt-ltb (markOf M) (markIn M v) (rw (← d, ← mark-by M v m k d e) h))
+
+  pub own-good : (S : States) → k ≤ m → S ≡ setAt k → own.Own S ≡ ownStates M v
+  unfolding ownStates
+  own-good S h f = let q = mark-by M v m k d e in rw (le-ltb (markOf M) (markIn M v) (rw (← d, ← q) h), f, q)
+
+pub mark-none : (m : ℕ) (v : List ℕ) → m ≡ 0 → 0 ≡ markIn (setAt m) v
+unfolding markIn
+mark-none m v e = rw e
+
+pub mark-some : (m : ℕ) (v : List ℕ) → (m ≡ 0 → ⊥) → getD v 0 0 / 64 ≡ markIn (setAt m) v
+unfolding markIn
+mark-some zero v n = absurd (n refl)
+mark-some (suc zero) v n = refl
+mark-some (suc (suc m)) v n = refl
 
 module _ (w : ℕ) (S : States) (levels : List ℕ) (h : Levels w S levels) (i : ℕ) (k : i < w) where
   -- the level of character i lies within the bytes

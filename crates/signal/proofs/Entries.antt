@@ -1,17 +1,23 @@
--- The entries of a record by their number, and a test over them.
+-- The entries of a record by their number, a test over them, and a walk over them.
 -- Assumes nothing.
-use mathlib.Core.Path.{_≡_, refl, sym, ap, _∙_}
+use mathlib.Core.Path.{_≡_, refl, sym, ap, _∙_, subst}
 use mathlib.Core.Bool.{Bool, true, false}
 use mathlib.Core.List.{List, [], _∷_}
-use Prim.Native.Nat.{ℕ, zero, suc, _+_, _<_}
-use native.Mathlib.Nat.{zero-add, add-zero}
+use Prim.Native.Nat.{ℕ, zero, suc, _+_, _*_, _≤_, _<_}
+use native.Mathlib.Nat.{zero-add, add-zero, suc-mul, mul-le-mul-right}
+use native.Mathlib.Numerals.{add-one}
 use native.Mathlib.Omega.{arith}
-use lib.ListN.{length, getD}
-use Rattle.value.specs.Slice.{any}
-use Rattle.value.proofs.Slices.{any-at, any-none}
+use lib.ListN.{length, getD, drop, drop-of-length-le}
+use lib.Seq.{drop-cons}
+use Rattle.value.specs.Slice.{part, any}
+use Rattle.value.proofs.Slices.{part-length, part-at, any-at, any-none}
 use Rattle.value.proofs.Lists.{any-each}
-use Rattle.fst.specs.Record.{Kept}
+use Rattle.fst.specs.declared.Description.{Description}
+use Rattle.fst.specs.Record.{Kept, Lent, maximum, sizeOf, usedSize, keptIn, isBad}
+use Rattle.fst.proofs.Records.{Fits, fits-room, not-bad}
 use Rattle.signal.specs.Decode.{Indexed, entryAt, entriesFrom, entriesIn}
+use Rattle.signal.specs.Parts.{Whole, Inside}
+use Rattle.signal.proofs.Reading.{entry-within}
 
 -- entry k
 abbrev pub indexed : Kept → ℕ → Indexed
@@ -48,3 +54,52 @@ entries-one r test k h e = any-at test (entriesIn r) k (indexed r 0) (rw (entrie
 
 pub entries-each : (r : Kept) (test : Indexed → Bool) → any test (entriesIn r) ≡ false → (k : ℕ) → k < length (r .indices) → test (indexed r k) ≡ false
 entries-each r test e k h = sym (ap test (entry-is r k (indexed r 0) h)) ∙ any-none test (entriesIn r) e k (indexed r 0) (rw (entries-count r) h)
+
+-- ---- the entries of a record that is not 2, from number k on
+
+-- a record that is not 2, and has an entry k
+pub record Has (d : Description) (l : Lent) (k : ℕ) : Type 0 where
+  pub sound : isBad d l ≡ false
+  pub below : k < d .count
+
+-- entry k where it stands in the slices
+abbrev pub entryNumber : Description → Lent → ℕ → Indexed
+entryNumber d l k = record { index = getD (l .indices) (l .indexStart + k) 0; encoding = d .encoding; bytes = entryAt d (l .byteStart) (l .bytes) k }
+
+unfoldable pub rest : Description → Lent → ℕ → List Indexed
+rest d l k = entriesFrom k (keptIn d l) (drop k ((keptIn d l) .indices))
+
+stood : (d : Description) (l : Lent) → isBad d l ≡ false → Fits d l
+stood d l h = fits-room d l (not-bad d l h .1)
+
+kept-indices : (d : Description) (l : Lent) → isBad d l ≡ false → length (part (l .indexStart) (d .count) (l .indices)) ≡ d .count
+kept-indices d l h = part-length (l .indices) (l .indexStart) (d .count) (stood d l h .indices)
+
+pub rest-end : (d : Description) (l : Lent) → isBad d l ≡ false → (k : ℕ) → d .count ≤ k → rest d l k ≡ []
+unfolding rest keptIn entriesFrom
+rest-end d l h k p = rw (drop-of-length-le (part (l .indexStart) (d .count) (l .indices)) {i = k} (rw (kept-indices d l h) p))
+
+module _ {d : Description} {l : Lent} {k : ℕ} (h : Has d l k) where
+  pub has-inside : Inside d (l .byteStart) (l .bytes) k
+  has-inside =
+      let n = sizeOf (d .encoding) in
+      omega (arith, subst (λ (z : ℕ). z ≤ usedSize d) (suc-mul k n) (mul-le-mul-right n (h .below)), stood d l (h .sound) .bytes)
+
+  pub has-whole : Whole (d .encoding) (entryAt d (l .byteStart) (l .bytes) k)
+  unfolding entryAt
+  has-whole =
+      let i = has-inside in
+      record { width = not-bad d l (h .sound) .0; long = part-length (l .bytes) _ _ (omega arith) }
+
+  pub has-index : l .indexStart + k < length (l .indices)
+  has-index = omega (arith, h .below, stood d l (h .sound) .indices)
+
+  pub has-few : k + 1 ≤ maximum
+  has-few = omega (arith, h .below, stood d l (h .sound) .count)
+
+  pub rest-more : rest d l k ≡ entryNumber d l k ∷ rest d l (k + 1)
+  unfolding rest keptIn entriesFrom
+  rest-more =
+      let is = part (l .indexStart) (d .count) (l .indices) in
+      let e : getD is k 0 ≡ getD (l .indices) (l .indexStart + k) 0 = part-at (l .indices) (l .indexStart) (d .count) k 0 (h .below) in
+      rw (drop-cons is k 0 (rw (kept-indices d l (h .sound)) (h .below)), e, entry-within d (l .bytes) (l .byteStart) k (h .below), add-one)

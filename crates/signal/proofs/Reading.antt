@@ -41,57 +41,53 @@ use Rattle.signal.specs.Parts.{ownStates, Levels, Whole, Inside, answerI
 pub vector : {e : Encoding} {w : ℕ} {M : States} {v : List ℕ} → e ≡ BitVector w M → Whole e v → Whole (BitVector w M) v
 vector q h = rw q at h
 
-module _ (w : ℕ) (M : States) (v : List ℕ) where
-  pub wide : Whole (BitVector w M) v → (1 ≤ w) × (w ≤ 4096)
+-- what is known of an entry whose own set is told
+pub record Owned (w : ℕ) (M : States) (v : List ℕ) (S : States) : Type 0 where
+  pub sound : hasBadMark (BitVector w M) v ≡ false
+  pub set : setIn (BitVector w M) v ≡ S
+  pub within : lenOf w S ≤ length v
+  pub part : drop (length v - lenOf w S) v ≡ levelPart (BitVector w M) v
+  pub levels : Levels w S (levelPart (BitVector w M) v)
+  pub codes : codesAt w S (levelPart (BitVector w M) v) ≡ levelsIn (BitVector w M) v
+
+module _ {w : ℕ} {M : States} {v : List ℕ} (h : Whole (BitVector w M) v) where
+  wide : (1 ≤ w) × (w ≤ 4096)
   unfolding widthStands
-  wide h =
+  wide =
       let t = to-T _ (h .width) in
       (leb→le 1 w (and-left (leb 1 w) (leb w 4096) t), leb→le w 4096 (and-right (leb 1 w) (leb w 4096) t))
 
-  pub some : Whole (BitVector w M) v → 0 < length v
-  some h = rw (h .long) (size-pos w (wide h .0) M)
+  pub some : 0 < length v
+  some = rw (h .long) (size-pos w (wide .0) M)
 
-  pub bad-told : ownStates M v ≡ own.Bad → hasBadMark (BitVector w M) v ≡ true
-  unfolding ownStates hasBadMark
-  bad-told e = go (ltb (markOf M) (markIn M v)) e
+  pub owned : {S : States} → ownStates M v ≡ own.Own S → Owned w M v S
+  unfolding ownStates hasBadMark setIn levelPart levelsIn
+  owned {S} e = go (ltb (markOf M) (markIn M v)) refl e
     where
-      go : (b : Bool) → cond b own.Bad (own.Own (setAt (markIn M v))) ≡ own.Bad → b ≡ true
-      go true e = refl
-      go false e = let z : _≡_ {A = ℕ} 0 1 = cc in absurd (omega arith)
+      go : (b : Bool) → ltb (markOf M) (markIn M v) ≡ b → cond b own.Bad (own.Own (setAt (markIn M v))) ≡ own.Own S → Owned w M v S
+      go true t e = let z : _≡_ {A = ℕ} 0 1 = cc in absurd (omega arith)
+      go false t e =
+          let s : setAt (markIn M v) ≡ S = cc in
+          let m : markIn M v ≤ markOf M = ltb-false _ _ t in
+          let k : markOf S ≡ markIn M v = ap markOf (sym s) ∙ mark-set (markIn M v) (omega (arith, mark-small M)) in
+          let f : lenOf w S ≤ entrySize w M = len-fits w S M (omega arith) in
+          let l = h .long in
+          record {
+            sound = t;
+            set = s;
+            within = omega arith;
+            part = rw (s, h .long);
+            levels = record { short = wide .1; long = rw (s, length-drop) (omega arith) };
+            codes = rw s;
+          }
 
-  -- what is known of an entry whose own set is told
-  pub record Owned (S : States) : Type 0 where
-    pub sound : hasBadMark (BitVector w M) v ≡ false
-    pub set : setIn (BitVector w M) v ≡ S
-    pub within : lenOf w S ≤ length v
-    pub part : drop (length v - lenOf w S) v ≡ levelPart (BitVector w M) v
-    pub levels : Levels w S (levelPart (BitVector w M) v)
-    pub codes : codesAt w S (levelPart (BitVector w M) v) ≡ levelsIn (BitVector w M) v
-
-  own-told : (S : States) → ownStates M v ≡ own.Own S → (ltb (markOf M) (markIn M v) ≡ false) × (setAt (markIn M v) ≡ S)
-  unfolding ownStates
-  own-told S e = go (ltb (markOf M) (markIn M v)) e
-    where
-      go : (b : Bool) → cond b own.Bad (own.Own (setAt (markIn M v))) ≡ own.Own S → (b ≡ false) × (setAt (markIn M v) ≡ S)
-      go true e = let z : _≡_ {A = ℕ} 0 1 = cc in absurd (omega arith)
-      go false e = (refl, cc)
-
-  pub owned : Whole (BitVector w M) v → (S : States) → ownStates M v ≡ own.Own S → Owned S
-  unfolding hasBadMark setIn levelPart levelsIn
-  owned h S e =
-      let t = own-told S e in
-      let m : markIn M v ≤ markOf M = ltb-false _ _ (t .0) in
-      let k : markOf S ≡ markIn M v = ap markOf (sym (t .1)) ∙ mark-set (markIn M v) (omega (arith, mark-small M)) in
-      let f : lenOf w S ≤ entrySize w M = len-fits w S M (omega arith) in
-      let l = h .long in
-      record {
-        sound = t .0;
-        set = t .1;
-        within = omega arith;
-        part = rw (t .1, h .long);
-        levels = record { short = wide h .1; long = rw (t .1, length-drop) (omega arith) };
-        codes = rw (t .1);
-      }
+pub bad-told : (w : ℕ) (M : States) (v : List ℕ) → ownStates M v ≡ own.Bad → hasBadMark (BitVector w M) v ≡ true
+unfolding ownStates hasBadMark
+bad-told w M v e = go (ltb (markOf M) (markIn M v)) e
+  where
+    go : (b : Bool) → cond b own.Bad (own.Own (setAt (markIn M v))) ≡ own.Bad → b ≡ true
+    go true e = refl
+    go false e = let z : _≡_ {A = ℕ} 0 1 = cc in absurd (omega arith)
 
 -- ---- Read
 
@@ -182,24 +178,23 @@ module _ (d : Description) (bytes : List ℕ) (start k : ℕ) (out : List ℕ) w
     unfolding readText tried hasNoText textStored
     text-on w M e p = rw (h, e, lt-leb (d .count) k p)
 
-module _ (w : ℕ) (M : States) (v out : List ℕ) where
-  pub stored-mark : ownStates M v ≡ own.Bad → _≡_ {A = Left} (record { refused = 9; left = out }) (textStored w M v out)
+pub stored-mark : (w : ℕ) (M : States) (v out : List ℕ) → ownStates M v ≡ own.Bad → _≡_ {A = Left} (record { refused = 9; left = out }) (textStored w M v out)
+unfolding textStored tried
+stored-mark w M v out e = rw (bad-told w M v e)
+
+module _ {w : ℕ} {M S : States} {v levels : List ℕ} (o : Owned w M v S) (p : levels ≡ levelPart (BitVector w M) v) (out : List ℕ) where
+  bad-codes : (b : Bool) → b ≡ hasNoCode (codesAt w S levels) → hasBadCode (BitVector w M) v ≡ b
+  bad-codes b e = ap hasNoCode (sym (o .codes) ∙ ap (codesAt w S) (sym p)) ∙ sym e
+
+  pub stored-code : hasNoCode (codesAt w S levels) ≡ true → _≡_ {A = Left} (record { refused = 10; left = out }) (textStored w M v out)
   unfolding textStored tried
-  stored-mark e = rw (bad-told w M v e)
+  stored-code e = rw (o .sound, bad-codes true (sym e))
 
-  module _ (S : States) (o : Owned w M v S) (levels : List ℕ) (p : levels ≡ levelPart (BitVector w M) v) where
-    bad-codes : (b : Bool) → b ≡ hasNoCode (codesAt w S levels) → hasBadCode (BitVector w M) v ≡ b
-    bad-codes b e = ap hasNoCode (sym (o .codes) ∙ ap (codesAt w S) (sym p)) ∙ sym e
+  pub stored-short : hasNoCode (codesAt w S levels) ≡ false → length out < w → _≡_ {A = Left} (record { refused = 7; left = out }) (textStored w M v out)
+  unfolding textStored tried
+  stored-short e l = rw (o .sound, bad-codes false (sym e), lt-ltb (length out) w l)
 
-    pub stored-code : hasNoCode (codesAt w S levels) ≡ true → _≡_ {A = Left} (record { refused = 10; left = out }) (textStored w M v out)
-    unfolding textStored tried
-    stored-code e = rw (o .sound, bad-codes true (sym e))
-
-    pub stored-short : hasNoCode (codesAt w S levels) ≡ false → length out < w → _≡_ {A = Left} (record { refused = 7; left = out }) (textStored w M v out)
-    unfolding textStored tried
-    stored-short e l = rw (o .sound, bad-codes false (sym e), lt-ltb (length out) w l)
-
-    pub stored-all : hasNoCode (codesAt w S levels) ≡ false → w ≤ length out → (r : List ℕ) → r ≡ overlay out 0 (textOf (codesAt w S levels))
-        → _≡_ {A = Left} (record { refused = 0; left = r }) (textStored w M v out)
-    unfolding textStored tried
-    stored-all e l r q = rw (o .sound, bad-codes false (sym e), le-ltb (length out) w l, q, p, o .codes)
+  pub stored-all : hasNoCode (codesAt w S levels) ≡ false → w ≤ length out → {r : List ℕ} → r ≡ overlay out 0 (textOf (codesAt w S levels))
+      → _≡_ {A = Left} (record { refused = 0; left = r }) (textStored w M v out)
+  unfolding textStored tried
+  stored-all e l q = rw (o .sound, bad-codes false (sym e), le-ltb (length out) w l, q, p, o .codes)

@@ -7,8 +7,9 @@ use mathlib.Core.List.{List, [], _∷_}
 use lib.Dec.{ltb, eqb}
 use lib.ListN.{length}
 use Rattle.value.specs.declared.States.{States}
+use Rattle.value.specs.Digits.{digits}
 use Rattle.value.specs.Slice.{overlay}
-use Rattle.value.specs.Level.{markOf, lenOf, setAt}
+use Rattle.value.specs.Level.{markOf, lenOf, setAt, hasNoCode}
 use Rattle.fst.specs.declared.Encoding.{Encoding}
 use Rattle.fst.specs.declared.Encoding.the-variants.{BitVector}
 use Rattle.fst.specs.declared.Refusal.the-variants.{BadMark}
@@ -28,6 +29,10 @@ use Rattle.signal.specs.Compare.{sameValue}
 -- an entry's own set, or none where its mark is bad
 unfoldable pub ownStates : States → List ℕ → OwnStates
 ownStates M v = cond (ltb (markOf M) (markIn M v)) own.Bad (own.Own (setAt (markIn M v)))
+
+-- a byte of two codes of which one is 9 to 15
+abbrev pub isBadByte : ℕ → Bool
+isBadByte b = hasNoCode (digits 16 2 b)
 
 -- bytes that hold w levels of a set
 pub record Levels (w : ℕ) (S : States) (levels : List ℕ) : Type 0 where

@@ -4,13 +4,55 @@ ghost use Prim.Native.Nat.{_+_, _-_, _*_, _/_, _^_, _≤_, _<_};
 ghost use lib.Dec.{ltb};
 ghost use lib.ListN.{length, take, drop, getD};
 ghost use Rattle.value.specs.Digits.{number, digits};
-ghost use Rattle.value.specs.Slice.{overlay};
+ghost use Rattle.value.specs.Slice.{any, overlay};
 ghost use Rattle.value.specs.Level.{bitsOf, setAt, lenOf, hasNoCode, textOf};
 ghost use Rattle.signal.specs.Decode.{markIn, codesAt};
-ghost use Rattle.signal.specs.Parts.{ownStates, Levels};
+ghost use Rattle.signal.specs.Parts.{ownStates, Levels, isBadByte};
 use crate::OwnStates;
 use value::States;
 use value::num_to_bit_char;
+
+// The mark of an entry's own set, by the mark of its record's largest set: 0 where none is stored.
+pub fn own_mark(most: u32, entry: &[u8]) -> u32
+    requires { ⌜ 0 < length (now entry) ⌝ }
+    ensures { λ r. ⌜ r ≡ markIn (setAt most) (now (entry .entry)) ⌝ }
+{
+    if most == 0 {
+        return 0;
+    }
+    (entry[0] >> 6) as u32
+}
+
+// The set of a mark; 3 is none's.
+pub fn states_at(mark: u32) -> States
+    ensures { λ r. ⌜ r ≡ setAt mark ⌝ }
+{
+    match mark {
+        0 => States::Two,
+        1 => States::Four,
+        _ => States::Nine,
+    }
+}
+
+// An entry's own set, where its mark is a set's, by the mark of its record's largest set.
+pub fn states_in(most: u32, entry: &[u8]) -> States
+    requires { ⌜ 0 < length (now entry) ⌝ }
+    ensures { λ r. ⌜ r ≡ setAt (markIn (setAt most) (now (entry .entry))) ⌝ }
+{
+    states_at(own_mark(most, entry))
+}
+
+pub fn own_states(max_states: States, entry: &[u8]) -> OwnStates
+    requires { ⌜ 0 < length (now entry) ⌝ }
+    ensures { λ r. ⌜ r ≡ ownStates «max_states» (now (entry .entry)) ⌝ }
+{
+    let most = max_states.mark() as u32;
+    let mark = own_mark(most, entry);
+    if most < mark {
+        return OwnStates::Bad;
+    }
+    OwnStates::Own(states_at(mark))
+}
 
 // The mark of an entry's own set, and 0 where none is stored.
 pub fn mark_in(max_states: States, entry: &[u8]) -> u8
@@ -35,28 +77,6 @@ pub fn states_of(mark: u8) -> States
     }
 }
 
-// The same of a mark among wider numbers.
-pub fn states_at(mark: u32) -> States
-    ensures { λ r. ⌜ r ≡ setAt mark ⌝ }
-{
-    match mark {
-        0 => States::Two,
-        1 => States::Four,
-        _ => States::Nine,
-    }
-}
-
-pub fn own_states(max_states: States, entry: &[u8]) -> OwnStates
-    requires { ⌜ 0 < length (now entry) ⌝ }
-    ensures { λ r. ⌜ r ≡ ownStates «max_states» (now (entry .entry)) ⌝ }
-{
-    let mark = mark_in(max_states, entry);
-    if max_states.mark() < mark {
-        return OwnStates::Bad;
-    }
-    OwnStates::Own(states_of(mark))
-}
-
 // The last bytes of an entry, as many as its levels take under its own set.
 pub fn level_part<'a>(width: u32, states: States, entry: &'a [u8]) -> &'a [u8]
     requires { ⌜ lenOf width states ≤ length (now entry) ⌝ }
@@ -76,14 +96,14 @@ pub fn code_at(width: u32, states: States, levels: &[u8], i: u32) -> u8
 
 // More than 0 for a byte of two codes of which one is 9 to 15. It has no jumps, so that a loop over it is compiled to wide instructions.
 pub fn bad_bits(byte: u8) -> u8
-    ensures { λ r. ⌜ ltb 0 r ≡ hasNoCode (digits 16 2 byte) ⌝ }
+    ensures { λ r. ⌜ ltb 0 r ≡ isBadByte byte ⌝ }
 {
     ((byte & 0x77) + 0x77) & byte & 0x88
 }
 
 // Whether a code of bytes that are full is 9 to 15.
-fn has_bad_byte(levels: &[u8]) -> bool
-    ensures { λ r. ⌜ r ≡ hasNoCode (digits 16 (2 * length (now (levels .entry))) (number 256 (now (levels .entry)))) ⌝ }
+pub fn has_bad_byte(levels: &[u8]) -> bool
+    ensures { λ r. ⌜ r ≡ any isBadByte (now (levels .entry)) ⌝ }
 {
     let mut union: u8 = 0;
     let mut i = 0;

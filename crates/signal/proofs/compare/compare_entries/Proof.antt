@@ -2,14 +2,15 @@
 -- Assumes nothing.
 use mathlib.Core.Path.{_≡_, sym, _∙_}
 use mathlib.Core.Logic.{⊎-elim}
-use Prim.Native.Nat.{_+_, _-_, _≤_, _<_}
+use Prim.Native.Nat.{_+_, _-_, _≤_}
 use native.Mathlib.Omega.{arith}
 use denote.Ref.{now}
 use borrow.Author.Needs.{needs}
 use borrow.Author.Tests.{ltb-true, ltb-false}
 use Rattle.fst.specs.Record.{Lent}
 use Rattle.signal.specs.Compare.{walked, compareRecords, equalOf}
-use Rattle.signal.proofs.Comparing.{rest, kept-few, kept-inside, kept-whole, kept-index, follow, walk-starts, step, goes-on, ends, first-longer, second-longer, both-end}
+use Rattle.signal.proofs.Entries.{Has, has-inside, has-whole, has-index, has-few, rest}
+use Rattle.signal.proofs.Comparing.{follow, Walked, walk-starts, step, goes-on, ends, first-longer, second-longer, both-end}
 use Rattle.signal.proofs.compare.compare_entries.Statement.{statement}
 use Rattle.signal.proofs.compare.compare_entries.Tie as tie
 
@@ -17,7 +18,7 @@ abbrev Inv-loop : tie.InvT-loop
 Inv-loop a a-bytes a-byte-start a-indices a-index-start b b-bytes b-byte-start b-indices b-index-start a-encoding b-encoding k₀ k =
     let la : Lent = record { bytes = a-bytes; byteStart = a-byte-start; indices = a-indices; indexStart = a-index-start } in
     let lb : Lent = record { bytes = b-bytes; byteStart = b-byte-start; indices = b-indices; indexStart = b-index-start } in
-    (k ≤ a .count) × (k ≤ b .count) × (compareRecords a la b lb ≡ walked (rest a la k) (rest b lb k))
+    (k ≤ a .count) × (k ≤ b .count) × Walked a la b lb k
 
 abbrev μ-loop : tie.MeasureT-loop
 μ-loop a a-bytes a-byte-start a-indices a-index-start b b-bytes b-byte-start b-indices b-index-start a-encoding b-encoding k₀ k = a .count - k
@@ -36,59 +37,42 @@ lentB s = record { bytes = now (s .args .b-bytes); byteStart = s .args .b-byte-s
 abbrev turn : tie.Then2 Inv-loop μ-loop → tie.At-loop Inv-loop μ-loop
 turn e = e .before .before .before .before
 
-in-a : (e : tie.Then2 Inv-loop μ-loop) → turn e .loop .k < start (turn e) .args .a .count
-in-a e = e .before .before .if1 .taken
+in-a : (e : tie.Then2 Inv-loop μ-loop) → Has (start (turn e) .args .a) (lentA (start (turn e))) (turn e .loop .k)
+in-a e = record { sound = start (turn e) .pre .0; below = e .before .before .if1 .taken }
 
-in-b : (e : tie.Then2 Inv-loop μ-loop) → turn e .loop .k < start (turn e) .args .b .count
-in-b e = ltb-true _ _ (e .if2 .taken)
+in-b : (e : tie.Then2 Inv-loop μ-loop) → Has (start (turn e) .args .b) (lentB (start (turn e))) (turn e .loop .k)
+in-b e = record { sound = start (turn e) .pre .1; below = ltb-true _ _ (e .if2 .taken) }
 
 loop-holds : tie.Need-loop-holds Inv-loop μ-loop
 loop-holds c =
     let s = c .before .before .before .before in
-    (omega arith, omega arith, walk-starts (s .args .a) (lentA s) (s .args .b) (lentB s) (s .pre .0) (s .pre .1))
+    (omega arith, omega arith, walk-starts _ _ _ _ (s .pre .0) (s .pre .1))
 
 entry-at-requires : tie.Need-entry-at-requires Inv-loop μ-loop
-entry-at-requires e κs =
-    let s = start (turn e) in
-    kept-inside (s .args .a) (lentA s) (s .pre .0) (turn e .loop .k) (in-a e)
+entry-at-requires e κs = has-inside (in-a e)
 
 index-at-requires : tie.Need-index-at-requires Inv-loop μ-loop
-index-at-requires c κs =
-    let e = c .before in
-    let s = start (turn e) in
-    kept-index (s .args .a) (lentA s) (s .pre .0) (turn e .loop .k) (in-a e)
+index-at-requires c κs = has-index (in-a (c .before))
 
 entry-at-requires-2 : tie.Need-entry-at-requires-2 Inv-loop μ-loop
-entry-at-requires-2 c κs =
-    let e = c .before .before in
-    let s = start (turn e) in
-    kept-inside (s .args .b) (lentB s) (s .pre .1) (turn e .loop .k) (in-b e)
+entry-at-requires-2 c κs = has-inside (in-b (c .before .before))
 
 index-at-requires-2 : tie.Need-index-at-requires-2 Inv-loop μ-loop
-index-at-requires-2 c κs =
-    let e = c .before .before .before in
-    let s = start (turn e) in
-    kept-index (s .args .b) (lentB s) (s .pre .1) (turn e .loop .k) (in-b e)
+index-at-requires-2 c κs = has-index (in-b (c .before .before .before))
 
 compare-pair-requires : tie.Need-compare-pair-requires Inv-loop μ-loop
 compare-pair-requires c κs =
     let e = c .before .before .before .before in
-    let s = start (turn e) in (
-      rw (c .before .before .before .entry-at .ensures) (kept-whole (s .args .a) (lentA s) (s .pre .0) (turn e .loop .k) (in-a e)),
-      rw (c .before .entry-at2 .ensures) (kept-whole (s .args .b) (lentB s) (s .pre .1) (turn e .loop .k) (in-b e)),
-    )
+    (rw (c .before .before .before .entry-at .ensures) (has-whole (in-a e)), rw (c .before .entry-at2 .ensures) (has-whole (in-b e)))
 
 add-k : tie.Need-add-k Inv-loop μ-loop
-add-k c =
-    let e = c .before .before .before .before .before in
-    let s = start (turn e) in
-    omega (arith, in-a e, kept-few (s .args .a) (lentA s) (s .pre .0))
+add-k c = omega (arith, has-few (in-a (c .before .before .before .before .before)))
 
 enum-told : tie.Need-enum-told Inv-loop μ-loop
 enum-told c = search needs
 
 loop-less : tie.Need-loop-less Inv-loop μ-loop
-loop-less c = omega (arith, in-a (c .before .before .before .before .before .before .before))
+loop-less c = omega (arith, in-a (c .before .before .before .before .before .before .before) .below)
 
 -- the rest of the walk, after the pair k
 paired : (m : tie.After-compare-pair Inv-loop μ-loop) →
@@ -98,15 +82,18 @@ paired : (m : tie.After-compare-pair Inv-loop μ-loop) →
     ≡ follow (equalOf (m .compare-pair .result)) (walked (rest (s .args .a) (lentA s) (l .loop .k + 1)) (rest (s .args .b) (lentB s) (l .loop .k + 1)))
 paired m =
     let e = m .before .before .before .before .before in
-    let s = start (turn e) in
-    step (s .args .a) (lentA s) (s .args .b) (lentB s) (s .pre .0) (s .pre .1) (turn e .loop .k) (turn e .loop .inv .2) (in-a e) (in-b e) (m .compare-pair .result) _ _ _ _
-    (m .before .before .before .before .entry-at .ensures) (m .before .before .entry-at2 .ensures) (m .before .before .before .index-at .ensures) (m .before .index-at2 .ensures) (m .compare-pair .ensures)
+    step (turn e .loop .inv .2) (in-a e .below) (in-b e .below) (m .compare-pair .result)
+    (m .before .before .before .before .entry-at .ensures) (m .before .before .before .index-at .ensures) (m .before .before .entry-at2 .ensures) (m .before .index-at2 .ensures)
+    (m .compare-pair .ensures)
 
 loop-again : tie.Need-loop-again Inv-loop μ-loop
 loop-again c =
     let m = c .before .before in
-    let e = m .before .before .before .before .before in
-    (omega (arith, in-a e), omega (arith, in-b e), paired m ∙ goes-on _ _ (c .enum-told .given .1))
+    let e = m .before .before .before .before .before in (
+      omega (arith, in-a e .below),
+      omega (arith, in-b e .below),
+      record { first = in-a e .sound; second = in-b e .sound; left = paired m ∙ goes-on _ _ (c .enum-told .given .1) },
+    )
 
 returns : tie.Need-returns Inv-loop μ-loop
 returns c = sym (paired (c .before) ∙ ends _ (c .before .compare-pair .result) (c .match .keys2))
@@ -114,9 +101,7 @@ returns c = sym (paired (c .before) ∙ ends _ (c .before .compare-pair .result)
 returns-2 : tie.Need-returns-2 Inv-loop μ-loop
 returns-2 c =
     let j = c .before .before .before in
-    let l = j .before .before in
-    let s = start l in
-    let end = both-end (s .args .a) (lentA s) (s .args .b) (lentB s) (s .pre .0) (s .pre .1) (l .loop .k) (l .loop .inv .2) in
+    let end = both-end (j .before .before .loop .inv .2) in
     ⊎-elim
     (λ w. let q = ltb-false _ _ (w .2 .left) in end (omega (arith, q, c .if3 .taken)) q)
     (λ w. end (w .left) (omega (arith, w .left, c .if3 .taken)))
@@ -125,12 +110,10 @@ returns-2 c =
 returns-3 : tie.Need-returns-3 Inv-loop μ-loop
 returns-3 c =
     let j = c .before .before .before in
-    let l = j .before .before in
-    let s = start l in
-    let w = l .loop .inv .2 in
+    let inv = j .before .before .loop .inv in
     ⊎-elim
-    (λ o. first-longer (s .args .a) (lentA s) (s .args .b) (lentB s) (s .pre .0) (s .pre .1) (l .loop .k) w (o .0 .taken) (ltb-false _ _ (o .2 .left)))
-    (λ o. second-longer (s .args .a) (lentA s) (s .args .b) (lentB s) (s .pre .0) (s .pre .1) (l .loop .k) w (o .left) (omega (arith, o .left, l .loop .inv .1, c .if3 .left)))
+    (λ o. first-longer (inv .2) (o .0 .taken) (ltb-false _ _ (o .2 .left)))
+    (λ o. second-longer (inv .2) (o .left) (omega (arith, o .left, inv .1, c .if3 .left)))
     (j .if1 .came)
 
 pub compare-entries-spec : {M : Type 1} → statement M

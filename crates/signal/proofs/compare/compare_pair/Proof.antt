@@ -13,14 +13,12 @@ use Rattle.signal.proofs.compare.compare_pair.Tie as tie
 first : (c : tie.After-enum-told) → Sound (c .before .before .before .before .before .args .a) (now (c .before .before .before .before .before .args .x))
 first c =
     let t = c .before .before in
-    let s = t .before .before .before in
-    sound (s .args .a) (now (s .args .x)) (s .pre .0) (sym (ap numberOf (c .enum-told .given .1)) ∙ t .try-entry .ensures)
+    sound (t .before .before .before .pre .0) (sym (ap numberOf (c .enum-told .given .1)) ∙ t .try-entry .ensures)
 
 second : (c : tie.After-enum-told2) → Sound (c .before .before .before .before .before .before .before .before .args .b) (now (c .before .before .before .before .before .before .before .before .args .y))
 second c =
     let t = c .before .before in
-    let s = t .before .before .before .before .before .before in
-    sound (s .args .b) (now (s .args .y)) (s .pre .1) (sym (ap numberOf (c .enum-told2 .given .1)) ∙ t .try-entry2 .ensures)
+    sound (t .before .before .before .before .before .before .pre .1) (sym (ap numberOf (c .enum-told2 .given .1)) ∙ t .try-entry2 .ensures)
 
 try-entry-requires : tie.Need-try-entry-requires
 try-entry-requires c κs = search needs
@@ -31,8 +29,7 @@ enum-known-refusal c = search needs
 returns : tie.Need-returns
 returns c =
     let t = c .before .before .before in
-    let a = t .before .before .before .args in
-    first-refused (a .a) (a .b) (now (a .x)) (now (a .y)) (a .i) (a .j) (c .before .refusal .given .0 .0) (sym (ap numberOf (c .before .refusal .given .1)) ∙ t .try-entry .ensures)
+    first-refused _ _ _ _ _ _ (c .before .refusal .given .0 .0) (sym (ap numberOf (c .before .refusal .given .1)) ∙ t .try-entry .ensures)
 
 enum-told : tie.Need-enum-told
 enum-told c = search needs
@@ -46,9 +43,7 @@ enum-known-refusal-2 c = search needs
 returns-2 : tie.Need-returns-2
 returns-2 c =
     let t = c .before .before .before in
-    let e = t .before in
-    let a = e .before .before .before .before .before .args in
-    second-refused (a .a) (a .b) (now (a .x)) (now (a .y)) (a .i) (a .j) (first e) (c .before .refusal2 .given .0 .0) (sym (ap numberOf (c .before .refusal2 .given .1)) ∙ t .try-entry2 .ensures)
+    second-refused (first (t .before)) _ _ _ _ (c .before .refusal2 .given .0 .0) (sym (ap numberOf (c .before .refusal2 .given .1)) ∙ t .try-entry2 .ensures)
 
 enum-told-2 : tie.Need-enum-told-2
 enum-told-2 c = search needs
@@ -56,9 +51,7 @@ enum-told-2 c = search needs
 returns-3 : tie.Need-returns-3
 returns-3 c =
     let e = c .before in
-    let f = e .before .before .before in
-    let a = f .before .before .before .before .before .args in
-    pair-apart (a .a) (a .b) (now (a .x)) (now (a .y)) (a .i) (a .j) (first f) (second e) (c .if1 .taken)
+    pair-apart (first (e .before .before .before)) (second e) (c .if1 .taken)
 
 same-value-requires : tie.Need-same-value-requires
 same-value-requires c κs = (first (c .before .before .before .before), second (c .before))
@@ -69,9 +62,7 @@ told : (c : tie.After-same-value) →
     given (c .same-value .result) ≡ pairOf (a .a) (now (a .x)) (a .i) (a .b) (now (a .y)) (a .j)
 told c =
     let e = c .before .before in
-    let f = e .before .before .before in
-    let a = f .before .before .before .before .before .args in
-    pair-told (a .a) (a .b) (now (a .x)) (now (a .y)) (a .i) (a .j) (first f) (second e) (c .before .if1 .left) _ (c .same-value .ensures)
+    pair-told (first (e .before .before .before)) (second e) (c .before .if1 .left) (c .same-value .ensures)
 
 returns-4 : tie.Need-returns-4
 returns-4 c = sym (ap given (c .if2 .taken)) ∙ told (c .before)

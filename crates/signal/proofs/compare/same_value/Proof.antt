@@ -16,9 +16,7 @@ enum-told-2 : tie.Need-enum-told-2
 enum-told-2 c = search needs
 
 returns : tie.Need-returns
-returns c =
-    let a = c .before .before .before .before .before .args in
-    unlike-event (a .a) (a .b) (now (a .x)) (now (a .y)) (c .before .enum-told .given .1) (c .match2 .keys2)
+returns c = unlike-event _ _ _ (c .before .enum-told .given .1) (c .match2 .keys2)
 
 enum-told-3 : tie.Need-enum-told-3
 enum-told-3 c = search needs
@@ -27,9 +25,7 @@ enum-told-4 : tie.Need-enum-told-4
 enum-told-4 c = search needs
 
 returns-2 : tie.Need-returns-2
-returns-2 c =
-    let a = c .before .before .before .before .before .args in
-    unlike-real (a .a) (a .b) (now (a .x)) (now (a .y)) (c .before .enum-told3 .given .1) (c .match3 .keys2)
+returns-2 c = unlike-real _ _ _ (c .before .enum-told3 .given .1) (c .match3 .keys2)
 
 same-real-requires : tie.Need-same-real-requires
 same-real-requires c κs = search needs
@@ -41,16 +37,12 @@ enum-known-b : tie.Need-enum-known-b
 enum-known-b c = search needs
 
 returns-3 : tie.Need-returns-3
-returns-3 c =
-    let a = c .before .before .before .before .before .before .args in
-    unlike-vector (a .a) (a .b) (now (a .x)) (now (a .y)) _ _ (c .before .before .a .given .1) (c .match4 .keys2)
+returns-3 c = unlike-vector _ _ _ (c .before .before .a .given .1) (c .match4 .keys2)
 
 returns-4 : tie.Need-returns-4
 returns-4 c =
     let b = c .before .before in
-    let k = b .before .before .before in
-    let a = k .before .before .before .before .args in
-    unlike-width (a .a) (a .b) (now (a .x)) (now (a .y)) _ _ (k .a .given .1) _ _ (b .b .given .1) (c .if1 .taken)
+    unlike-width _ _ _ (b .before .before .before .a .given .1) (b .b .given .1) (c .if1 .taken)
 
 same-text-requires : tie.Need-same-text-requires
 same-text-requires c κs =
@@ -76,9 +68,7 @@ returns-6 c =
 returns-7 : tie.Need-returns-7
 returns-7 c =
     let b = c .before .before .before in
-    let k = b .before .before .before in
-    let a = k .before .before .before .before .args in
-    like-vector (a .a) (a .b) (now (a .x)) (now (a .y)) _ _ (k .a .given .1) _ _ (b .b .given .1) (c .before .if1 .left) _ (c .same-text .ensures)
+    like-vector _ _ _ (b .before .before .before .a .given .1) (b .b .given .1) (c .before .if1 .left) (c .same-text .ensures)
 
 pub same-value-spec : {M : Type 1} → statement M
 same-value-spec =

@@ -15,7 +15,7 @@ own-part : (c : tie.After-known-told2)
 own-part c =
     let b = c .before .before .before in
     let k = b .before .before in
-    owned _ _ _ (vector (k .encoding .given .1) (k .before .before .before .pre)) _ (sym (b .own-states .ensures) ∙ c .before .states .given .1)
+    owned (vector (k .encoding .given .1) (k .before .before .before .pre)) (sym (b .own-states .ensures) ∙ c .before .states .given .1)
 
 enum-known-encoding : tie.Need-enum-known-encoding
 enum-known-encoding c = search needs
@@ -26,7 +26,7 @@ returns c =
     bad-none (a .encoding) (now (a .entry)) (c .match .keys2)
 
 own-states-requires : tie.Need-own-states-requires
-own-states-requires c κs = some _ _ _ (vector (c .before .encoding .given .1) (c .before .before .before .before .pre))
+own-states-requires c κs = some (vector (c .before .encoding .given .1) (c .before .before .before .before .pre))
 
 enum-known-states : tie.Need-enum-known-states
 enum-known-states c = search needs
@@ -37,9 +37,7 @@ enum-told c = search needs
 returns-2 : tie.Need-returns-2
 returns-2 c =
     let b = c .before .before in
-    let k = b .before .before in
-    let a = k .before .before .before .args in
-    bad-mark (a .encoding) (now (a .entry)) _ _ (k .encoding .given .1) (sym (b .own-states .ensures) ∙ c .enum-told .given .1)
+    bad-mark (b .before .before .encoding .given .1) _ (sym (b .own-states .ensures) ∙ c .enum-told .given .1)
 
 level-part-requires : tie.Need-level-part-requires
 level-part-requires c κs = own-part c .within
@@ -51,15 +49,13 @@ returns-3 : tie.Need-returns-3
 returns-3 c =
     let l = c .before .before in
     let k = l .before .before .before .before .before .before in
-    let a = k .before .before .before .args in
-    bad-code (a .encoding) (now (a .entry)) _ _ (k .encoding .given .1) _ (own-part (l .before)) _ (l .level-part .ensures ∙ own-part (l .before) .part) (sym (c .before .has-bad-code .ensures) ∙ c .if1 .taken)
+    bad-code (k .encoding .given .1) (own-part (l .before)) (l .level-part .ensures ∙ own-part (l .before) .part) (sym (c .before .has-bad-code .ensures) ∙ c .if1 .taken)
 
 returns-4 : tie.Need-returns-4
 returns-4 c =
     let l = c .before .before in
     let k = l .before .before .before .before .before .before in
-    let a = k .before .before .before .args in
-    bad-no-code (a .encoding) (now (a .entry)) _ _ (k .encoding .given .1) _ (own-part (l .before)) _ (l .level-part .ensures ∙ own-part (l .before) .part) (sym (c .before .has-bad-code .ensures) ∙ c .if1 .left)
+    bad-no-code (k .encoding .given .1) (own-part (l .before)) (l .level-part .ensures ∙ own-part (l .before) .part) (sym (c .before .has-bad-code .ensures) ∙ c .if1 .left)
 
 pub try-entry-spec : {M : Type 1} → statement M
 try-entry-spec =

@@ -1,30 +1,27 @@
 -- `signal::decode::has_bad_byte` meets its contract: the union so far is more than 0 where a code so far is bad.
 -- Assumes nothing.
 use mathlib.Core.Path.{_≡_, refl, ap, _∙_}
-use mathlib.Core.List.{List}
-use Prim.Native.Nat.{ℕ, _-_, _*_, _≤_}
+use Prim.Native.Nat.{_-_, _≤_}
 use native.Mathlib.Omega.{arith}
 use borrow.Author.Needs.{needs}
 use denote.Ref.{now}
 use lib.Dec.{ltb}
 use lib.ListN.{length, take}
 use lib.Seq.{take-all}
-use Rattle.value.specs.Digits.{number, digits}
 use Rattle.value.specs.Slice.{any}
-use Rattle.value.specs.Level.{hasNoCode}
-use Rattle.value.proofs.Digits.{below-all}
+use Rattle.signal.specs.Parts.{isBadByte}
 use Rattle.signal.proofs.CodesOfBytes.{bad-more}
 use Rattle.signal.proofs.decode.has_bad_byte.Statement.{statement}
 use Rattle.signal.proofs.decode.has_bad_byte.Tie as tie
 
 abbrev Inv-loop : tie.InvT-loop
-Inv-loop levels union₀ i₀ union i = (i ≤ length levels) × (ltb 0 union ≡ hasNoCode (digits 16 (2 * i) (number 256 (take i levels))))
+Inv-loop levels union₀ i₀ union i = (i ≤ length levels) × (ltb 0 union ≡ any isBadByte (take i levels))
 
 abbrev μ-loop : tie.MeasureT-loop
 μ-loop levels union₀ i₀ union i = length levels - i
 
 loop-holds : tie.Need-loop-holds Inv-loop μ-loop
-unfolding digits any
+unfolding any
 loop-holds c = (omega arith, refl)
 
 shared-slice-read-bad-bits : tie.Need-shared-slice-read-bad-bits Inv-loop μ-loop
@@ -42,17 +39,12 @@ loop-less c = omega arith
 loop-again : tie.Need-loop-again Inv-loop μ-loop
 loop-again c =
     let l = c .before .before .before in
-    let v = now (l .before .before .args .levels) in
-    (omega arith, bad-more v (l .loop .i) (l .loop .union) _ (omega arith) (below-all 256 v (λ i. omega (arith, c .before .shared-slice-known2 .given i))) (l .loop .inv .1) (c .bad-bits .ensures))
+    (omega arith, bad-more (now (l .before .before .args .levels)) (l .loop .i) (l .loop .union) _ (omega arith) (l .loop .inv .1) (c .bad-bits .ensures))
 
 returns : tie.Need-returns Inv-loop μ-loop
 returns c =
     let l = c .before in
-    let v = now (l .before .before .args .levels) in
-    let e : l .loop .i ≡ length v = omega (arith, c .loop-test .left) in
-    l .loop .inv .1
-    ∙ ap (λ (n : ℕ). hasNoCode (digits 16 (2 * n) (number 256 (take (l .loop .i) v)))) e
-    ∙ ap (λ (x : List ℕ). hasNoCode (digits 16 (2 * length v) (number 256 x))) (take-all (l .loop .i) v (c .loop-test .left))
+    l .loop .inv .1 ∙ ap (any isBadByte) (take-all (l .loop .i) (now (l .before .before .args .levels)) (c .loop-test .left))
 
 pub has-bad-byte-spec : {M : Type 1} → statement M
 has-bad-byte-spec =

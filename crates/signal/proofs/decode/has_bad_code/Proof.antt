@@ -2,18 +2,17 @@
 -- Assumes nothing.
 use mathlib.Core.Path.{_≡_, refl, sym, ap, _∙_}
 use mathlib.Core.Bool.{true, false}
-use mathlib.Core.List.{List}
-use Prim.Native.Nat.{ℕ, _-_, _*_, _%_, _≤_}
+use Prim.Native.Nat.{_-_, _%_, _≤_}
 use native.Mathlib.Omega.{arith}
 use borrow.Author.Needs.{needs}
 use denote.Ref.{now}
 use lib.ListN.{length, drop, length-drop}
 use lib.Seq.{take-all}
 use Rattle.value.specs.declared.States.the-variants.{Nine}
-use Rattle.value.specs.Digits.{number, digits, Below}
-use Rattle.value.specs.Level.{hasNoCode}
+use Rattle.value.specs.Digits.{Below}
+use Rattle.value.specs.Slice.{any}
 use Rattle.value.proofs.Digits.{below-all}
-use Rattle.signal.specs.Parts.{Levels}
+use Rattle.signal.specs.Parts.{Levels, isBadByte}
 use Rattle.signal.proofs.Decoding.{few-bits}
 use Rattle.signal.proofs.CodesOfBytes.{nine-bits, bad-whole}
 use Rattle.signal.proofs.decode.has_bad_code.Statement.{statement}
@@ -76,7 +75,7 @@ returns-3 c =
     let n = a .width % 2 in
     let t = take-all (length v - n) (drop n v) (rw length-drop (omega arith)) in
     bad-whole (a .width) (a .states) v (nine e) (s .pre) (below e) false _ (sym (f .if2 .left) ∙ f .before .has-bad-first .ensures)
-    (c .has-bad-byte .ensures ∙ ap (λ (r : List ℕ). hasNoCode (digits 16 (2 * length r) (number 256 r))) t)
+    (c .has-bad-byte .ensures ∙ ap (any isBadByte) t)
 
 pub has-bad-code-spec : {M : Type 1} → statement M
 has-bad-code-spec =

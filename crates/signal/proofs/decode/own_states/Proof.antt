@@ -1,32 +1,32 @@
 -- `signal::decode::own_states` meets its contract.
 -- Assumes nothing.
 use borrow.Author.Needs.{needs}
-use denote.Ref.{now}
 use Rattle.signal.proofs.Decoding.{own-bad, own-good}
 use Rattle.signal.proofs.decode.own_states.Statement.{statement}
 use Rattle.signal.proofs.decode.own_states.Tie as tie
 
-mark-in-requires : tie.Need-mark-in-requires
-mark-in-requires c κs = search needs
-
 mark-requires : tie.Need-mark-requires
 mark-requires c κs = search needs
 
+cast-most : tie.Need-cast-most
+cast-most c = search needs
+
+own-mark-requires : tie.Need-own-mark-requires
+own-mark-requires c κs = search needs
+
 returns : tie.Need-returns
 returns c =
-    let m = c .before in
-    let a = m .before .before .before .args in
-    own-bad (a .max-states) (now (a .entry)) _ _ (m .mark .ensures) (m .before .mark-in .ensures) (c .if1 .taken)
+    let k = c .before in
+    own-bad _ _ _ _ (k .before .mark .ensures) (k .own-mark .ensures) (c .if1 .taken)
 
-states-of-requires : tie.Need-states-of-requires
-states-of-requires c κs = search needs
+states-at-requires : tie.Need-states-at-requires
+states-at-requires c κs = search needs
 
 returns-2 : tie.Need-returns-2
 returns-2 c =
-    let m = c .before .before in
-    let a = m .before .before .before .args in
-    own-good (a .max-states) (now (a .entry)) _ _ _ (m .mark .ensures) (m .before .mark-in .ensures) (c .before .if1 .left) (c .states-of .ensures)
+    let k = c .before .before in
+    own-good _ _ _ _ (k .before .mark .ensures) (k .own-mark .ensures) _ (c .before .if1 .left) (c .states-at .ensures)
 
 pub own-states-spec : {M : Type 1} → statement M
 own-states-spec =
-    tie.close (tie.spec mark-in-requires mark-requires returns states-of-requires returns-2)
+    tie.close (tie.spec mark-requires cast-most own-mark-requires returns states-at-requires returns-2)

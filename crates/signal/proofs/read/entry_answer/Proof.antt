@@ -20,7 +20,7 @@ enum-known-encoding : tie.Need-enum-known-encoding
 enum-known-encoding c = search needs
 
 own-states-requires : tie.Need-own-states-requires
-own-states-requires c κs = some _ _ _ (vector (c .before .encoding .given .1) (c .before .before .before .before .pre))
+own-states-requires c κs = some (vector (c .before .encoding .given .1) (c .before .before .before .before .pre))
 
 enum-known-states : tie.Need-enum-known-states
 enum-known-states c = search needs
@@ -50,7 +50,7 @@ returns-4 c =
     let b = c .before .before .before in
     let a = b .before .before .before .before .before .args in
     let e = b .before .before .encoding .given .1 in
-    let o = owned _ _ (now (a .entry)) (vector e (b .before .before .before .before .before .pre)) _ (sym (b .own-states .ensures) ∙ c .before .states .given .1) in
+    let o = owned (vector e (b .before .before .before .before .before .pre)) (sym (b .own-states .ensures) ∙ c .before .states .given .1) in
     sym (ap (λ (x : Encoding). answerIn x (now (a .entry))) e ∙ rw (o .sound, o .set))
 
 pub entry-answer-spec : {M : Type 1} → statement M

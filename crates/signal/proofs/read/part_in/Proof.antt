@@ -17,7 +17,7 @@ own-part : (c : tie.After-known-told2)
 own-part c =
     let b = c .before .before .before in
     let k = b .before .before in
-    owned _ _ _ (vector (k .encoding .given .1) (k .before .before .before .pre)) _ (sym (b .own-states .ensures) ∙ c .before .states .given .1)
+    owned (vector (k .encoding .given .1) (k .before .before .before .pre)) (sym (b .own-states .ensures) ∙ c .before .states .given .1)
 
 enum-told : tie.Need-enum-told
 enum-told c = search needs
@@ -29,7 +29,7 @@ enum-known-encoding : tie.Need-enum-known-encoding
 enum-known-encoding c = search needs
 
 own-states-requires : tie.Need-own-states-requires
-own-states-requires c κs = some _ _ _ (vector (c .before .encoding .given .1) (c .before .before .before .before .pre))
+own-states-requires c κs = some (vector (c .before .encoding .given .1) (c .before .before .before .before .pre))
 
 enum-known-states : tie.Need-enum-known-states
 enum-known-states c = search needs

@@ -14,8 +14,7 @@ own-part : (c : tie.After-known-told)
     Owned (a .width) (a .max-states) (now (a .entry)) (c .before .states .given .0 .0)
 own-part c =
     let b = c .before .before .before in
-    let s = b .before .before .before in
-    owned (s .args .width) (s .args .max-states) (now (s .args .entry)) (s .pre) _ (sym (b .own-states .ensures) ∙ c .before .states .given .1)
+    owned (b .before .before .before .pre) (sym (b .own-states .ensures) ∙ c .before .states .given .1)
 
 held : (c : tie.After-level-part)
     → let a = c .before .before .before .before .before .before .before .args in
@@ -23,7 +22,7 @@ held : (c : tie.After-level-part)
 held c = rw (c .level-part .ensures, own-part (c .before) .part) (own-part (c .before) .levels)
 
 own-states-requires : tie.Need-own-states-requires
-own-states-requires c κs = some (c .before .before .args .width) (c .before .before .args .max-states) _ (c .before .before .pre)
+own-states-requires c κs = some (c .before .before .pre)
 
 enum-known-states : tie.Need-enum-known-states
 enum-known-states c = search needs
@@ -33,9 +32,7 @@ enum-told c = search needs
 
 returns : tie.Need-returns
 returns c =
-    let b = c .before .before in
-    let a = b .before .before .before .args in
-    stored-mark (a .width) (a .max-states) (now (a .entry)) (now (a .out)) (sym (b .own-states .ensures) ∙ c .enum-told .given .1)
+    stored-mark _ _ _ _ (sym (c .before .before .own-states .ensures) ∙ c .enum-told .given .1)
 
 level-part-requires : tie.Need-level-part-requires
 level-part-requires c κs = own-part c .within
@@ -46,15 +43,13 @@ has-bad-code-requires c κs = held c
 returns-2 : tie.Need-returns-2
 returns-2 c =
     let l = c .before .before in
-    let a = l .before .before .before .before .before .before .before .args in
-    stored-code (a .width) (a .max-states) (now (a .entry)) (now (a .out)) _ (own-part (l .before)) _ (l .level-part .ensures ∙ own-part (l .before) .part)
+    stored-code (own-part (l .before)) (l .level-part .ensures ∙ own-part (l .before) .part) _
     (sym (c .before .has-bad-code .ensures) ∙ c .if1 .taken)
 
 returns-3 : tie.Need-returns-3
 returns-3 c =
     let l = c .before .before .before in
-    let a = l .before .before .before .before .before .before .before .args in
-    stored-short (a .width) (a .max-states) (now (a .entry)) (now (a .out)) _ (own-part (l .before)) _ (l .level-part .ensures ∙ own-part (l .before) .part)
+    stored-short (own-part (l .before)) (l .level-part .ensures ∙ own-part (l .before) .part) _
     (sym (c .before .before .has-bad-code .ensures) ∙ c .before .if1 .left) (c .if2 .taken)
 
 write-text-requires : tie.Need-write-text-requires
@@ -66,10 +61,9 @@ same-length c = search needs
 returns-4 : tie.Need-returns-4
 returns-4 c =
     let l = c .before .before .before .before .before .before .before in
-    let a = l .before .before .before .before .before .before .before .args in
     let e = c .before .before .before .before in
-    stored-all (a .width) (a .max-states) (now (a .entry)) (now (a .out)) _ (own-part (l .before)) _ (l .level-part .ensures ∙ own-part (l .before) .part)
-    (sym (e .before .before .has-bad-code .ensures) ∙ e .before .if1 .left) (e .if2 .left) _ (c .before .before .write-text .ensures)
+    stored-all (own-part (l .before)) (l .level-part .ensures ∙ own-part (l .before) .part) _
+    (sym (e .before .before .has-bad-code .ensures) ∙ e .before .if1 .left) (e .if2 .left) (c .before .before .write-text .ensures)
 
 pub store-text-spec : {M : Type 1} → statement M
 store-text-spec =
