@@ -190,7 +190,7 @@ pick-none e cs h = none-foreign (pickedOf e cs) (below-take 9 _ (below-drop 9 cs
 module _ (e : Extract) (w : ℕ) (M : States) (v : List ℕ) (p : Pickable e w M v) where
   pub pick-owned : (S : States) → S ≡ setAt (markIn M v) → Owned w M v S
   unfolding hasBadMark ownStates
-  pick-owned S s = owned w M v (p .whole) S (rw (p .marked, s))
+  pick-owned S s = owned (p .whole) (rw (p .marked, s))
 
   -- a set of fewer than four bits has no bad code
   pub pick-few : (S : States) → S ≡ setAt (markIn M v) → bitsOf S < 4 → hasNoCode (pickedOf e (levelsIn (BitVector w M) v)) ≡ false

@@ -25,12 +25,12 @@ module _ (w : ℕ) (M : States) (v : List ℕ) where
   -- the own set of an entry whose mark is good
   pub owned-good : Whole (BitVector w M) v → hasBadMark (BitVector w M) v ≡ false → Owned w M v (setAt (markIn M v))
   unfolding ownStates hasBadMark
-  owned-good h g = owned w M v h (setAt (markIn M v)) (rw g)
+  owned-good h g = owned h (rw g)
 
 -- an entry u of a bit vector, and what the code finds in it
 module _ (e : Encoding) (v : List ℕ) (h : Whole e v) (w : ℕ) (M : States) (q : e ≡ BitVector w M) (u : List ℕ) (r : u ≡ v) where
   pub marked : 0 < length u
-  marked = rw r (some w M v (vector q h))
+  marked = rw r (some (vector q h))
 
   module _ (m : ℕ) (S : States) (k : m ≡ markIn M u) (f : S ≡ setAt m) where
     told : S ≡ setAt (markIn M v)

@@ -47,7 +47,7 @@ mark-in-requires c κs =
     let e = t .before .before .before .before in
     let s = e .before .before .before in
     let w = whole (s .args .description) (now (s .args .used)) 0 (t .before .loop .k) (s .pre) (t .loop-test .taken) in
-    rw (c .entry-at .ensures) (some _ _ _ (vector (e .encoding .given .1) w))
+    rw (c .entry-at .ensures) (some (vector (e .encoding .given .1) w))
 
 returns-2 : tie.Need-returns-2 Inv-loop μ-loop
 returns-2 c indices l =

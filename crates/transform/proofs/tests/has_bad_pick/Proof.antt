@@ -15,7 +15,7 @@ own : (b : tie.After-bits) → b .before .states-of .result ≡ setAt (markIn (b
 own b = b .before .states-of .ensures ∙ ap setAt (b .before .before .mark-in .ensures)
 
 mark-in-requires : tie.Need-mark-in-requires
-mark-in-requires c κs = let s = c .before in some (s .args .width) (s .args .max-states) (now (s .args .entry)) (s .pre .whole)
+mark-in-requires c κs = some (c .before .pre .whole)
 
 states-of-requires : tie.Need-states-of-requires
 states-of-requires c κs = search needs
