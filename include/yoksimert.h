@@ -7,15 +7,21 @@
  * An answer's number is 0 where the call is accepted, and else the number of the refusal in document 01. On a refusal the slices are as
  * they were.
  *
- *  1 width above 4,096                     7 no room in a slice, or above the maximum of 1,048,576 entries
- *  2 not a record, or not within a slice   8 no such entry
- *  3 another kind of record                9 an entry's mark is no set's, or above the largest set
- *  4 length of a string                   10 an entry has a code that is no level's
- *  5 foreign character                    11 a time index falls
- *  6 index below the last one kept        12 a piece's msb is below its lsb, or above 4,095
- *                                         13 a ninth input, a 65th piece, or a sum of widths above 4,096
- *                                         14 not a derivation, or not one of these inputs
- *                                         15 an input is empty, or doesn't start at index 0
+ *  1 width above 4,096
+ *  2 not a record, or not within a slice
+ *  3 another kind of record
+ *  4 length of a string
+ *  5 foreign character
+ *  6 index below the last one kept
+ *  7 no room in a slice, or above the maximum of 1,048,576 entries
+ *  8 no such entry
+ *  9 an entry's mark is no set's, or above the largest set
+ * 10 an entry has a code that is no level's
+ * 11 a time index falls
+ * 12 a piece's msb is below its lsb, or above 4,095
+ * 13 a ninth input, a 65th piece, or a sum of widths above 4,096
+ * 14 not a derivation, or not one of these inputs
+ * 15 an input is empty, or doesn't start at index 0
  */
 #ifndef YOKSIMERT_H
 #define YOKSIMERT_H

@@ -1,7 +1,7 @@
 use std::error::Error;
 use std::fmt::{self, Display, Formatter};
 
-/// The refusals by their numbers in document 01, in order from 1.
+/// The refusals by their numbers in document 01, rising.
 macro_rules! refusals {
     ($($number:literal $name:ident $reason:literal)*) => {
         /// Why a call was refused. A refused call alters nothing.
@@ -23,6 +23,17 @@ macro_rules! refusals {
         impl Refusal {
             /// Every refusal, by its number.
             pub const ALL: &'static [Self] = &[$(Self::$name,)*];
+
+            /// The refusal of a number that a call of [`raw`](crate::raw) answers; none for 0, an accepted call, and for any number that
+            /// is no refusal's.
+            #[must_use]
+            #[inline]
+            pub fn from_number(number: u32) -> Option<Self> {
+                match number {
+                    $($number => Some(Self::$name),)*
+                    _ => None,
+                }
+            }
 
             /// What is wrong.
             #[must_use]
@@ -54,18 +65,10 @@ refusals! {
 }
 
 impl Refusal {
-    /// The number in document 01, 1 to 15.
+    /// The number in document 01.
     #[must_use]
     pub fn number(self) -> u8 {
         self as u8
-    }
-
-    /// The refusal of a number that a call of [`raw`](crate::raw) answers; none for 0, an accepted call, and above 15.
-    #[must_use]
-    #[inline]
-    pub fn from_number(number: u32) -> Option<Self> {
-        let before = number.checked_sub(1)?;
-        Self::ALL.get(before as usize).copied()
     }
 }
 
@@ -82,6 +85,6 @@ impl Error for Refusal {}
 pub(crate) fn accepted(number: u32) -> Result<(), Refusal> {
     match number {
         0 => Ok(()),
-        _ => Err(Refusal::from_number(number).expect("the archive gives no number above 15")),
+        _ => Err(Refusal::from_number(number).expect("the archive gives no other number")),
     }
 }

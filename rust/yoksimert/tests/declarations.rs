@@ -1,5 +1,6 @@
 //! The header, the Rust declarations and the Rattle source agree on every function's name, parameters and result, and on every struct's
-//! fields; so do the Rust declarations and the Rattle source of the functions that the benchmarks time.
+//! fields; so do the Rust declarations and the Rattle source of the functions that the benchmarks time. All three have the same numbers of
+//! refusals.
 
 use std::collections::BTreeMap;
 use std::fs;
@@ -229,4 +230,54 @@ fn the_benchmarks_texts_agree() {
     rattle.extend(functions(&text, EXPORTED, &[" requires", " {"]));
     assert_eq!(rattle.len(), 1 + 6, "{rattle:#?}");
     assert_eq!(of_rust("rust/bench/src/inner.rs"), rattle);
+}
+
+/// Numbers with what stands behind them in the same line.
+fn numbered(text: &str) -> Vec<(u32, &str)> {
+    let lines = text.lines().filter_map(|line| {
+        let (number, rest) = line
+            .trim()
+            .trim_start_matches("* ")
+            .trim()
+            .split_once(' ')?;
+        Some((number.parse().ok()?, rest))
+    });
+    lines.collect()
+}
+
+/// `Refusal::Name => number` of Rattle, wherever in the crate it stands.
+fn refusals_of_rattle() -> Vec<(u32, String)> {
+    let folder = Path::new(env!("CARGO_MANIFEST_DIR")).join("../../crates/fst/src");
+    let files = fs::read_dir(&folder).expect("the crate fst has its sources");
+    let mut out = Vec::new();
+    for entry in files {
+        let path = entry.expect("a file of the folder").path();
+        let text = fs::read_to_string(path).expect("a text");
+        for arm in text.split("Refusal::").skip(1) {
+            let line = arm.lines().next().unwrap_or_default();
+            let named = line.trim_end_matches(',').split_once(" => ");
+            if let Some((name, Ok(number))) = named.map(|(name, n)| (name, n.parse())) {
+                out.push((number, name.to_string()));
+            }
+        }
+    }
+    out.sort();
+    out
+}
+
+#[test]
+fn the_numbers_of_refusals_agree() {
+    let rust = file("rust/yoksimert/src/refusal.rs");
+    let listed = numbered(between(&rust, "\nrefusals! {", "\n}")[0]);
+    let named: Vec<(u32, String)> = listed
+        .iter()
+        .map(|(number, rest)| (*number, rest.split(' ').next().unwrap_or_default().into()))
+        .collect();
+    assert!(named.len() >= 15, "{named:?}");
+    assert_eq!(refusals_of_rattle(), named);
+    let header = file("include/yoksimert.h");
+    let head = header.split("*/").next().unwrap_or_default();
+    let of_header: Vec<u32> = numbered(head).iter().map(|(number, _)| *number).collect();
+    let numbers: Vec<u32> = named.iter().map(|(number, _)| *number).collect();
+    assert_eq!(of_header, numbers);
 }
