@@ -1,17 +1,13 @@
-//! The operations of the proved archive `libyoksimert.a`, under the oracle's types.
+//! The operations of the proved archive `libyoksimert.a`, under the oracle's types. What the archive is proved to leave on a refusal is
+//! asserted.
 
 #![forbid(unsafe_code)]
 
 #[cfg(archive)]
-mod calls;
-#[cfg(archive)]
 mod numbers;
 #[cfg(archive)]
-pub use calls::{
-    MAX_INPUTS, add_change, add_piece, compare, derive, fresh, fresh_real, look_up, read,
-    recorder_fresh, text,
-};
+mod operations;
 #[cfg(archive)]
-pub use numbers::decode;
+pub use {numbers::decode, operations::*};
 
 pub use yoksimert::PRESENT;

@@ -1,7 +1,7 @@
 //! The oracle's types as the archive's numbers, and back.
 
-use oracle::{Description, Encoding, Kind, Refusal, States};
-use yoksimert::raw::FlatDescription;
+use oracle::{Derivation, Description, Encoding, Kind, Refusal, States};
+use yoksimert::raw::{FlatDerivation, FlatDescription};
 
 pub fn encode(description: Description) -> FlatDescription {
     let (kind, width, set) = match description.encoding {
@@ -9,12 +9,7 @@ pub fn encode(description: Description) -> FlatDescription {
         Encoding::Real => (1, 0, 0),
         Encoding::BitVector { width, max_states } => (2, width, u32::from(max_states.mark())),
     };
-    FlatDescription {
-        kind,
-        width,
-        set,
-        count: description.count,
-    }
+    FlatDescription::new(kind, width, set, description.count)
 }
 
 /// # Panics
@@ -29,10 +24,7 @@ pub fn decode(flat: FlatDescription) -> Description {
         },
         _ => panic!("{flat:?} is no description"),
     };
-    Description {
-        encoding,
-        count: flat.count,
-    }
+    Description::counting(encoding, flat.count)
 }
 
 pub fn kind(number: u32) -> Kind {
@@ -55,9 +47,32 @@ pub fn states(number: u32) -> States {
 
 /// 0 is no refusal.
 pub fn accepted(number: u32) -> Result<(), Refusal> {
-    match number {
-        0 => Ok(()),
-        1..=15 => Err(Refusal(number as u8)),
-        _ => panic!("{number} is no number of document 01"),
+    if number == 0 {
+        return Ok(());
+    }
+    match yoksimert::Refusal::from_number(number) {
+        Some(refusal) => Err(Refusal(refusal.number())),
+        None => panic!("{number} is no number of document 01"),
+    }
+}
+
+/// The description that an accepted call left in a lent one.
+pub fn next_of(
+    number: u32,
+    given: FlatDescription,
+    next: FlatDescription,
+) -> Result<Description, Refusal> {
+    if number != 0 {
+        assert_eq!(next, given, "refused, and another description");
+    }
+    accepted(number)?;
+    Ok(decode(next))
+}
+
+pub fn flat_derivation(d: &Derivation) -> FlatDerivation {
+    FlatDerivation {
+        width: d.width,
+        input_count: d.input_count,
+        piece_count: d.piece_count,
     }
 }

@@ -298,8 +298,8 @@ pub fn look_up() {
 
 fn look_up_in(length: u32, seeks: u32) {
     let indices: Vec<u32> = (0..length).map(|entry| 3 * entry).collect();
-    let description = oracle::fresh(0).map(|d| oracle::Description { count: length, ..d });
-    let events = reference::Record::new(description.expect("width 0 stands"), &[], &indices);
+    let description = oracle::Description::of(oracle::Encoding::Event, &indices);
+    let events = reference::Record::new(description, &[], &indices);
     let events = events.expect("wellen takes the record");
     let rising = Rising::new(&indices);
     let scans = seeks.min((1_000_000 / length).max(20));

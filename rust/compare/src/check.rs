@@ -1,10 +1,11 @@
 //! Each call through the oracle and, where these are there, through the archive and, in its domain, through wellen.
 
-use crate::call::{Answer, Call, DeriveCall, Outcome};
+use crate::by_wellen::{Verdict, verdict};
 use crate::generate::Receiver;
+use crate::operation::{Asked, Case, Operation, Outcome, outcome};
 use crate::stored::line;
-use crate::{archive_run, domain, shrink};
-use oracle::{Description, Fed, States};
+use crate::{by_archive, shrink};
+use oracle::Fed;
 use reference::Used;
 use std::collections::BTreeMap;
 
@@ -42,27 +43,15 @@ impl Checker {
 }
 
 impl Receiver for Checker {
-    fn call(&mut self, call: &Call) -> Outcome {
-        let outcome = call.by_oracle();
-        let counts = self.counts.entry(call.operation()).or_default();
-        match outcome.answer {
-            Ok(_) => counts.accepted += 1,
-            Err(_) => counts.refused += 1,
+    fn take(&mut self, case: &dyn Case) {
+        let counts = self.counts.entry(case.name()).or_default();
+        match case.number() {
+            0 => counts.accepted += 1,
+            _ => counts.refused += 1,
         }
-        counts.compared += u64::from(cfg!(wellen) && domain::holds(call));
-        counts.archive += u64::from(archive_run::exports(call));
-        if wellen_disagrees(call, &outcome) {
-            let least = shrink::smallest(call, &|call| wellen_disagrees(call, &call.by_oracle()));
-            self.report("wellen", disagreement(&least, &wellens(&least)));
-        }
-        if archive_disagrees(call, &outcome) {
-            let least = shrink::smallest(call, &|call| archive_disagrees(call, &call.by_oracle()));
-            self.report("archive", disagreement(&least, &archives(&least)));
-        }
-        if let Some(law) = broken_law(call, &outcome) {
-            self.report(law, line(call, &outcome));
-        }
-        outcome
+        counts.compared += u64::from(case.has_reference());
+        counts.archive += u64::from(case.is_exported());
+        self.disagreements.extend(case.disagreements());
     }
 
     fn run(&mut self, width: u32, fed: &[Fed], left: &Used) {
@@ -105,85 +94,61 @@ fn is_left_by_live_writer(_: u32, _: &[Fed], _: &Used) -> bool {
     true
 }
 
+/// What wellen, the archive and document 01's laws have against the oracle's outcome of a call, each at a smaller call
+/// that it holds for too.
+pub fn disagreements<O: Operation>(asked: &Asked<O>) -> Vec<String> {
+    let (call, found) = (&asked.call, &asked.outcome);
+    let mut out = Vec::new();
+    if wellen_disagrees(call, found) {
+        let least = shrink::smallest(call, |call| wellen_disagrees(call, &outcome(call)));
+        out.push(disagreement("wellen", &least, &wellens(&least)));
+    }
+    if archive_disagrees(call, found) {
+        let least = shrink::smallest(call, |call| archive_disagrees(call, &outcome(call)));
+        out.push(disagreement("archive", &least, &archives(&least)));
+    }
+    if let Some(law) = broken_law(call, found) {
+        out.push(format!("{law}: {}", line(call, found)));
+    }
+    out
+}
+
 /// The oracle's outcome and another's, in the form of the stored answers.
-fn disagreement(call: &Call, other: &str) -> String {
-    format!("\n  oracle: {}\n  {other}", line(call, &call.by_oracle()))
+fn disagreement<O: Operation>(whose: &str, call: &O, other: &str) -> String {
+    let ours = line(call, &outcome(call));
+    format!("{whose}: \n  oracle: {ours}\n  {whose}: {other}")
 }
 
-#[cfg(wellen)]
-fn wellen_disagrees(call: &Call, outcome: &Outcome) -> bool {
-    domain::holds(call) && !crate::reference_run::verdict(call).agrees(call, outcome)
+fn wellen_disagrees<O: Operation>(call: &O, outcome: &Outcome<O::Answer>) -> bool {
+    cfg!(wellen) && call.is_in_domain() && !verdict(call).agrees(call, outcome)
 }
 
-#[cfg(not(wellen))]
-fn wellen_disagrees(_: &Call, _: &Outcome) -> bool {
-    false
-}
-
-#[cfg(wellen)]
-fn wellens(call: &Call) -> String {
-    use crate::reference_run::{Verdict, verdict};
+fn wellens<O: Operation>(call: &O) -> String {
     match verdict(call) {
-        Verdict::Accepted(outcome) => format!("wellen: {}", line(call, &outcome)),
-        Verdict::Refused => "wellen: refused".to_string(),
-        Verdict::Beyond(oracle::Refusal(number)) => {
-            format!("wellen: refused with {number}, by a limit")
-        }
+        Verdict::Accepted(outcome) => line(call, &outcome),
+        Verdict::Refused => "refused".to_string(),
+        Verdict::Beyond(oracle::Refusal(number)) => format!("refused with {number}, by a limit"),
     }
 }
 
-#[cfg(not(wellen))]
-fn wellens(_: &Call) -> String {
-    String::new()
-}
-
 /// The archive takes every call of its operations, so none is left out.
-fn archive_disagrees(call: &Call, outcome: &Outcome) -> bool {
-    archive_run::exports(call) && archive_run::outcome(call).as_ref() != Ok(outcome)
+fn archive_disagrees<O: Operation>(call: &O, outcome: &Outcome<O::Answer>) -> bool {
+    cfg!(archive) && call.is_exported() && by_archive::outcome(call).as_ref() != Ok(outcome)
 }
 
-fn archives(call: &Call) -> String {
-    match archive_run::outcome(call) {
-        Ok(outcome) => format!("archive: {}", line(call, &outcome)),
-        Err(message) => format!("archive: {message}"),
+fn archives<O: Operation>(call: &O) -> String {
+    match by_archive::outcome(call) {
+        Ok(outcome) => line(call, &outcome),
+        Err(message) => message,
     }
 }
 
 /// The oracle's own laws, in wellen's domain or not.
-fn broken_law(call: &Call, outcome: &Outcome) -> Option<&'static str> {
+fn broken_law<O: Operation>(call: &O, outcome: &Outcome<O::Answer>) -> Option<&'static str> {
     let (bytes, indices) = call.alterable();
-    match (call, &outcome.answer) {
-        (_, Err(_)) if outcome.bytes != bytes || outcome.indices != indices => {
-            Some("on every refusal the slices are unchanged")
-        }
-        (Call::Derive(derive), Ok(Answer::Description(next))) => {
-            (!is_list_laid_out(derive, *next, outcome))
-                .then_some("after every accepted Derive the record is its derived list laid out")
-        }
-        _ => None,
+    match outcome.answer {
+        Ok(_) => call.broken_law(outcome),
+        Err(_) if outcome.bytes == bytes && outcome.indices == indices => None,
+        Err(_) => Some("on every refusal the slices are unchanged"),
     }
-}
-
-fn is_list_laid_out(call: &DeriveCall, next: Description, outcome: &Outcome) -> bool {
-    let list = oracle::derived_list(&call.derivation, &call.inputs, &call.bytes, &call.indices);
-    let sets = call
-        .inputs
-        .iter()
-        .map(|input| match input.description.encoding {
-            oracle::Encoding::BitVector { max_states, .. } => max_states,
-            _ => States::Two,
-        });
-    let largest = sets.max().unwrap_or(States::Two);
-    let (description, bytes, indices) =
-        oracle::derived_laid_out(call.derivation.width, largest, &list);
-    description == next
-        && laid_over(&outcome.bytes, &call.out_bytes, &bytes)
-        && laid_over(&outcome.indices, &call.out_indices, &indices)
-}
-
-/// Whether `after` is `used`, and behind it what was there before.
-fn laid_over<T: PartialEq>(after: &[T], before: &[T], used: &[T]) -> bool {
-    after.len() == before.len()
-        && after.starts_with(used)
-        && after[used.len()..] == before[used.len()..]
 }

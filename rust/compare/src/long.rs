@@ -1,11 +1,11 @@
 //! What the generated calls are too short for: records and lists of the maximum length, and every first byte of narrow entries.
 
-use crate::call::{Call, Lent, entry_size};
 use crate::generate::Receiver;
+use crate::operations::look_up::LookUp;
+use crate::operations::read::read_and_text;
 use crate::random::Random;
-use oracle::{Description, Encoding, MAXIMUM, States};
-
-const SETS: [States; 3] = [States::Two, States::Four, States::Nine];
+use crate::record::{LentRecord, SETS, entry_size};
+use oracle::{Description, Encoding, MAXIMUM};
 
 /// Every entry of two bytes at most at widths 1 to 3, read and as text: marks, levels and stray bits of every kind.
 pub fn every_first_byte(to: &mut dyn Receiver) {
@@ -16,30 +16,20 @@ pub fn every_first_byte(to: &mut dyn Receiver) {
             for first in 0..=255 {
                 let seconds = if size == 1 { 0..=0 } else { 0..=255 };
                 for second in seconds {
-                    read_and_text(encoding, &[first, second][..size], to);
+                    look_at(encoding, &[first, second][..size], to);
                 }
             }
         }
     }
 }
 
-fn read_and_text(encoding: Encoding, entry: &[u8], to: &mut dyn Receiver) {
-    let record = Lent {
-        description: Description { encoding, count: 1 },
-        bytes: [&[0x5a], entry, &[0x5a]].concat(),
+fn look_at(encoding: Encoding, entry: &[u8], to: &mut dyn Receiver) {
+    let bytes = [&[0x5a], entry, &[0x5a]].concat();
+    let record = LentRecord {
         byte_start: 1,
-        indices: Vec::new(),
-        index_start: 0,
+        ..LentRecord::new(Description::counting(encoding, 1), &bytes, &[])
     };
-    to.call(&Call::Read {
-        record: record.clone(),
-        entry: 0,
-    });
-    to.call(&Call::Text {
-        record,
-        entry: 0,
-        out: vec![0x5a; 4],
-    });
+    read_and_text(record, 0, vec![0x5a; 4], to);
 }
 
 /// Around every index of lists with runs of equal ones: short lists whose runs are of every kind, and lists of the maximum length, one
@@ -75,7 +65,7 @@ fn around(indices: &[u32], to: &mut dyn Receiver) {
     distinct.dedup();
     for index in distinct {
         for sought in [index - 1, index, index + 1] {
-            to.call(&Call::LookUp {
+            to.call(LookUp {
                 indices: indices.to_vec(),
                 sought,
             });

@@ -1,5 +1,6 @@
 //! The generator of random numbers: splitmix64, so that a seed gives the same calls everywhere.
 
+#[derive(Clone)]
 pub struct Random(u64);
 
 impl Random {

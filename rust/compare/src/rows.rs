@@ -1,7 +1,12 @@
 //! Document 01's twelve rows and its edges, as calls.
 
-use crate::call::{Answer, Call, DeriveCall, Lent, PieceCall, entry_size};
 use crate::generate::Receiver;
+use crate::operations::add_change::{AddChange, record_left};
+use crate::operations::add_piece::AddPiece;
+use crate::operations::derive::Derive;
+use crate::operations::fresh::Fresh;
+use crate::operations::look_up::LookUp;
+use crate::record::{LentRecord, cut};
 use oracle::{Change, Derivation, Description, Encoding, Input, MAX_WIDTH, MAXIMUM, Side, States};
 use reference::Used;
 
@@ -11,7 +16,7 @@ pub fn rows_and_edges(to: &mut dyn Receiver) {
         run(width, &changes, to);
     }
     for (indices, sought) in [(&[0, 5, 5, 9][..], 6), (&[0, 5, 5, 9], 9), (&[3], 2)] {
-        to.call(&Call::LookUp {
+        to.call(LookUp {
             indices: indices.to_vec(),
             sought,
         });
@@ -35,65 +40,45 @@ fn runs() -> Vec<(u32, Vec<(u32, &'static str)>)> {
 
 /// Feeds strings to a fresh record over slices with room for two entries of a width up to 6; what they leave.
 pub fn run(width: u32, changes: &[(u32, &str)], to: &mut dyn Receiver) -> Used {
-    let outcome = to.call(&Call::Fresh { width });
-    let Ok(Answer::Description(description)) = outcome.answer else {
-        panic!("Fresh refused the width {width}");
-    };
-    let mut lent = Lent {
-        description,
-        bytes: vec![0xa5; 10],
+    let made = to.call(Fresh { width }).outcome;
+    let description = made.answer.expect("the rows' widths stand");
+    let mut used = Used::empty(description);
+    let mut record = LentRecord {
         byte_start: 1,
-        indices: vec![77; 4],
         index_start: 1,
+        ..LentRecord::new(description, &[0xa5; 10], &[77; 4])
     };
     for (index, string) in changes {
-        let change = text(string);
-        let outcome = to.call(&Call::Add {
-            record: lent.clone(),
+        let asked = to.call(AddChange {
+            record: record.clone(),
             index: *index,
-            change,
+            change: text(string),
         });
-        if let Ok(Answer::Description(next)) = outcome.answer {
-            lent.description = next;
-        }
-        (lent.bytes, lent.indices) = (outcome.bytes, outcome.indices);
+        used = record_left(&asked).unwrap_or(used);
+        record.description = used.description;
+        (record.bytes, record.indices) = (asked.outcome.bytes, asked.outcome.indices);
     }
-    let count = lent.description.count as usize;
-    let size = entry_size(lent.description.encoding);
-    Used {
-        description: lent.description,
-        bytes: lent.bytes[1..][..count * size].to_vec(),
-        indices: lent.indices[1..][..count].to_vec(),
-    }
+    used
 }
 
 /// Row 12: "w2 `x1` at 0, `01` at 4, slice of bit 0". What it leaves.
 pub fn derive_bit_0(to: &mut dyn Receiver) -> Used {
     let input = run(2, &[(0, "x1"), (4, "01")], to);
-    let piece = Call::AddPiece(PieceCall {
+    let piece = AddPiece {
         derivation: oracle::empty_derivation(),
         side: Side::Left,
         name: 1,
         msb: 0,
         lsb: 0,
-    });
-    let Ok(Answer::Derivation(derivation)) = to.call(&piece).answer else {
-        panic!("the piece was refused");
     };
-    let outcome = to.call(&Call::Derive(one_input(*derivation, &input)));
-    let Ok(Answer::Description(description)) = outcome.answer else {
-        panic!("the derivation was refused");
-    };
-    let count = description.count as usize;
-    Used {
-        description,
-        bytes: outcome.bytes[..count * entry_size(description.encoding)].to_vec(),
-        indices: outcome.indices[..count].to_vec(),
-    }
+    let derivation = to.call(piece).outcome.answer.expect("a piece");
+    let outcome = to.call(one_input(derivation, &input)).outcome;
+    let description = outcome.answer.expect("a derivation");
+    cut(description, &outcome.bytes, &outcome.indices)
 }
 
-fn one_input(derivation: Derivation, input: &Used) -> DeriveCall {
-    DeriveCall {
+fn one_input(derivation: Derivation, input: &Used) -> Derive {
+    Derive {
         derivation,
         inputs: vec![Input {
             description: input.description,
@@ -111,7 +96,7 @@ fn one_input(derivation: Derivation, input: &Used) -> DeriveCall {
 /// Real 0.0 then -0.0: both kept." And a count above the maximum.
 fn edges(to: &mut dyn Receiver) {
     for width in [0, MAX_WIDTH, MAX_WIDTH + 1] {
-        to.call(&Call::Fresh { width });
+        to.call(Fresh { width });
     }
     for room in [3, 4] {
         let bytes = &[0x0a, 0xa5, 0xa5, 0xa5][..room];
@@ -131,7 +116,7 @@ fn edges(to: &mut dyn Receiver) {
 pub fn long_edges(to: &mut dyn Receiver) {
     for count in [MAXIMUM - 1, MAXIMUM, MAXIMUM + 1] {
         let indices = vec![1; count as usize + 1];
-        to.call(&Call::LookUp {
+        to.call(LookUp {
             indices: indices[1..].to_vec(),
             sought: 1,
         });
@@ -151,8 +136,8 @@ fn two_state(width: u32) -> Encoding {
     }
 }
 
-fn add(record: Lent, change: Change, to: &mut dyn Receiver) {
-    to.call(&Call::Add {
+fn add(record: LentRecord, change: Change, to: &mut dyn Receiver) {
+    to.call(AddChange {
         record,
         index: 1,
         change,
@@ -163,12 +148,6 @@ fn text(string: &str) -> Change {
     Change::Text(string.as_bytes().to_vec())
 }
 
-fn lent(encoding: Encoding, count: u32, bytes: &[u8], indices: &[u32]) -> Lent {
-    Lent {
-        description: Description { encoding, count },
-        bytes: bytes.to_vec(),
-        byte_start: 0,
-        indices: indices.to_vec(),
-        index_start: 0,
-    }
+fn lent(encoding: Encoding, count: u32, bytes: &[u8], indices: &[u32]) -> LentRecord {
+    LentRecord::new(Description::counting(encoding, count), bytes, indices)
 }

@@ -3,11 +3,8 @@
 
 use compare::check::Checker;
 use compare::generate::{Generator, Size};
+use compare::operations::OPERATIONS;
 use compare::{long, rows};
-
-const EXPORTED: [&str; 9] = [
-    "add", "compare", "derive", "fresh", "left", "lookup", "read", "right", "text",
-];
 
 #[test]
 fn generated_calls_agree() {
@@ -18,13 +15,9 @@ fn generated_calls_agree() {
         generator.scenario(&mut checker);
     }
     assert_eq!(checker.disagreements, Vec::<String>::new());
-    for operation in EXPORTED {
-        let counts = checker.counts[operation];
-        assert_eq!(
-            counts.archive,
-            counts.accepted + counts.refused,
-            "{operation}"
-        );
+    for name in OPERATIONS.iter().flat_map(|operation| operation.names) {
+        let counts = checker.counts[name];
+        assert_eq!(counts.archive, counts.accepted + counts.refused, "{name}");
     }
 }
 

@@ -1,9 +1,13 @@
 //! That the generator reaches what the comparison is meant to cover.
 
-use compare::call::{Answer, Call, Lent, Outcome, entry_size};
-use compare::domain;
 use compare::generate::{Generator, Receiver, Size};
-use compare::stored::number;
+use compare::operation::{Asked, Case, Operation};
+use compare::operations::OPERATIONS;
+use compare::operations::add_change::AddChange;
+use compare::operations::compare::Compare;
+use compare::operations::derive::Derive;
+use compare::operations::look_up::LookUp;
+use compare::record::SETS;
 use oracle::{Encoding, States};
 use std::collections::BTreeSet;
 
@@ -20,31 +24,30 @@ struct Coverage {
     comparisons: BTreeSet<(bool, bool, bool)>,
 }
 
+/// The call and its answer, if it is an accepted one of this operation.
+fn accepted<O: Operation>(case: &dyn Case) -> Option<(&O, &O::Answer)> {
+    let asked = case.as_any().downcast_ref::<Asked<O>>()?;
+    Some((&asked.call, asked.outcome.answer.as_ref().ok()?))
+}
+
 impl Receiver for Coverage {
-    fn call(&mut self, call: &Call) -> Outcome {
-        let outcome = call.by_oracle();
-        self.numbers.insert((call.operation(), number(&outcome)));
-        match (call, &outcome.answer) {
-            (Call::Add { record, .. }, Ok(Answer::Description(next)))
-                if record.description.count > 0 =>
-            {
-                self.raised(record.description.encoding, next.encoding);
+    fn take(&mut self, case: &dyn Case) {
+        self.numbers.insert((case.name(), case.number()));
+        if let Some((call, next)) = accepted::<AddChange>(case) {
+            let before = call.record.description;
+            if before.count > 0 {
+                self.raised(before.encoding, next.encoding);
             }
-            (Call::Derive(call), Ok(_)) => {
-                self.inputs.insert(call.derivation.input_count);
-                self.pieces.insert(call.derivation.piece_count);
-            }
-            (Call::Compare { first, second }, Ok(Answer::Equal(equal))) => {
-                let comparable = domain::holds(call);
-                let same_bytes = used_bytes(first) == used_bytes(second);
-                self.comparisons.insert((comparable, *equal, same_bytes));
-            }
-            (Call::LookUp { indices, .. }, Ok(_)) => {
-                self.longest_list = self.longest_list.max(indices.len());
-            }
-            _ => {}
+        } else if let Some((call, _)) = accepted::<Derive>(case) {
+            self.inputs.insert(call.derivation.input_count);
+            self.pieces.insert(call.derivation.piece_count);
+        } else if let Some((call, equal)) = accepted::<Compare>(case) {
+            let same_bytes = call.first.used_bytes() == call.second.used_bytes();
+            let comparison = (call.is_in_domain(), *equal, same_bytes);
+            self.comparisons.insert(comparison);
+        } else if let Some((call, _)) = accepted::<LookUp>(case) {
+            self.longest_list = self.longest_list.max(call.indices.len());
         }
-        outcome
     }
 }
 
@@ -72,28 +75,17 @@ impl Coverage {
     }
 }
 
-fn used_bytes(record: &Lent) -> &[u8] {
-    let size = entry_size(record.description.encoding);
-    &record.bytes[record.byte_start..][..record.description.count as usize * size]
-}
-
 /// Every number of every operation. Look up's 2 needs a list above the maximum, which the edges have.
 fn all_numbers() -> BTreeSet<(&'static str, u8)> {
-    let lists: [(&str, &[u8]); 9] = [
-        ("fresh", &[0, 1]),
-        ("add", &[0, 2, 3, 4, 5, 6, 7]),
-        ("read", &[0, 2, 8, 9]),
-        ("text", &[0, 2, 3, 7, 8, 9, 10]),
-        ("compare", &[0, 2, 9, 10]),
-        ("lookup", &[0, 11]),
-        ("left", &[0, 12, 13, 14]),
-        ("right", &[0, 12, 13, 14]),
-        ("derive", &[0, 2, 7, 9, 10, 11, 14, 15]),
-    ];
-    let pairs = lists.into_iter();
-    pairs
-        .flat_map(|(operation, numbers)| numbers.iter().map(move |&number| (operation, number)))
-        .collect()
+    let mut out = BTreeSet::new();
+    for operation in OPERATIONS {
+        for name in operation.names {
+            out.insert((*name, 0));
+            out.extend(operation.numbers.iter().map(|number| (*name, *number)));
+        }
+    }
+    out.remove(&("lookup", 2));
+    out
 }
 
 #[test]
@@ -104,10 +96,9 @@ fn everything_is_reached() {
         .chain([63, 64, 65, 127, 128, 255, 256, 4_095, 4_096])
         .collect();
     assert_eq!(coverage.widths, widths);
-    let sets = [States::Two, States::Four, States::Nine];
-    let pairs = sets
+    let pairs = SETS
         .iter()
-        .flat_map(|&from| sets.iter().map(move |&to| (from, to)));
+        .flat_map(|&from| SETS.iter().map(move |&to| (from, to)));
     let rising = pairs.filter(|(from, to)| from <= to);
     let raises: BTreeSet<(States, States, u32)> = rising
         .flat_map(|(from, to)| (0..8).map(move |rest| (from, to, rest)))
@@ -125,11 +116,10 @@ fn everything_is_reached() {
 
 #[test]
 fn one_seed_gives_the_same_calls() {
-    struct Calls(Vec<Call>);
+    struct Calls(Vec<String>);
     impl Receiver for Calls {
-        fn call(&mut self, call: &Call) -> Outcome {
-            self.0.push(call.clone());
-            call.by_oracle()
+        fn take(&mut self, case: &dyn Case) {
+            self.0.push(case.line());
         }
     }
     let calls = |seed| {

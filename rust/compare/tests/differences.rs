@@ -2,41 +2,41 @@
 //! does, and that the call is outside the domain of the comparison.
 #![cfg(wellen)]
 
-use compare::call::{Answer, Call, DeriveCall, Lent, Outcome, PieceCall};
-use compare::domain;
-use compare::reference_run::{Verdict, verdict};
+use compare::by_wellen::{Verdict, verdict};
+use compare::operation::{Operation, Outcome, outcome};
+use compare::operations::add_change::AddChange;
+use compare::operations::add_piece::AddPiece;
+use compare::operations::compare::Compare;
+use compare::operations::derive::Derive;
+use compare::operations::fresh::Fresh;
+use compare::operations::look_up::LookUp;
+use compare::operations::read::Read;
+use compare::operations::text::Text;
+use compare::record::{LentRecord, cut};
 use oracle::{
     Change, Derivation, Description, Encoding, Input, MAXIMUM, Offset, Refusal, Side, States,
 };
 
 /// What wellen answers to a call outside the domain that document 01 answers with `expected`.
-fn differing(call: &Call, expected: Result<Answer, u8>) -> Option<Answer> {
-    assert!(!domain::holds(call), "in the domain: {call:?}");
-    let outcome = call.by_oracle();
+fn differing<O: Operation>(call: &O, expected: Result<O::Answer, u8>) -> Option<O::Answer> {
+    assert!(!call.is_in_domain(), "in the domain: {call:?}");
+    let outcome = outcome(call);
     assert_eq!(outcome.answer, expected.map_err(Refusal));
     let verdict = verdict(call);
     assert!(!verdict.agrees(call, &outcome), "no difference: {call:?}");
     accepted(verdict).and_then(|outcome| outcome.answer.ok())
 }
 
-fn accepted(verdict: Verdict) -> Option<Outcome> {
+fn accepted<Answer>(verdict: Verdict<Answer>) -> Option<Outcome<Answer>> {
     match verdict {
         Verdict::Accepted(outcome) => Some(outcome),
         Verdict::Refused | Verdict::Beyond(_) => None,
     }
 }
 
-fn vector(width: u32, max_states: States, bytes: &[u8], indices: &[u32]) -> Lent {
-    Lent {
-        description: Description {
-            encoding: Encoding::BitVector { width, max_states },
-            count: indices.len() as u32,
-        },
-        bytes: bytes.to_vec(),
-        byte_start: 0,
-        indices: indices.to_vec(),
-        index_start: 0,
-    }
+fn vector(width: u32, max_states: States, bytes: &[u8], indices: &[u32]) -> LentRecord {
+    let encoding = Encoding::BitVector { width, max_states };
+    LentRecord::new(Description::of(encoding, indices), bytes, indices)
 }
 
 #[test]
@@ -45,11 +45,8 @@ fn fresh_has_no_greatest_width() {
         width: 4_097,
         max_states: States::Two,
     };
-    let made = differing(&Call::Fresh { width: 4_097 }, Err(1));
-    assert_eq!(
-        made,
-        Some(Answer::Description(Description { encoding, count: 0 }))
-    );
+    let made = differing(&Fresh { width: 4_097 }, Err(1));
+    assert_eq!(made, Some(Description::empty(encoding)));
 }
 
 #[test]
@@ -57,37 +54,26 @@ fn add_has_no_greatest_width() {
     let mut record = vector(4_097, States::Two, &[0; 513], &[]);
     record.indices = vec![0];
     let change = Change::Text(vec![b'0'; 4_097]);
-    let call = Call::Add {
+    let call = AddChange {
         record,
         index: 0,
         change,
     };
-    assert!(matches!(
-        differing(&call, Err(2)),
-        Some(Answer::Description(Description { count: 1, .. }))
-    ));
+    let next = differing(&call, Err(2)).expect("wellen adds it");
+    assert_eq!(next.count, 1);
 }
 
 #[test]
 fn a_mark_above_the_largest_set_is_read_at_widths_1_and_2() {
     for (width, string) in [(1, "0"), (2, "-0")] {
-        let record = vector(width, States::Four, &[0x80], &[0]);
-        let record = Lent {
-            indices: Vec::new(),
-            ..record
+        let record = vector(width, States::Four, &[0x80], &[0]).without_indices();
+        let call = Read {
+            record: record.clone(),
+            entry: 0,
         };
-        let read = differing(
-            &Call::Read {
-                record: record.clone(),
-                entry: 0,
-            },
-            Err(9),
-        );
-        let Some(Answer::Entry(entry)) = read else {
-            panic!("{read:?}");
-        };
+        let entry = differing(&call, Err(9)).expect("wellen reads it");
         assert_eq!((entry.states, entry.part), (States::Nine, 0..1));
-        let call = Call::Text {
+        let call = Text {
             record,
             entry: 0,
             out: vec![b' '; 2],
@@ -100,46 +86,34 @@ fn a_mark_above_the_largest_set_is_read_at_widths_1_and_2() {
 
 #[test]
 fn an_event_beyond_the_count_is_read() {
-    let record = Lent {
-        description: Description {
-            encoding: Encoding::Event,
-            count: 0,
-        },
-        bytes: Vec::new(),
-        byte_start: 0,
-        indices: Vec::new(),
-        index_start: 0,
-    };
-    let read = differing(&Call::Read { record, entry: 0 }, Err(8));
-    assert!(matches!(read, Some(Answer::Entry(entry)) if entry.kind == oracle::Kind::Event));
+    let record = LentRecord::new(Description::empty(Encoding::Event), &[], &[]);
+    let read = differing(&Read { record, entry: 0 }, Err(8)).expect("wellen reads it");
+    assert_eq!(read.kind, oracle::Kind::Event);
 }
 
-fn compare(first: Lent, second: Lent, expected: Result<bool, u8>) -> Option<Answer> {
-    differing(
-        &Call::Compare { first, second },
-        expected.map(Answer::Equal),
-    )
+fn compare(first: LentRecord, second: LentRecord, expected: Result<bool, u8>) -> Option<bool> {
+    differing(&Compare { first, second }, expected)
 }
 
 #[test]
 fn equal_levels_under_other_largest_sets_differ() {
     let four = vector(2, States::Four, &[0x42], &[0]);
     let nine = vector(2, States::Nine, &[0x40, 0x02], &[0]);
-    assert_eq!(compare(four, nine, Ok(true)), Some(Answer::Equal(false)));
+    assert_eq!(compare(four, nine, Ok(true)), Some(false));
 }
 
 #[test]
 fn document_01s_example_of_other_largest_sets_differs() {
     let four = vector(3, States::Four, &[0x61], &[0]);
     let nine = vector(3, States::Nine, &[0x40, 0x21], &[0]);
-    assert_eq!(compare(four, nine, Ok(true)), Some(Answer::Equal(false)));
+    assert_eq!(compare(four, nine, Ok(true)), Some(false));
 }
 
 #[test]
 fn equal_bytes_of_other_widths_are_equal() {
     let one = vector(1, States::Two, &[0x01], &[0]);
     let two = vector(2, States::Two, &[0x01], &[0]);
-    assert_eq!(compare(one, two, Ok(false)), Some(Answer::Equal(true)));
+    assert_eq!(compare(one, two, Ok(false)), Some(true));
 }
 
 #[test]
@@ -153,36 +127,33 @@ fn widths_of_other_lengths_are_refused() {
 fn unused_bits_count() {
     let clean = vector(1, States::Two, &[0x01], &[0]);
     let stray = vector(1, States::Two, &[0x03], &[0]);
-    assert_eq!(compare(clean, stray, Ok(true)), Some(Answer::Equal(false)));
+    assert_eq!(compare(clean, stray, Ok(true)), Some(false));
 }
 
 #[test]
 fn a_bad_code_equals_itself() {
     let bad = vector(1, States::Nine, &[0x89], &[0]);
-    assert_eq!(
-        compare(bad.clone(), bad, Err(10)),
-        Some(Answer::Equal(true))
-    );
+    assert_eq!(compare(bad.clone(), bad, Err(10)), Some(true));
 }
 
 #[test]
 fn a_bad_mark_at_width_1_equals_itself() {
     let bad = vector(1, States::Four, &[0x80], &[0]);
-    assert_eq!(compare(bad.clone(), bad, Err(9)), Some(Answer::Equal(true)));
+    assert_eq!(compare(bad.clone(), bad, Err(9)), Some(true));
 }
 
 #[test]
 fn a_falling_index_is_looked_up() {
-    let call = Call::LookUp {
+    let call = LookUp {
         indices: vec![1, 0],
         sought: 0,
     };
-    assert_eq!(differing(&call, Err(11)), Some(Answer::Offset(None)));
+    assert_eq!(differing(&call, Err(11)), Some(None));
 }
 
 #[test]
 fn a_list_above_the_maximum_is_looked_up() {
-    let call = Call::LookUp {
+    let call = LookUp {
         indices: vec![0; MAXIMUM as usize + 1],
         sought: 0,
     };
@@ -192,7 +163,7 @@ fn a_list_above_the_maximum_is_looked_up() {
         time_match: true,
         next_index: None,
     };
-    assert_eq!(differing(&call, Err(2)), Some(Answer::Offset(Some(offset))));
+    assert_eq!(differing(&call, Err(2)), Some(Some(offset)));
 }
 
 fn derivation(input_count: u32, pieces: &[(u64, u64, u64)]) -> Derivation {
@@ -207,33 +178,27 @@ fn derivation(input_count: u32, pieces: &[(u64, u64, u64)]) -> Derivation {
     out
 }
 
-fn piece(derivation: Derivation, name: u32, msb: u32, lsb: u32) -> Call {
-    Call::AddPiece(PieceCall {
+fn piece(derivation: Derivation, name: u32, msb: u32, lsb: u32) -> AddPiece {
+    AddPiece {
         derivation,
         side: Side::Right,
         name,
         msb,
         lsb,
-    })
+    }
 }
 
 #[test]
 fn a_piece_may_reach_above_bit_4095() {
     let call = piece(derivation(0, &[]), 1, 4_096, 4_096);
-    assert!(matches!(
-        differing(&call, Err(12)),
-        Some(Answer::Derivation(_))
-    ));
+    assert!(differing(&call, Err(12)).is_some());
 }
 
 #[test]
 fn a_width_may_differ_from_the_pieces_sum() {
     let mut spoilt = derivation(1, &[(0, 1, 0)]);
     spoilt.width = 2;
-    assert!(matches!(
-        differing(&piece(spoilt, 1, 3, 3), Err(14)),
-        Some(Answer::Derivation(_))
-    ));
+    assert!(differing(&piece(spoilt, 1, 3, 3), Err(14)).is_some());
 }
 
 /// These three are in the domain: the comparison holds document 01's limits against what wellen leaves.
@@ -247,13 +212,13 @@ fn a_derivation_has_no_limits() {
         piece(full, 1, 1, 1),
         piece(wide, 1, 7, 7),
     ] {
-        assert_eq!(call.by_oracle().answer, Err(Refusal(13)));
+        assert_eq!(outcome(&call).answer, Err(Refusal(13)));
         assert_eq!(verdict(&call), Verdict::Beyond(Refusal(13)));
     }
 }
 
 /// The records one behind the other, and room for eight steps.
-fn derive(derivation: Derivation, records: &[Lent]) -> Call {
+fn derive(derivation: Derivation, records: &[LentRecord]) -> Derive {
     let (mut bytes, mut indices, mut inputs) = (Vec::new(), Vec::new(), Vec::new());
     for record in records {
         inputs.push(Input {
@@ -264,29 +229,23 @@ fn derive(derivation: Derivation, records: &[Lent]) -> Call {
         bytes.extend(&record.bytes);
         indices.extend(&record.indices);
     }
-    Call::Derive(DeriveCall {
+    Derive {
         derivation,
         inputs,
         bytes,
         indices,
         out_bytes: vec![0xa5; 16],
         out_indices: vec![77; 8],
-    })
+    }
 }
 
 /// The used bytes and indices that wellen leaves where document 01 refuses.
-fn derived(derivation: Derivation, records: &[Lent], number: u8) -> (Vec<u8>, Vec<u32>) {
+fn derived(derivation: Derivation, records: &[LentRecord], number: u8) -> (Vec<u8>, Vec<u32>) {
     let call = derive(derivation, records);
-    let Some(Answer::Description(description)) = differing(&call, Err(number)) else {
-        panic!("wellen refused {call:?}");
-    };
-    let outcome = accepted(verdict(&call)).expect("wellen accepted");
-    let count = description.count as usize;
-    let size = compare::call::entry_size(description.encoding);
-    (
-        outcome.bytes[..count * size].to_vec(),
-        outcome.indices[..count].to_vec(),
-    )
+    let description = differing(&call, Err(number)).expect("wellen derives it");
+    let outcome = accepted(verdict(&call)).expect("wellen derives it");
+    let used = cut(description, &outcome.bytes, &outcome.indices);
+    (used.bytes, used.indices)
 }
 
 fn bit_0() -> Derivation {

@@ -1,16 +1,14 @@
 //! Document 01's twelve rows through the oracle and, where its source is there, through wellen.
 
-use compare::call::{Answer, Call, Outcome};
 use compare::generate::Receiver;
+use compare::operation::Case;
 use compare::rows::{derive_bit_0, run};
-use oracle::{Offset, States};
+use oracle::{Offset, States, look_up};
 
-struct Oracle;
+struct Nobody;
 
-impl Receiver for Oracle {
-    fn call(&mut self, call: &Call) -> Outcome {
-        call.by_oracle()
-    }
+impl Receiver for Nobody {
+    fn take(&mut self, _: &dyn Case) {}
 }
 
 #[cfg(wellen)]
@@ -28,7 +26,7 @@ fn wellen_agrees_on_the_rows_and_edges() {
 }
 
 fn bytes(width: u32, changes: &[(u32, &str)]) -> Vec<u8> {
-    run(width, changes, &mut Oracle).bytes
+    run(width, changes, &mut Nobody).bytes
 }
 
 #[test]
@@ -51,39 +49,28 @@ fn rows_1_to_7() {
 
 #[test]
 fn row_8() {
-    let used = run(1, &[(5, "0"), (10, "0"), (7, "1"), (6, "0")], &mut Oracle);
+    let used = run(1, &[(5, "0"), (10, "0"), (7, "1"), (6, "0")], &mut Nobody);
     assert_eq!(used.indices, [5, 7]);
-}
-
-fn look_up(indices: &[u32], sought: u32) -> Option<Offset> {
-    let call = Call::LookUp {
-        indices: indices.to_vec(),
-        sought,
-    };
-    match call.by_oracle().answer {
-        Ok(Answer::Offset(offset)) => offset,
-        other => panic!("{other:?}"),
-    }
 }
 
 #[test]
 fn rows_9_to_11() {
     let found = |start, elements, time_match, next_index| {
-        Some(Offset {
+        Ok(Some(Offset {
             start,
             elements,
             time_match,
             next_index,
-        })
+        }))
     };
     assert_eq!(look_up(&[0, 5, 5, 9], 6), found(1, 2, false, Some(9)));
     assert_eq!(look_up(&[0, 5, 5, 9], 9), found(3, 1, true, None));
-    assert_eq!(look_up(&[3], 2), None);
+    assert_eq!(look_up(&[3], 2), Ok(None));
 }
 
 #[test]
 fn row_12() {
-    let used = derive_bit_0(&mut Oracle);
+    let used = derive_bit_0(&mut Nobody);
     assert_eq!(used.bytes, [0x41, 0x01]);
     assert_eq!(used.indices, [0, 4]);
     let oracle::Encoding::BitVector { width, max_states } = used.description.encoding else {

@@ -1,5 +1,6 @@
 //! The stored answers, and what a replay refuses.
 
+use compare::operations::{OPERATIONS, numbers};
 use compare::stored::replay;
 
 const FIRST: &str = include_str!("../../../crates/answers/stdin");
@@ -11,13 +12,27 @@ fn stored_answers_are_the_oracles() {
 
 #[test]
 fn every_number_is_stored() {
-    let stored = |number: u8| {
-        FIRST
-            .lines()
-            .any(|line| line.contains(&format!(" = {number} ")))
-    };
-    let missing: Vec<u8> = (0..=15).filter(|&number| !stored(number)).collect();
-    assert_eq!(missing, []);
+    for number in [0].into_iter().chain(numbers()) {
+        let outcome = format!(" = {number} ");
+        assert!(FIRST.contains(&outcome), "{number}");
+    }
+}
+
+#[cfg(archive)]
+#[test]
+fn the_numbers_are_the_librarys() {
+    let all: Vec<u8> = yoksimert::Refusal::ALL.iter().map(|r| r.number()).collect();
+    assert_eq!(numbers(), all);
+}
+
+#[test]
+fn the_operations_have_names_of_their_own() {
+    let names = OPERATIONS.iter().flat_map(|operation| operation.names);
+    let mut names: Vec<&str> = names.copied().collect();
+    let all = names.len();
+    names.sort_unstable();
+    names.dedup();
+    assert_eq!(names.len(), all);
 }
 
 #[test]

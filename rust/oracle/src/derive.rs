@@ -4,8 +4,8 @@ use crate::derivation::{Derivation, Piece};
 use crate::history::laid_out;
 use crate::level::{States, codes, letters};
 use crate::look_up::falls;
-use crate::read::codes_of;
-use crate::record::{Description, Encoding, Lent};
+use crate::record::{Description, Encoding, Extent};
+use crate::text::codes_of;
 use crate::{MAXIMUM, Refusal, refuse_if};
 
 /// A record within the shared slices.
@@ -49,8 +49,8 @@ pub fn derive(
     out_indices: &mut [u32],
 ) -> Result<Description, Refusal> {
     let stands = |input: &Input| {
-        let lent_bytes = Lent::new(bytes, input.byte_start);
-        let lent_indices = Lent::new(indices, input.index_start);
+        let lent_bytes = Extent::new(bytes, input.byte_start);
+        let lent_indices = Extent::new(indices, input.index_start);
         input.description.holds(lent_bytes, lent_indices)
     };
     refuse_if(!inputs.iter().all(stands), 2)?;

@@ -1,8 +1,9 @@
 //! Runs and histories (document 01, Runs and histories, for demand 3).
 
+use crate::add_change::Change;
 use crate::entry::pack;
 use crate::level::{States, codes, least_set};
-use crate::record::{Change, Description, Encoding};
+use crate::record::{Description, Encoding};
 
 /// A change of a run, and whether it was accepted.
 #[derive(Clone, PartialEq, Eq, Debug)]
@@ -65,9 +66,6 @@ pub(crate) fn laid_out(
         bytes.extend(pack(width, max_states, own, &codes));
         indices.push(index);
     }
-    let description = Description {
-        encoding: Encoding::BitVector { width, max_states },
-        count: indices.len() as u32,
-    };
-    (description, bytes, indices)
+    let encoding = Encoding::BitVector { width, max_states };
+    (Description::of(encoding, &indices), bytes, indices)
 }

@@ -5,22 +5,32 @@
 //! plainest form of each sentence: an entry is a list of bits, a string is a list of
 //! codes, and each operation tries its refusals in the order written.
 
+mod add_change;
+mod add_piece;
+mod compare;
 mod derivation;
 mod derive;
 mod entry;
+mod fresh;
 mod history;
 mod level;
 mod look_up;
 mod read;
 mod record;
+mod text;
 
-pub use derivation::{Derivation, Side, add_piece, empty_derivation};
+pub use add_change::{Change, add_change};
+pub use add_piece::{Side, add_piece};
+pub use compare::{Record, compare};
+pub use derivation::{Derivation, empty_derivation};
 pub use derive::{Input, Step, derive, derived_laid_out, derived_list};
+pub use fresh::{fresh, fresh_real};
 pub use history::{Fed, history, history_laid_out};
 pub use level::States;
 pub use look_up::{Offset, look_up};
-pub use read::{Entry, Kind, Record, compare, read, text};
-pub use record::{Change, Description, Encoding, add_change, fresh, fresh_real};
+pub use read::{Entry, Kind, read};
+pub use record::{Description, Encoding};
+pub use text::text;
 
 /// The most entries that a record may have (document 01, A record).
 pub const MAXIMUM: u32 = 1_048_576;

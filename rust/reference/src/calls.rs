@@ -92,8 +92,7 @@ impl Writer {
             SignalEncoding::Real => Encoding::Real,
             SignalEncoding::String => unreachable!("no writer of strings is made"),
         };
-        let count = self.writer.time_indices.len() as u32;
-        Description { encoding, count }
+        Description::of(encoding, self.indices())
     }
 
     pub fn bytes(&self) -> &[u8] {
@@ -276,18 +275,11 @@ pub fn derive(derivation: &Derivation, inputs: &[Record]) -> Result<Used, Refuse
     };
     let inputs: Vec<&Signal> = inputs.iter().map(|input| &input.0).collect();
     let out = refusing(|| Record(transform_bv_signal(&signal, derivation.width, &inputs)))?;
-    let max_states = out.0.max_states().ok_or(Refused)?;
-    Ok(Used {
-        description: Description {
-            encoding: Encoding::BitVector {
-                width: derivation.width,
-                max_states: from_wellen(max_states),
-            },
-            count: out.0.time_indices().len() as u32,
-        },
-        bytes: out.bytes().to_vec(),
-        indices: out.0.time_indices().to_vec(),
-    })
+    let encoding = Encoding::BitVector {
+        width: derivation.width,
+        max_states: from_wellen(out.0.max_states().ok_or(Refused)?),
+    };
+    Ok(Used::of(encoding, out.bytes(), out.0.time_indices()))
 }
 
 /// `transform_bv_signal` by itself, for benchmarks: how many entries it makes. A panic is not caught.

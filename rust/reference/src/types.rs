@@ -1,4 +1,4 @@
-use oracle::{Description, States};
+use oracle::{Description, Encoding, States};
 use std::ops::Range;
 
 /// wellen panicked.
@@ -11,6 +11,25 @@ pub struct Used {
     pub description: Description,
     pub bytes: Vec<u8>,
     pub indices: Vec<u32>,
+}
+
+impl Used {
+    /// The used part of a record without entries.
+    pub fn empty(description: Description) -> Self {
+        Self {
+            description,
+            bytes: Vec::new(),
+            indices: Vec::new(),
+        }
+    }
+
+    pub fn of(encoding: Encoding, bytes: &[u8], indices: &[u32]) -> Self {
+        Self {
+            description: Description::of(encoding, indices),
+            bytes: bytes.to_vec(),
+            indices: indices.to_vec(),
+        }
+    }
 }
 
 /// What an entry holds. `part` is the place of the levels within the used bytes.

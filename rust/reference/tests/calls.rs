@@ -87,7 +87,7 @@ fn a_part_is_placed_within_the_used_bytes() {
         width: 4,
         max_states: States::Four,
     };
-    let description = Description { encoding, count: 2 };
+    let description = Description::counting(encoding, 2);
     let record = Record::new(description, &[0x00, 0x0a, 0x40, 0x4b], &[0, 1]).expect("a record");
     let part = Value::BitVector {
         states: States::Four,

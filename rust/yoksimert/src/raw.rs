@@ -41,6 +41,20 @@ pub struct FlatDescription {
     pub count: u32,
 }
 
+impl FlatDescription {
+    /// These numbers, be they a description or not.
+    #[must_use]
+    #[inline]
+    pub const fn new(kind: u32, width: u32, set: u32, count: u32) -> Self {
+        Self {
+            kind,
+            width,
+            set,
+            count,
+        }
+    }
+}
+
 /// The answer of Fresh and of Derive.
 #[repr(C)]
 #[derive(Clone, Copy, PartialEq, Eq, Debug)]

@@ -30,12 +30,7 @@ impl FixedWidthEncoding {
             Self::Real => (1, 0, 0),
             Self::BitVector { max_states, width } => (2, width, u32::from(max_states.mark())),
         };
-        FlatDescription {
-            kind,
-            width,
-            set,
-            count,
-        }
+        FlatDescription::new(kind, width, set, count)
     }
 
     /// Of a description that the archive gave with an accepted call.

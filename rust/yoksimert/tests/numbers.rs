@@ -21,12 +21,7 @@ fn each(mut take: impl FnMut(FlatDescription)) {
         for width in WIDTHS {
             for set in SETS {
                 for count in COUNTS {
-                    take(FlatDescription {
-                        kind,
-                        width,
-                        set,
-                        count,
-                    });
+                    take(FlatDescription::new(kind, width, set, count));
                 }
             }
         }

@@ -20,7 +20,7 @@ const REALS: &[u64] = &[
 
 impl Generator {
     /// A change for a record. `last` is the string of the last entry, which often comes again.
-    pub(super) fn change(&mut self, encoding: Encoding, last: Option<&[u8]>) -> Change {
+    pub(crate) fn change(&mut self, encoding: Encoding, last: Option<&[u8]>) -> Change {
         if self.random.once_in(24) {
             return match encoding {
                 Encoding::Real => Change::Text(self.levels(8)),
@@ -49,7 +49,7 @@ impl Generator {
     }
 
     /// A string of the width: the last one again, perhaps in other case, or new levels.
-    pub(super) fn string(&mut self, width: u32, last: Option<&[u8]>) -> Vec<u8> {
+    pub(crate) fn string(&mut self, width: u32, last: Option<&[u8]>) -> Vec<u8> {
         let again = self.random.once_in(4);
         let string = match last {
             Some(last) if again && last.len() == width as usize => last.to_vec(),
@@ -104,7 +104,7 @@ impl Generator {
     }
 
     /// An index for the next change: mostly rising or equal, sometimes falling, now and then at an end of the range.
-    pub(super) fn next_index(&mut self, last: Option<u32>) -> u32 {
+    pub(crate) fn next_index(&mut self, last: Option<u32>) -> u32 {
         let low = last.unwrap_or(0);
         match self.random.below(20) {
             0 if self.random.once_in(8) => u32::MAX,

@@ -1,22 +1,32 @@
-//! Generated calls. The same calls can be made through any implementation: a receiver takes them one by one.
+//! Generated calls. A receiver is shown them one by one.
 
 mod changes;
-mod derivations;
-mod lists;
-mod looks;
 mod records;
+mod runs;
 
-use crate::call::{Call, Outcome};
+pub(crate) use records::added;
+
+use crate::operation::{Asked, Case, Operation};
+use crate::operations::OPERATIONS;
 use crate::random::Random;
 use oracle::Fed;
 use reference::Used;
 
-/// Takes the calls. The outcomes that it hands back decide how a run goes on.
+/// Is shown the calls.
 pub trait Receiver {
-    fn call(&mut self, call: &Call) -> Outcome;
+    fn take(&mut self, case: &dyn Case);
 
     /// A run of bit-vector changes has ended: its width, what it was fed, and the record that it left.
     fn run(&mut self, _width: u32, _fed: &[Fed], _left: &Used) {}
+}
+
+impl dyn Receiver + '_ {
+    /// Makes a call by the oracle and shows it. The outcome decides how a run goes on.
+    pub fn call<O: Operation>(&mut self, call: O) -> Asked<O> {
+        let asked = Asked::new(call);
+        self.take(&asked);
+        asked
+    }
 }
 
 /// How large the calls grow.
@@ -32,7 +42,7 @@ pub enum Size {
 const LONG_LIST_EVERY: usize = 4_000;
 
 pub struct Generator {
-    random: Random,
+    pub(crate) random: Random,
     size: Size,
 }
 
@@ -44,8 +54,19 @@ impl Generator {
         }
     }
 
-    /// A handful of calls that belong together.
+    /// A generator that draws on from here without moving this one on.
+    pub fn aside(&self) -> Self {
+        Self {
+            random: self.random.clone(),
+            size: self.size,
+        }
+    }
+
+    /// A handful of calls that belong together, and beside them what each operation has apart.
     pub fn scenario(&mut self, to: &mut dyn Receiver) {
+        for operation in OPERATIONS {
+            (operation.ask_aside)(&mut self.aside(), to);
+        }
         if self.size == Size::Full && self.random.once_in(LONG_LIST_EVERY) {
             return self.long_list(to);
         }
@@ -59,7 +80,7 @@ impl Generator {
     }
 
     /// Widths of every class that document 01's layout knows, small ones most often.
-    fn width(&mut self) -> u32 {
+    pub(crate) fn width(&mut self) -> u32 {
         let width = match (self.random.below(200), self.size) {
             (0, _) => self.random.pick(&[4_095, 4_096]),
             (1..=4, _) | (5..=24, Size::Full) => {

@@ -1,10 +1,8 @@
 //! A varied choice of calls for the stored answers.
 
-use crate::call::{Call, Outcome};
 use crate::generate::{Generator, Receiver, Size};
-use crate::reference_run::{Verdict, verdict};
-use crate::stored::{line, number};
-use crate::{domain, rows};
+use crate::operation::Case;
+use crate::{operations, rows};
 use std::collections::{BTreeMap, HashSet};
 
 /// So many scenarios in a row without a new line end the choice.
@@ -42,28 +40,15 @@ struct Keeper {
 }
 
 impl Keeper {
-    /// How many calls of an operation with an outcome of this number are kept.
-    fn share(&self, operation: &str, number: u8) -> usize {
-        match (operation, number) {
-            ("add", 0) => self.count / 4,
-            ("derive", 0) => self.count / 16,
-            ("left" | "right", 0) => self.count / 50,
-            ("left" | "right", _) => self.count / 200,
-            (_, 0) => self.count / 20,
-            _ => self.count / 100,
-        }
-    }
-
-    fn keep(&mut self, call: &Call, outcome: &Outcome, judge: char) {
-        let (operation, number) = (call.operation(), number(outcome));
-        let line = line(call, outcome);
+    fn keep(&mut self, case: &dyn Case, judge: char) {
+        let (operation, line) = (case.name(), case.line());
         let (kept, share) = if line.len() > LONG {
             (self.long.entry(operation).or_default(), LONG_LINES)
         } else {
-            let share = self.share(operation, number);
+            let alike = (operation, case.number(), judge);
             (
-                self.kept.entry((operation, number, judge)).or_default(),
-                share,
+                self.kept.entry(alike).or_default(),
+                self.count / case.share(),
             )
         };
         if *kept < share && line.len() <= LONGEST && self.seen.insert(line.clone()) {
@@ -78,7 +63,7 @@ impl Keeper {
             return Err(format!("wellen and the oracle disagree: {disagreement}"));
         }
         let is_kept = |number: &u8| self.kept.keys().any(|(_, kept, _)| kept == number);
-        match (1..=15).find(|number| !is_kept(number)) {
+        match operations::numbers().iter().find(|number| !is_kept(number)) {
             Some(number) => Err(format!("no call was refused with {number}: raise --count")),
             None => Ok(self.lines),
         }
@@ -86,19 +71,10 @@ impl Keeper {
 }
 
 impl Receiver for Keeper {
-    fn call(&mut self, call: &Call) -> Outcome {
-        let outcome = call.by_oracle();
-        let mut judge = 'd';
-        if domain::holds(call) {
-            let verdict = verdict(call);
-            if !verdict.agrees(call, &outcome) {
-                self.disagreement = Some(format!("{call:?}"));
-            }
-            if !matches!(verdict, Verdict::Beyond(_)) {
-                judge = 'w';
-            }
+    fn take(&mut self, case: &dyn Case) {
+        match case.judge() {
+            Some(judge) => self.keep(case, judge),
+            None => self.disagreement = Some(case.line()),
         }
-        self.keep(call, &outcome, judge);
-        outcome
     }
 }

@@ -3,22 +3,49 @@
 #[cfg(wellen)]
 pub mod choose;
 pub mod equations;
-mod format;
-mod parse;
+mod fields;
+mod reader;
+pub mod terms;
 
-pub use format::line;
-pub use parse::parse;
+pub use equations::Module;
+pub use fields::Fields;
+pub use reader::Reader;
 
-use crate::call::Outcome;
-use oracle::Refusal;
+use crate::operation::{Case, Operation, Outcome};
+use crate::operations::OPERATIONS;
 
-/// The number of a line's refusal, 0 for none.
-pub fn number(outcome: &Outcome) -> u8 {
-    outcome
-        .answer
-        .as_ref()
-        .err()
-        .map_or(0, |Refusal(number)| *number)
+/// The line without its first field and its end.
+pub fn line<O: Operation>(call: &O, outcome: &Outcome<O::Answer>) -> String {
+    let mut out = Fields::default();
+    out.push(call.name());
+    call.put(&mut out);
+    out.push("=");
+    out.push(outcome.number());
+    call.put_outcome(outcome, &mut out);
+    out.0
+}
+
+/// The call of a line, from the operation to `=`, with the oracle's outcome.
+pub fn parse(text: &str) -> Result<Box<dyn Case>, String> {
+    let mut fields = Reader::new(text);
+    let name = fields.field()?.to_string();
+    let operation = OPERATIONS
+        .iter()
+        .find(|operation| operation.names.contains(&name.as_str()))
+        .ok_or_else(|| format!("no such operation: {name:?}"))?;
+    let case = (operation.parse)(&name, &mut fields)?;
+    fields.end()?;
+    Ok(case)
+}
+
+/// A stored line as its call, with the oracle's outcome, and the text behind its judge.
+fn read(text: &str) -> Result<(Box<dyn Case>, &str), String> {
+    let (judge, stored) = text.split_once(' ').ok_or("a line of one field")?;
+    if !["w", "d"].contains(&judge) {
+        return Err(format!("no such judge: {judge:?}"));
+    }
+    let (call, _) = stored.split_once(" = ").ok_or("no = between spaces")?;
+    Ok((parse(call)?, stored))
 }
 
 /// Puts the oracle to every line that is no comment; how many there were.
@@ -37,13 +64,8 @@ pub fn replay(text: &str) -> Result<usize, String> {
 }
 
 fn replay_line(text: &str) -> Result<(), String> {
-    let (judge, stored) = text.split_once(' ').ok_or("a line of one field")?;
-    if !["w", "d"].contains(&judge) {
-        return Err(format!("no such judge: {judge:?}"));
-    }
-    let (call, _) = stored.split_once(" = ").ok_or("no = between spaces")?;
-    let call = parse(call)?;
-    let replayed = line(&call, &call.by_oracle());
+    let (case, stored) = read(text)?;
+    let replayed = case.line();
     if replayed == stored {
         Ok(())
     } else {

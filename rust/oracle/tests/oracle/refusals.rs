@@ -19,10 +19,7 @@ fn spoilt_bytes() -> Vec<Recorder> {
         record.byte_start += 1;
         record
     };
-    let event = Description {
-        encoding: Encoding::Event,
-        count: 0,
-    };
+    let event = Description::empty(Encoding::Event);
     let mut far = Recorder::with(bit_vector(1, States::Two, 1), &[0], &[0]);
     far.byte_start = usize::MAX;
     vec![
@@ -30,14 +27,7 @@ fn spoilt_bytes() -> Vec<Recorder> {
         Recorder::with(bit_vector(4_097, States::Two, 0), &[], &[]),
         Recorder::with(bit_vector(u32::MAX, States::Nine, u32::MAX), &[], &[]),
         Recorder::with(bit_vector(4, States::Four, 1), &[0], &[0]),
-        Recorder::with(
-            Description {
-                count: 1,
-                ..fresh_real()
-            },
-            &[0; 7],
-            &[0],
-        ),
+        Recorder::with(Description::of(Encoding::Real, &[0]), &[0; 7], &[0]),
         past_the_end(bit_vector(1, States::Two, 0), &[]),
         past_the_end(event, &[]),
         past_the_end(fresh_real(), &[]),
@@ -49,10 +39,7 @@ fn spoilt_bytes() -> Vec<Recorder> {
 fn spoilt_indices() -> Vec<Recorder> {
     let mut far = Recorder::with(bit_vector(1, States::Two, 0), &[], &[]);
     far.index_start = usize::MAX;
-    let event = Description {
-        encoding: Encoding::Event,
-        count: 1,
-    };
+    let event = Description::counting(Encoding::Event, 1);
     vec![
         Recorder::with(bit_vector(1, States::Two, 1), &[0], &[]),
         Recorder::with(event, &[], &[]),
@@ -62,12 +49,8 @@ fn spoilt_indices() -> Vec<Recorder> {
 
 /// An event record of one entry above the maximum, over slices that hold it.
 fn above_the_maximum() -> Recorder {
-    let count = MAXIMUM + 1;
-    let description = Description {
-        encoding: Encoding::Event,
-        count,
-    };
-    Recorder::with(description, &[], &vec![0; count as usize])
+    let indices = vec![0; MAXIMUM as usize + 1];
+    Recorder::with(Description::of(Encoding::Event, &indices), &[], &indices)
 }
 
 fn good() -> Recorder {
@@ -166,12 +149,8 @@ fn add_a_change_refuses_7_for_each_slice() {
 
 #[test]
 fn add_a_change_refuses_7_above_the_maximum() {
-    let encoding = Encoding::Event;
-    let full = Description {
-        encoding,
-        count: MAXIMUM - 1,
-    };
     let indices = vec![4; MAXIMUM as usize - 1];
+    let full = Description::of(Encoding::Event, &indices);
     let mut record = Recorder::with(full, &[], &indices).with_room(0, 2);
     assert_eq!(record.add(4, &string("")), Ok(()));
     assert_eq!(record.description.count, MAXIMUM);

@@ -18,8 +18,7 @@ pub fn real(value: f64) -> Change {
 }
 
 pub fn bit_vector(width: u32, max_states: States, count: u32) -> Description {
-    let encoding = Encoding::BitVector { width, max_states };
-    Description { encoding, count }
+    Description::counting(Encoding::BitVector { width, max_states }, count)
 }
 
 /// The bytes of an entry: as many as hold the levels and, above set Two, a mark of two bits.

@@ -134,12 +134,7 @@ fn one_bit() -> (FlatDerivation, [u32; 8], [u64; 64]) {
 
 fn input(kind: u32, byte_start: usize, index_start: usize) -> FlatInput {
     FlatInput {
-        description: FlatDescription {
-            kind,
-            width: 1,
-            set: 0,
-            count: 1,
-        },
+        description: FlatDescription::new(kind, 1, 0, 1),
         byte_start,
         index_start,
     }

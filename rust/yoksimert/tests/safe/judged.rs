@@ -19,10 +19,7 @@ pub fn description(signal: &Signal) -> oracle::Description {
             max_states: states(max_states),
         },
     };
-    oracle::Description {
-        encoding,
-        count: signal.time_indices().len() as u32,
-    }
+    oracle::Description::of(encoding, signal.time_indices())
 }
 
 pub fn record(signal: &Signal) -> oracle::Record<'_> {

@@ -1,0 +1,26 @@
+use crate::numbers::{accepted, encode};
+use oracle::{Record, Refusal};
+use yoksimert::raw::{self, FlatRecord};
+
+/// Whether both lists of index and value agree.
+///
+/// # Errors
+/// 2 for the first record, then for the second; 9 and 10 in each pair up to the first difference.
+pub fn compare(a: &Record, b: &Record) -> Result<bool, Refusal> {
+    let answer = raw::compare(flat(a), flat(b));
+    if answer.number != 0 {
+        assert!(!answer.equal, "refused, and equal");
+    }
+    accepted(answer.number)?;
+    Ok(answer.equal)
+}
+
+fn flat<'a>(record: &Record<'a>) -> FlatRecord<'a> {
+    FlatRecord {
+        description: encode(record.description),
+        bytes: record.bytes,
+        byte_start: record.byte_start,
+        indices: record.indices,
+        index_start: record.index_start,
+    }
+}

@@ -1,0 +1,26 @@
+use crate::numbers::accepted;
+use oracle::{Offset, Refusal};
+use yoksimert::raw;
+
+/// Finds the entries of the greatest index not above the sought one.
+///
+/// # Errors
+/// 2, 11.
+pub fn look_up(indices: &[u32], sought: u32) -> Result<Option<Offset>, Refusal> {
+    let answer = raw::look_up(indices, sought);
+    if !answer.found {
+        let rest = (answer.start, answer.elements, answer.time_match);
+        assert_eq!(rest, (0, 0, false), "nothing found, and a place");
+    }
+    if !(answer.found && answer.has_next) {
+        let rest = (answer.has_next, answer.next_index);
+        assert_eq!(rest, (false, 0), "no next index, and one");
+    }
+    accepted(answer.number)?;
+    Ok(answer.found.then_some(Offset {
+        start: answer.start,
+        elements: answer.elements,
+        time_match: answer.time_match,
+        next_index: answer.has_next.then_some(answer.next_index),
+    }))
+}

@@ -1,0 +1,19 @@
+//! One file for each operation.
+
+mod add_change;
+mod add_piece;
+mod compare;
+mod derive;
+mod fresh;
+mod look_up;
+mod read;
+mod text;
+
+pub use add_change::add_change;
+pub use add_piece::add_piece;
+pub use compare::compare;
+pub use derive::{MAX_INPUTS, derive};
+pub use fresh::{fresh, fresh_real, recorder_fresh};
+pub use look_up::look_up;
+pub use read::read;
+pub use text::text;

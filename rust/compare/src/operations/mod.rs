@@ -1,0 +1,36 @@
+//! The operations, one file for each.
+
+pub mod add_change;
+pub mod add_piece;
+pub mod compare;
+pub mod derive;
+pub mod fresh;
+pub mod look_up;
+pub mod read;
+pub mod text;
+
+use crate::operation::Listed;
+
+/// All of them; a record is asked what they have for it in this order.
+pub const OPERATIONS: &[Listed] = &[
+    Listed::of::<fresh::Fresh>(),
+    Listed::of::<add_change::AddChange>(),
+    Listed::of::<read::Read>(),
+    Listed::of::<text::Text>(),
+    Listed::of::<look_up::LookUp>(),
+    Listed::of::<compare::Compare>(),
+    Listed::of::<add_piece::AddPiece>(),
+    Listed::of::<derive::Derive>(),
+];
+
+/// Every number that an operation refuses with, once each, rising.
+pub fn numbers() -> Vec<u8> {
+    let mut out: Vec<u8> = OPERATIONS
+        .iter()
+        .flat_map(|operation| operation.numbers)
+        .copied()
+        .collect();
+    out.sort_unstable();
+    out.dedup();
+    out
+}
