@@ -28,7 +28,7 @@ pub fn size_of(description: FlatDescription) -> usize {
     }
 }
 
-fn described(kind: &str) -> FlatDescription {
+fn described(kind: &str, count: u32) -> FlatDescription {
     let (kind, width, set) = match kind {
         "event" => (0, 0, 0),
         "real" => (1, 0, 0),
@@ -37,12 +37,7 @@ fn described(kind: &str) -> FlatDescription {
             (2, number(width.trim_start_matches('w')), mark_of(set))
         }
     };
-    FlatDescription {
-        kind,
-        width,
-        set,
-        count: 0,
-    }
+    FlatDescription::new(kind, width, set, count)
 }
 
 /// `w3 Four: 61 c1 at 0 4`
@@ -52,13 +47,8 @@ pub fn record(text: &str) -> Record {
         Some((bytes, indices)) => (hex(bytes), numbers(indices)),
         None => (Vec::new(), Vec::new()),
     };
-    let count = indices.len() as u32;
-    let description = FlatDescription {
-        count,
-        ..described(kind)
-    };
     Record {
-        description,
+        description: described(kind, indices.len() as u32),
         bytes,
         indices,
     }
