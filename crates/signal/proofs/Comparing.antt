@@ -29,16 +29,16 @@ use Rattle.fst.specs.declared.Encoding.the-variants.{Event, Real, BitVector}
 use Rattle.fst.proofs.Encoding.{the-type}
 use Rattle.fst.specs.declared.Description.{Description}
 use Rattle.fst.specs.declared.Refusal.{Refusal}
-use Rattle.fst.specs.declared.Refusal.the-variants as refusal
 use Rattle.fst.specs.Refusal.{Reply, refused, given, Test, _⇐_, tried, number}
 use Rattle.fst.specs.Record.{Lent, isBad}
+use Rattle.fst.proofs.Refusals.{number-some}
 use Rattle.signal.specs.declared.EqualAnswer.{EqualAnswer}
 use Rattle.signal.specs.declared.EqualAnswer.the-variants as answer
 use Rattle.signal.proofs.EqualAnswer.{the-type as equal-type}
 use Rattle.signal.specs.Compare.{sameValue, agree, walked, compareRecords, equalOf}
 use Rattle.signal.specs.declared.OwnStates.the-variants as own
 use Rattle.signal.specs.Decode.{Indexed, entryAt, markIn, setIn, levelPart, levelsIn, hasBadMark, hasBadCode, textIn, codesAt}
-use Rattle.signal.specs.Parts.{ownStates, Whole, badNumber, Sound, pairOf}
+use Rattle.signal.specs.Parts.{ownStates, Whole, badNumber, Valid, pairOf}
 use Rattle.signal.proofs.Decoding.{mark-by, codes-length}
 use Rattle.signal.proofs.Reading.{Owned, owned, bad-told}
 use Rattle.signal.proofs.Entries.{Has, entryNumber, rest, rest-more, rest-end}
@@ -144,15 +144,15 @@ module _ {e : Encoding} {w : ℕ} {M : States} (q : e ≡ BitVector w M) where
     unfolding badNumber
     bad-no-code h = rw (q, o .sound, sym codes-are ∙ h)
 
--- ---- two sound entries
+-- ---- two valid entries
 
-pub sound-vector : {e : Encoding} {w : ℕ} {M : States} {v : List ℕ} → e ≡ BitVector w M → Sound e v → Sound (BitVector w M) v
-sound-vector q h = rw q at h
+pub valid-vector : {e : Encoding} {w : ℕ} {M : States} {v : List ℕ} → e ≡ BitVector w M → Valid e v → Valid (BitVector w M) v
+valid-vector q h = rw q at h
 
 -- the own set, as it is found by the mark of the largest set
-pub sound-owned : {w : ℕ} {M : States} {v : List ℕ} {m : ℕ} {S : States} → Sound (BitVector w M) v → m ≡ markOf M → S ≡ setAt (markIn (setAt m) v) → Owned w M v S
+pub valid-owned : {w : ℕ} {M : States} {v : List ℕ} {m : ℕ} {S : States} → Valid (BitVector w M) v → m ≡ markOf M → S ≡ setAt (markIn (setAt m) v) → Owned w M v S
 unfolding ownStates hasBadMark
-sound-owned {w} {M} {v} {m} {S} h d e =
+valid-owned {w} {M} {v} {m} {S} h d e =
     let k = markIn (setAt m) v in
     owned (h .whole) (rw (h .mark, e, ← mark-by M v m k d refl))
 
@@ -175,7 +175,7 @@ module _ {w : ℕ} {M N S R : States} {v u x y : List ℕ} (o : Owned w M v S) (
   same-length m = ap length a ∙ o .levels .long ∙ ap (lenOf w) (mark-inj S R m) ∙ sym (ap length b ∙ q .levels .long)
 
   -- letters differ where codes do
-  pub codes-alike : Sound (BitVector w M) v → Sound (BitVector w N) u → {r : Bool} → r ≡ same (codesAt w S x) (codesAt w R y)
+  pub codes-alike : Valid (BitVector w M) v → Valid (BitVector w N) u → {r : Bool} → r ≡ same (codesAt w S x) (codesAt w R y)
       → r ≡ same (textIn (BitVector w M) v) (textIn (BitVector w N) u)
   codes-alike k l e =
       let cs = levelsIn (BitVector w M) v in
@@ -232,29 +232,12 @@ module _ {e : Encoding} (f : Encoding) (v u : List ℕ) where
 
 -- ---- a pair
 
-number-some : (r : Refusal) → 0 < number r
-number-some refusal.WidthTooLarge = omega arith
-number-some refusal.BadRecord = omega arith
-number-some refusal.WrongKind = omega arith
-number-some refusal.WrongLength = omega arith
-number-some refusal.ForeignCharacter = omega arith
-number-some refusal.IndexBelowLast = omega arith
-number-some refusal.NoRoom = omega arith
-number-some refusal.NoSuchEntry = omega arith
-number-some refusal.BadMark = omega arith
-number-some refusal.BadCode = omega arith
-number-some refusal.IndexFalls = omega arith
-number-some refusal.BadRange = omega arith
-number-some refusal.DerivationFull = omega arith
-number-some refusal.BadDerivation = omega arith
-number-some refusal.LateInput = omega arith
-
 -- an entry that is neither 9 nor 10
-pub sound : {e : Encoding} {v : List ℕ} → Whole e v → 0 ≡ badNumber e v → Sound e v
+pub valid : {e : Encoding} {v : List ℕ} → Whole e v → 0 ≡ badNumber e v → Valid e v
 unfolding badNumber
-sound {e} {v} w h = go (hasBadMark e v) refl (hasBadCode e v) refl h
+valid {e} {v} w h = go (hasBadMark e v) refl (hasBadCode e v) refl h
   where
-    go : (a : Bool) → hasBadMark e v ≡ a → (b : Bool) → hasBadCode e v ≡ b → _≡_ {A = ℕ} 0 (cond a 9 (cond b 10 0)) → Sound e v
+    go : (a : Bool) → hasBadMark e v ≡ a → (b : Bool) → hasBadCode e v ≡ b → _≡_ {A = ℕ} 0 (cond a 9 (cond b 10 0)) → Valid e v
     go true p b q h = absurd (omega arith)
     go false p true q h = absurd (omega arith)
     go false p false q h = record { whole = w; mark = p; code = q }
@@ -274,12 +257,12 @@ pub first-refused : (a b : Encoding) (x y : List ℕ) (i j : ℕ) (r : Refusal) 
 unfolding pairOf
 first-refused a b x y i j r h = first-bad a x (number r) (number-some r) h _ _
 
-module _ {a : Encoding} {x : List ℕ} (p : Sound a x) where
+module _ {a : Encoding} {x : List ℕ} (p : Valid a x) where
   pub second-refused : (b : Encoding) (y : List ℕ) (i j : ℕ) (r : Refusal) → number r ≡ badNumber b y → refused (number r) ≡ pairOf a x i b y j
   unfolding pairOf tried
   second-refused b y i j r h = rw (p .mark, p .code) (first-bad b y (number r) (number-some r) h [] (given (eqb i j && sameValue a x b y)))
 
-  module _ {b : Encoding} {y : List ℕ} (q : Sound b y) {i j : ℕ} where
+  module _ {b : Encoding} {y : List ℕ} (q : Valid b y) {i j : ℕ} where
     pub pair-apart : (i ≡ j → ⊥) → given false ≡ pairOf a x i b y j
     unfolding pairOf tried
     pair-apart n = rw (p .mark, p .code, q .mark, q .code, ne-eqb i j n)

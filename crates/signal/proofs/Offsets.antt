@@ -11,6 +11,7 @@ use borrow.Author.Tests.{lt-ltb, le-ltb, eqb-true, eq-eqb}
 use lib.Dec.{eqb}
 use lib.ListN.{length, getD, drop}
 use Rattle.value.specs.Level.{placeIn}
+use Rattle.value.proofs.Tests.{by-le}
 use Rattle.fst.specs.Refusal.{refused, given, tried}
 use Rattle.fst.specs.Record.{maximum}
 use Rattle.signal.specs.declared.NextIndex.{NextIndex}
@@ -18,7 +19,7 @@ use Rattle.signal.specs.declared.NextIndex.the-variants.{Absent, At}
 use Rattle.signal.specs.declared.DataOffset.{DataOffset}
 use Rattle.signal.specs.Offset.{falls, greatest, runOf, elementsOf, headOf, none, at, placeOf, place, lookUp}
 use Rattle.signal.specs.Search.{Reached}
-use Rattle.signal.proofs.Search.{le-or-lt, rising, greatest-bounds, greatest-stands, place-first, head-at, head-past, Run, run-is}
+use Rattle.signal.proofs.Search.{rising, greatest-bounds, greatest-stands, place-first, head-at, head-past, Carrying, run-is}
 
 -- ---- the definition by cases
 
@@ -78,14 +79,14 @@ pub record Answers (l : List ℕ) (sought : ℕ) (o : DataOffset) : Type 0 where
   pub stands : getD l (o .start) 0 ≡ index
   pub reached : index ≤ sought
   pub greatest : (k : ℕ) → k < length l → getD l k 0 ≤ sought → getD l k 0 ≤ index
-  pub run : Run l index (o .start) n
+  pub run : Carrying l index (o .start) n
   pub elements : o .elements ≡ n % 65536
   pub equal : (o .«time_match» ≡ true) ↔ (index ≡ sought)
   pub next : NextAbove l index (o .«next_index»)
 
 -- behind a run
-next-above : (l : List ℕ) → falls l ≡ false → (i start n : ℕ) → Run l i start n → NextAbove l i (headOf (drop (start + n) l))
-next-above l f i start n r = go (le-or-lt (length l) (start + n))
+next-above : (l : List ℕ) → falls l ≡ false → (i start n : ℕ) → Carrying l i start n → NextAbove l i (headOf (drop (start + n) l))
+next-above l f i start n r = by-le (length l) (start + n) ends goes-on
   where
     upto : (k : ℕ) → k < start + n → getD l k 0 ≤ i
     upto k h =
@@ -97,29 +98,26 @@ next-above l f i start n r = go (le-or-lt (length l) (start + n))
         )
 
     above : start + n < length l → i < getD l (start + n) 0
-    above o = go (le-or-lt (getD l (start + n) 0) i)
-      where
-        go : (getD l (start + n) 0 ≤ i) ⊎ (i < getD l (start + n) 0) → i < getD l (start + n) 0
-        go (inr h) = h
-        go (inl h) =
-            let first = r .carried start (omega arith) (omega (arith, r .some)) in
-            let later = rising l f start (start + n) (omega arith) o in
-            absurd (omega (arith, r .alone (start + n) o (omega arith) .1))
+    above o =
+        by-le (getD l (start + n) 0) i
+        (λ h.
+        let first = r .carried start (omega arith) (omega (arith, r .some)) in
+        let later = rising l f start (start + n) (omega arith) o in
+        absurd (omega (arith, r .alone (start + n) o (omega arith) .1)))
+        (λ h. h)
 
-    least : (k : ℕ) → k < length l → i < getD l k 0 → (start + n ≤ k) ⊎ (k < start + n) → getD l (start + n) 0 ≤ getD l k 0
-    least k h a (inl o) = rising l f (start + n) k o h
-    least k h a (inr o) = absurd (omega (arith, upto k o))
+    ends : length l ≤ start + n → NextAbove l i (headOf (drop (start + n) l))
+    ends o = rw (head-past l (start + n) o) (λ k h. upto k (omega arith))
 
-    go : (length l ≤ start + n) ⊎ (start + n < length l) → NextAbove l i (headOf (drop (start + n) l))
-    go (inl o) = rw (head-past l (start + n) o) (λ k h. upto k (omega arith))
-    go (inr o) =
+    goes-on : start + n < length l → NextAbove l i (headOf (drop (start + n) l))
+    goes-on o =
         rw (head-at l (start + n) o)
         (record {
           above = above o;
           place = start + n;
           within = o;
           stands = refl;
-          least = λ k h a. least k h a (le-or-lt (start + n) k);
+          least = λ k h a. by-le (start + n) k (λ p. rising l f (start + n) k p h) (λ p. absurd (omega (arith, upto k p)));
         })
 
 place-answers : (s : ℕ) (l : List ℕ) → Reached s l → Answers l s (placeOf s l)
@@ -129,7 +127,7 @@ place-answers s l r =
     let i = greatest s l in
     let start = placeIn l i in
     let n = runOf i (drop start l) in
-    let run : Run l i start n = run-is l (r .rises) i (stands .place) (stands .within) (stands .is) in
+    let run : Carrying l i start n = run-is l (r .rises) i (stands .place) (stands .within) (stands .is) in
     record {
       index = i;
       n = n;
@@ -155,22 +153,21 @@ module _ (l : List ℕ) (s : ℕ) (small : length l ≤ maximum) (rises : falls 
 
   -- "The answer is none exactly when the list is empty or its first index exceeds the sought one"
   pub none-exactly : (lookUp l s ≡ given none) ↔ ((length l ≡ 0) ⊎ ((0 < length l) × (s < getD l 0 0)))
-  none-exactly = (λ e. only e (le-or-lt (length l) 0) (le-or-lt (getD l 0 0) s), none-given)
+  none-exactly = (λ e. by-le (length l) 0 (λ h. inl (omega arith)) (λ h. by-le (getD l 0 0) s (λ a. only e h a) (λ a. inr (h, a))), none-given)
     where
-      only : lookUp l s ≡ given none → (length l ≤ 0) ⊎ (0 < length l) → (getD l 0 0 ≤ s) ⊎ (s < getD l 0 0) → (length l ≡ 0) ⊎ ((0 < length l) × (s < getD l 0 0))
-      only e (inl h) o = inl (omega arith)
-      only e (inr h) (inr a) = inr (h, a)
-      only e (inr h) (inl a) = let found = else-given h a in let z : _≡_ {A = ℕ} 0 1 = cc in absurd (omega arith)
+      only : lookUp l s ≡ given none → 0 < length l → getD l 0 0 ≤ s → (length l ≡ 0) ⊎ ((0 < length l) × (s < getD l 0 0))
+      only e h a = let found = else-given h a in let z : _≡_ {A = ℕ} 0 1 = cc in absurd (omega arith)
 
   -- "Else, for the greatest index not above it: start, its first entry; the number of entries from there on that carry the same time index,
   -- modulo 65,536; whether it equals the sought one; the next greater index, or absent"
   pub at-answers : (o : DataOffset) → lookUp l s ≡ given (at o) → Answers l s o
-  at-answers o e = go (le-or-lt (length l) 0) (le-or-lt (getD l 0 0) s)
+  at-answers o e = by-le (length l) 0 (λ h. no (inl (omega arith))) (λ h. by-le (getD l 0 0) s (yes h) (λ a. no (inr (h, a))))
     where
-      go : (length l ≤ 0) ⊎ (0 < length l) → (getD l 0 0 ≤ s) ⊎ (s < getD l 0 0) → Answers l s o
-      go (inl h) a = let none = none-given (inl (omega arith)) in let z : _≡_ {A = ℕ} 0 1 = cc in absurd (omega arith)
-      go (inr h) (inr a) = let none = none-given (inr (h, a)) in let z : _≡_ {A = ℕ} 0 1 = cc in absurd (omega arith)
-      go (inr h) (inl a) =
+      no : (length l ≡ 0) ⊎ ((0 < length l) × (s < getD l 0 0)) → Answers l s o
+      no h = let none = none-given h in let z : _≡_ {A = ℕ} 0 1 = cc in absurd (omega arith)
+
+      yes : 0 < length l → getD l 0 0 ≤ s → Answers l s o
+      yes h a =
           let found = else-given h a in
           let same : o ≡ placeOf s l = cc in
           rw same (place-answers s l (record { rises = rises; some = h; first = a }))

@@ -3,16 +3,17 @@
 -- Assumes nothing.
 use mathlib.Core.Path.{_≡_, refl, sym, ap, ap₂, _∙_}
 use mathlib.Core.Bool.{Bool, true, false, cond, _&&_}
-use mathlib.Core.List.{List, [], _∷_, _++_, map, append-assoc}
+use mathlib.Core.List.{List, [], _∷_, map}
 use mathlib.Core.Logic.{_↔_}
 use Prim.Native.Nat.{ℕ, _*_, _≤_, _<_}
 use native.Mathlib.Nat.{zero-add}
 use native.Mathlib.Omega.{arith}
 use lib.Dec.{T, eqb, eqb→eq, eqb-refl}
-use lib.ListN.{length, getD, length-append, length-map, List·getD-map}
-use lib.Seq.{getD-at}
+use lib.ListN.{length, getD, length-map, List·getD-map}
+use lib.Seq.{ext-getD}
 use borrow.Author.Tests.{le-ltb}
 use Rattle.value.specs.declared.States.{States}
+use Rattle.value.specs.declared.States.the-variants.{Two}
 use Rattle.value.specs.Slice.{part, same, overlay}
 use Rattle.value.specs.Level.{codesOf}
 use Rattle.value.proofs.Slices.{same-sound, same-refl}
@@ -25,18 +26,18 @@ use Rattle.fst.specs.Record.{Lent, Kept, usedSize, keptIn, isBad, isBadBytes}
 use Rattle.runs.specs.All.{All}
 use Rattle.runs.specs.Runs.{Pair, Step, indexOf, entriesOf, laidOut, stepOf, largestOf, historyLaidOut, byValue, Call, Run, freshKept, after, fed, historyOf}
 use Rattle.runs.proofs.All.{all-at}
-use Rattle.runs.proofs.Joined.{length-snoc}
 use Rattle.runs.proofs.Laid.{entryFor, Sound}
 use Rattle.runs.proofs.Laid as laid
 use Rattle.layout.proofs.Entries.{laws}
 use Rattle.runs.proofs.Runs.{steps-sound}
 use Rattle.runs.proofs.Runs as runs
 use Rattle.runs.proofs.Demand3.{run-is-laid-out}
-use Rattle.signal.specs.Decode.{Indexed, entryAt, entriesFrom, entriesIn, setIn, hasBadMark, hasBadCode, textIn}
+use Rattle.signal.specs.Decode.{Indexed, entryAt, entriesIn, setIn, hasBadMark, hasBadCode, textIn}
 use Rattle.signal.specs.Compare.{sameValue, agree, walked, compareRecords}
 use Rattle.signal.specs.Read.{readText}
 use Rattle.signal.specs.Parts.{textStored}
 use Rattle.signal.proofs.Reading.{entry-within, text-on}
+use Rattle.signal.proofs.Entries.{entries-count, entry-is}
 use Rattle.signal.proofs.EntryBack.{set-back, mark-sound, code-sound, text-back}
 
 -- ---- one entry
@@ -136,16 +137,16 @@ module _ (w : ℕ) (pos : 1 ≤ w) where
       }
 
   -- entry k of a list laid out
-  entry-is : (M : States) (l : List Step) (k : ℕ) (d : Step) → k < length l
+  laid-entry : (M : States) (l : List Step) (k : ℕ) (d : Step) → k < length l
       → entryAt ((laidOut w M l) .description) 0 ((laidOut w M l) .bytes) k ≡ entryFor w M (getD l k d)
   unfolding entryAt laidOut
-  entry-is M l k d h =
+  laid-entry M l k d h =
       ap (λ (n : ℕ). part n (entrySize w M) (entriesOf w M l)) (zero-add (k * entrySize w M)) ∙ laid.entry-at w (laws w pos) M l k d h
 
   -- reading entry k of a list laid out gives the own set and the string of step k
   pub read-back : (M : States) (l : List Step) → All (Sound w M) l → (k : ℕ) (d : Step) → k < length l
       → Tells w M (entryAt ((laidOut w M l) .description) 0 ((laidOut w M l) .bytes) k) (getD l k d)
-  read-back M l e k d h = rw (entry-is M l k d h) (entry-tells M (getD l k d) (all-at (Sound w M) l e k d h))
+  read-back M l e k d h = rw (laid-entry M l k d h) (entry-tells M (getD l k d) (all-at (Sound w M) l e k d h))
 
   -- and so does Text, wherever the record stands in its slice
   pub text-laid : (M : States) (l : List Step) → All (Sound w M) l → (k : ℕ) (d : Step) → k < length l → (bytes : List ℕ) (start : ℕ) (out : List ℕ)
@@ -176,22 +177,18 @@ module _ (w : ℕ) (pos : 1 ≤ w) where
   abbrev shown : States → Step → Indexed
   shown M s = record { index = s .index; encoding = BitVector w M; bytes = entryFor w M s }
 
-  entries-from : (M : States) (p l : List Step) → entriesFrom (length p) (laidOut w M (p ++ l)) (map indexOf l) ≡ map (shown M) l
-  unfolding entriesFrom laidOut
-  entries-from M p [] = refl
-  entries-from M p (s ∷ l) =
-      let e = append-assoc p (s ∷ []) l in
-      let n = length-snoc p s in
-      ap₂ (λ (v : List ℕ) (r : List Indexed). record { index = s .index; encoding = (laidOut w M (p ++ (s ∷ l))) .description .encoding; bytes = v } ∷ r)
-      (entry-is M (p ++ (s ∷ l)) (length p) s (before p) ∙ ap (entryFor w M) (getD-at p s l s (length p) refl))
-      (ap₂ (λ (k : ℕ) (r : List Step). entriesFrom k (laidOut w M r) (map indexOf l)) (sym n) (sym e) ∙ entries-from M (p ++ (s ∷ [])) l)
-    where
-      before : (p : List Step) → length p < length (p ++ (s ∷ l))
-      before p = omega (arith, length-append p (s ∷ l))
-
   entries-are : (M : States) (l : List Step) → entriesIn (laidOut w M l) ≡ map (shown M) l
   unfolding laidOut
-  entries-are M l = entries-from M [] l
+  entries-are M l =
+      let r = laidOut w M l in
+      let d : Step = record { index = 0; set = Two; string = [] } in
+      let n : length (entriesIn r) ≡ length l = entries-count r ∙ length-map l indexOf in
+      ext-getD (shown M d) (entriesIn r) (map (shown M) l) (n ∙ sym (length-map l (shown M)))
+      (λ k h.
+      let p : k < length l = rw n at h in
+      entry-is r k (shown M d) (rw (length-map l indexOf) p)
+      ∙ ap₂ (λ (i : ℕ) (v : List ℕ). record { index = i; encoding = BitVector w M; bytes = v }) (List·getD-map indexOf l k d) (laid-entry M l k d p)
+      ∙ sym (List·getD-map (shown M) l k d))
 
   agreeing-steps : (M N : States) (l m : List Step) → All (Sound w M) l → All (Sound w N) m → agreeing (map (shown M) l) (map (shown N) m) ≡ sameSteps l m
   unfolding agreeing sameSteps sameValue

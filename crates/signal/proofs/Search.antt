@@ -3,7 +3,6 @@
 use mathlib.Core.Path.{_≡_, refl, sym, ap, _∙_}
 use mathlib.Core.Bool.{Bool, true, false, cond, _||_}
 use mathlib.Core.List.{List, [], _∷_}
-use mathlib.Core.Logic.{_⊎_, inl, inr}
 use Prim.Native.Nat.{ℕ, zero, suc, _+_, _-_, _*_, _/_, _≤_, _<_, max}
 use native.Mathlib.Nat.{not-suc-le-zero, le-of-suc-le-suc, le-refl, le-antisymm, le-trans}
 use native.Mathlib.Numerals.{add-one}
@@ -13,22 +12,12 @@ use lib.Dec.{eqb, leb, ltb}
 use lib.ListN.{length, getD, drop, length-drop, drop-of-length-le}
 use lib.Seq.{getD-drop, drop-cons, drop-drop}
 use Rattle.value.specs.Level.{placeIn}
+use Rattle.value.proofs.Tests.{or-left, or-right, by-le}
 use Rattle.signal.specs.declared.NextIndex.the-variants.{Absent, At}
 use Rattle.signal.specs.Offset.{falls, greatest, runOf, headOf}
 use Rattle.signal.specs.Search.{Reached, Last}
 
-pub le-or-lt : (a b : ℕ) → (a ≤ b) ⊎ (b < a)
-le-or-lt a b = go (leb a b) refl
-  where
-    go : (t : Bool) → leb a b ≡ t → (a ≤ b) ⊎ (b < a)
-    go true e = inl (leb-true a b e)
-    go false e = inr (leb-false a b e)
-
 -- ---- a list that doesn't fall
-
-neither : (a b : Bool) → (a || b) ≡ false → (a ≡ false) × (b ≡ false)
-neither true b e = let z : _≡_ {A = ℕ} 0 1 = cc in absurd (omega arith)
-neither false b e = (refl, e)
 
 -- its indices are in order
 pub rising : (l : List ℕ) → falls l ≡ false → (i j : ℕ) → i ≤ j → j < length l → getD l i 0 ≤ getD l j 0
@@ -38,10 +27,9 @@ rising (x ∷ l) f zero zero h k = le-refl x
 rising (x ∷ l) f (suc i) zero h k = absurd (not-suc-le-zero h)
 rising (x ∷ []) f i (suc j) h k = absurd (not-suc-le-zero (le-of-suc-le-suc k))
 rising (x ∷ y ∷ l) f zero (suc j) h k =
-    let both = neither (ltb y x) (falls (y ∷ l)) f in
-    le-trans (ltb-false y x (both .0)) (rising (y ∷ l) (both .1) 0 j (omega arith) (le-of-suc-le-suc k))
+    le-trans (ltb-false y x (or-left (ltb y x) (falls (y ∷ l)) f)) (rising (y ∷ l) (or-right (ltb y x) (falls (y ∷ l)) f) 0 j (omega arith) (le-of-suc-le-suc k))
 rising (x ∷ y ∷ l) f (suc i) (suc j) h k =
-    rising (y ∷ l) (neither (ltb y x) (falls (y ∷ l)) f .1) i j (le-of-suc-le-suc h) (le-of-suc-le-suc k)
+    rising (y ∷ l) (or-right (ltb y x) (falls (y ∷ l)) f) i j (le-of-suc-le-suc h) (le-of-suc-le-suc k)
 
 -- a scan of the pairs, from a place on
 falls-suc : (l : List ℕ) (i : ℕ) → suc i < length l → falls (drop i l) ≡ (ltb (getD l (suc i) 0) (getD l i 0) || falls (drop (suc i) l))
@@ -150,33 +138,32 @@ behind s x l e i = record { place = suc (i .place); within = omega (arith, i .wi
 positive-stands : (s : ℕ) (l : List ℕ) → 0 < greatest s l → Stands s l
 unfolding greatest
 positive-stands s [] h = absurd (not-suc-le-zero h)
-positive-stands s (x ∷ l) h = go (leb x s) refl (le-or-lt (greatest s l) x) (λ k. positive-stands s l k)
+positive-stands s (x ∷ l) h = go (leb x s) refl (λ k. positive-stands s l k)
   where
-    go : (b : Bool) → leb x s ≡ b → (greatest s l ≤ x) ⊎ (x < greatest s l) → (0 < greatest s l → Stands s l) → Stands s (x ∷ l)
-    go false e o i =
+    go : (b : Bool) → leb x s ≡ b → (0 < greatest s l → Stands s l) → Stands s (x ∷ l)
+    go false e i =
         let same : greatest s (x ∷ l) ≡ greatest s l = rw e in
         behind s x l same (i (omega arith))
-    go true e (inl o) i =
+    go true e i =
+        by-le (greatest s l) x
+        (λ o.
         let same : greatest s (x ∷ l) ≡ x = rw e (omega arith) in
-        record { place = 0; within = omega arith; is = sym same; reached = omega (arith, leb-true x s e) }
-    go true e (inr o) i =
+        record { place = 0; within = omega arith; is = sym same; reached = omega (arith, leb-true x s e) })
+        (λ o.
         let same : greatest s (x ∷ l) ≡ greatest s l = rw e (omega arith) in
-        behind s x l same (i (omega arith))
+        behind s x l same (i (omega arith)))
 
 pub greatest-stands : (s : ℕ) (l : List ℕ) (k : ℕ) → k < length l → getD l k 0 ≤ s → Stands s l
-greatest-stands s l k h r = go (le-or-lt (greatest s l) 0)
-  where
-    go : (greatest s l ≤ 0) ⊎ (0 < greatest s l) → Stands s l
-    go (inl o) = record { place = k; within = h; is = omega (arith, greatest-bounds s l k h r); reached = omega arith }
-    go (inr o) = positive-stands s l o
+greatest-stands s l k h r =
+    by-le (greatest s l) 0
+    (λ o. record { place = k; within = h; is = omega (arith, greatest-bounds s l k h r); reached = omega arith })
+    (positive-stands s l)
 
 -- it stands at the last place not above the needle
 pub last-greatest : {needle : ℕ} {l : List ℕ} {p : ℕ} → falls l ≡ false → Last needle l p → getD l p 0 ≡ greatest needle l
-last-greatest {needle} {l} {p} f s = greatest-is needle l p (s .within) (s .reached) (λ j h r. go j h r (le-or-lt j p))
-  where
-    go : (j : ℕ) → j < length l → getD l j 0 ≤ needle → (j ≤ p) ⊎ (p < j) → getD l j 0 ≤ getD l p 0
-    go j h r (inl i) = rising l f j p i (s .within)
-    go j h r (inr i) = absurd (omega (arith, s .above j i h))
+last-greatest {needle} {l} {p} f s =
+    greatest-is needle l p (s .within) (s .reached)
+    (λ j h r. by-le j p (λ i. rising l f j p i (s .within)) (λ i. absurd (omega (arith, s .above j i h))))
 
 -- ---- the first place of an index
 
@@ -210,15 +197,12 @@ pub start-first : (l : List ℕ) (i : ℕ) → 0 < length l → getD l 0 0 ≡ i
 start-first l i h e = sym (place-is l i 0 h e (λ k j. absurd (not-suc-le-zero j)))
 
 pub start-behind : {l : List ℕ} {i q : ℕ} → falls l ≡ false → Last (i - 1) l q → 0 < i → (k : ℕ) → k < length l → getD l k 0 ≡ i → q + 1 ≡ placeIn l i
-start-behind {l} {i} {q} f s some k h e = go (le-or-lt k q)
-  where
-    go : (k ≤ q) ⊎ (q < k) → q + 1 ≡ placeIn l i
-    go (inl j) = absurd (omega (arith, rising l f k q j (s .within), s .reached))
-    go (inr j) =
-        let low = s .above (q + 1) (omega arith) (omega arith) in
-        let high = rising l f (q + 1) k (omega arith) h in
-        sym
-        (place-is l i (q + 1) (omega arith) (omega arith) (λ m n d. omega (arith, rising l f m q (omega arith) (s .within), s .reached)))
+start-behind {l} {i} {q} f s some k h e =
+    by-le k q (λ j. absurd (omega (arith, rising l f k q j (s .within), s .reached)))
+    (λ j.
+    let low = s .above (q + 1) (omega arith) (omega arith) in
+    let high = rising l f (q + 1) k (omega arith) h in
+    sym (place-is l i (q + 1) (omega arith) (omega arith) (λ m n d. omega (arith, rising l f m q (omega arith) (s .within), s .reached))))
 
 -- ---- the index at a place
 
@@ -294,7 +278,7 @@ run-stops i (x ∷ l) e = go (eqb i x) refl e (run-stops i l)
     go false q e f = let same : i ≡ x = cc in eqb-false i x q same
 
 -- n entries from a start on carry an index, and no others do
-pub record Run (l : List ℕ) (i start n : ℕ) : Type 0 where
+pub record Carrying (l : List ℕ) (i start n : ℕ) : Type 0 where
   pub some : 0 < n
   pub within : start + n ≤ length l
   pub carried : (k : ℕ) → start ≤ k → k < start + n → getD l k 0 ≡ i
@@ -316,19 +300,20 @@ module _ (l : List ℕ) (f : falls l ≡ false) (i k : ℕ) (h : k < length l) (
       ∙ run-carries i (drop (placeIn l i) l) m (omega arith)
 
   only : (j : ℕ) → j < length l → getD l j 0 ≡ i → (placeIn l i ≤ j) × (j < endOf l i)
-  only j a b = (place-first l i j a b .0, go (le-or-lt (endOf l i) j))
-    where
-      go : (endOf l i ≤ j) ⊎ (j < endOf l i) → j < endOf l i
-      go (inr o) = o
-      go (inl o) =
-          let end = endOf l i in
-          let low = rising l f (placeIn l i) end (omega arith) (omega arith) in
-          let same : getD l end 0 ≡ i = omega (arith, low, rising l f end j o a, first .1) in
-          let stops = run-stops i (drop (placeIn l i) l) in
-          absurd (stops (ap headOf (drop-drop (runOf i (drop (placeIn l i) l)) (placeIn l i) l) ∙ head-at l end (omega arith) ∙ ap At same))
+  only j a b = (
+    place-first l i j a b .0,
+    by-le (endOf l i) j
+        (λ o.
+        let end = endOf l i in
+        let low = rising l f (placeIn l i) end (omega arith) (omega arith) in
+        let same : getD l end 0 ≡ i = omega (arith, low, rising l f end j o a, first .1) in
+        let stops = run-stops i (drop (placeIn l i) l) in
+        absurd (stops (ap headOf (drop-drop (runOf i (drop (placeIn l i) l)) (placeIn l i) l) ∙ head-at l end (omega arith) ∙ ap At same)))
+        (λ o. o),
+  )
 
   -- the run of an index of a list that doesn't fall
-  pub run-is : Run l i (placeIn l i) (runOf i (drop (placeIn l i) l))
+  pub run-is : Carrying l i (placeIn l i) (runOf i (drop (placeIn l i) l))
   run-is =
       record {
         some = omega (arith, only (placeIn l i) (omega (arith, first .0)) (first .1) .1);

@@ -69,7 +69,7 @@ unfoldable pub badNumber : Encoding → List ℕ → ℕ
 badNumber e v = cond (hasBadMark e v) 9 (cond (hasBadCode e v) 10 0)
 
 -- an entry that is neither
-pub record Sound (e : Encoding) (v : List ℕ) : Type 0 where
+pub record Valid (e : Encoding) (v : List ℕ) : Type 0 where
   pub whole : Whole e v
   pub mark : hasBadMark e v ≡ false
   pub code : hasBadCode e v ≡ false

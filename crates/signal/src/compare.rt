@@ -8,11 +8,11 @@ ghost use lib.Ieee.{eq, ofBits, binary64};
 ghost use Rattle.value.specs.Digits.{number};
 ghost use Rattle.value.specs.Slice.{same};
 ghost use Rattle.fst.specs.declared.Encoding.the-variants.{BitVector};
-ghost use Rattle.fst.specs.Record.{isBad};
+ghost use Rattle.fst.specs.Record.{lent, isBad};
 ghost use Rattle.fst.specs.Refusal.{numberOf};
 ghost use Rattle.signal.specs.Decode.{textIn, codesAt};
 ghost use Rattle.signal.specs.Compare.{sameReal, sameValue, compareRecords, equalOf};
-ghost use Rattle.signal.specs.Parts.{Levels, Whole, badNumber, Sound, pairOf};
+ghost use Rattle.signal.specs.Parts.{Levels, Whole, badNumber, Valid, pairOf};
 use crate::EqualAnswer;
 use crate::OwnStates;
 use crate::decode::code_at;
@@ -132,9 +132,9 @@ fn try_entry(encoding: Encoding, entry: &[u8]) -> Verdict
     Verdict::Accepted
 }
 
-// Whether two sound entries of one width have one text. Letters differ where codes do.
+// Whether two valid entries of one width have one text. Letters differ where codes do.
 fn same_text(width: u32, max_states: States, a: &[u8], other_max: States, b: &[u8]) -> bool
-    requires { ⌜ Sound (BitVector width «max_states») (now a) × Sound (BitVector width «other_max») (now b) ⌝ }
+    requires { ⌜ Valid (BitVector width «max_states») (now a) × Valid (BitVector width «other_max») (now b) ⌝ }
     ensures { λ r. ⌜ r ≡ same (textIn (BitVector width «max_states») (now (a .entry))) (textIn (BitVector width «other_max») (now (b .entry))) ⌝ }
 {
     let states = states_in(max_states.mark() as u32, a);
@@ -149,9 +149,9 @@ fn same_text(width: u32, max_states: States, a: &[u8], other_max: States, b: &[u
     same_codes(width, states, levels, others, other_levels)
 }
 
-// Whether two sound entries have one value; those of unlike kind never do.
+// Whether two valid entries have one value; those of unlike kind never do.
 fn same_value(a: Encoding, x: &[u8], b: Encoding, y: &[u8]) -> bool
-    requires { ⌜ Sound a (now x) × Sound b (now y) ⌝ }
+    requires { ⌜ Valid a (now x) × Valid b (now y) ⌝ }
     ensures { λ r. ⌜ r ≡ sameValue a (now (x .entry)) b (now (y .entry)) ⌝ }
 {
     match a {
@@ -225,9 +225,9 @@ fn compare_entries(
     b_indices: &[u32],
     b_index_start: usize,
 ) -> EqualAnswer
-    requires { ⌜ isBad a (record { bytes = now «a_bytes»; byteStart = «a_byte_start»; indices = now «a_indices»; indexStart = «a_index_start» }) ≡ false ⌝ }
-    requires { ⌜ isBad b (record { bytes = now «b_bytes»; byteStart = «b_byte_start»; indices = now «b_indices»; indexStart = «b_index_start» }) ≡ false ⌝ }
-    ensures { λ r. ⌜ equalOf r ≡ compareRecords a (record { bytes = now («a_bytes» .entry); byteStart = «a_byte_start»; indices = now («a_indices» .entry); indexStart = «a_index_start» }) b (record { bytes = now («b_bytes» .entry); byteStart = «b_byte_start»; indices = now («b_indices» .entry); indexStart = «b_index_start» }) ⌝ }
+    requires { ⌜ isBad a (lent (now «a_bytes») «a_byte_start» (now «a_indices») «a_index_start») ≡ false ⌝ }
+    requires { ⌜ isBad b (lent (now «b_bytes») «b_byte_start» (now «b_indices») «b_index_start») ≡ false ⌝ }
+    ensures { λ r. ⌜ equalOf r ≡ compareRecords a (lent (now («a_bytes» .entry)) «a_byte_start» (now («a_indices» .entry)) «a_index_start») b (lent (now («b_bytes» .entry)) «b_byte_start» (now («b_indices» .entry)) «b_index_start») ⌝ }
 {
     let a_encoding = a.encoding;
     let b_encoding = b.encoding;
@@ -264,7 +264,7 @@ pub fn compare_records(
     b_indices: &[u32],
     b_index_start: usize,
 ) -> EqualAnswer
-    ensures { λ r. ⌜ equalOf r ≡ compareRecords a (record { bytes = now («a_bytes» .entry); byteStart = «a_byte_start»; indices = now («a_indices» .entry); indexStart = «a_index_start» }) b (record { bytes = now («b_bytes» .entry); byteStart = «b_byte_start»; indices = now («b_indices» .entry); indexStart = «b_index_start» }) ⌝ }
+    ensures { λ r. ⌜ equalOf r ≡ compareRecords a (lent (now («a_bytes» .entry)) «a_byte_start» (now («a_indices» .entry)) «a_index_start») b (lent (now («b_bytes» .entry)) «b_byte_start» (now («b_indices» .entry)) «b_index_start») ⌝ }
 {
     if is_bad(a, a_bytes, a_byte_start, a_indices, a_index_start) {
         return EqualAnswer::Refused(Refusal::BadRecord);

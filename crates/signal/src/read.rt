@@ -45,7 +45,7 @@ pub fn entry_at<'a>(
     ensures { λ r. ⌜ now r ≡ entryAt description «byte_start» (now (bytes .entry)) entry ⌝ }
 {
     let encoding = description.encoding;
-    let size = size_of(encoding);
+    let size = encoding.size();
     let at = byte_start + entry as usize * size;
     &bytes[at..at + size]
 }

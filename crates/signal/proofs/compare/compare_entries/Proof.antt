@@ -7,7 +7,7 @@ use native.Mathlib.Omega.{arith}
 use denote.Ref.{now}
 use borrow.Author.Needs.{needs}
 use borrow.Author.Tests.{ltb-true, ltb-false}
-use Rattle.fst.specs.Record.{Lent}
+use Rattle.fst.specs.Record.{Lent, lent}
 use Rattle.signal.specs.Compare.{walked, compareRecords, equalOf}
 use Rattle.signal.proofs.Entries.{Has, has-inside, has-whole, has-index, has-few, rest}
 use Rattle.signal.proofs.Comparing.{follow, Walked, walk-starts, step, goes-on, ends, first-longer, second-longer, both-end}
@@ -16,8 +16,8 @@ use Rattle.signal.proofs.compare.compare_entries.Tie as tie
 
 abbrev Inv-loop : tie.InvT-loop
 Inv-loop a a-bytes a-byte-start a-indices a-index-start b b-bytes b-byte-start b-indices b-index-start a-encoding b-encoding k₀ k =
-    let la : Lent = record { bytes = a-bytes; byteStart = a-byte-start; indices = a-indices; indexStart = a-index-start } in
-    let lb : Lent = record { bytes = b-bytes; byteStart = b-byte-start; indices = b-indices; indexStart = b-index-start } in
+    let la : Lent = lent a-bytes a-byte-start a-indices a-index-start in
+    let lb : Lent = lent b-bytes b-byte-start b-indices b-index-start in
     (k ≤ a .count) × (k ≤ b .count) × Walked a la b lb k
 
 abbrev μ-loop : tie.MeasureT-loop
@@ -28,10 +28,10 @@ abbrev start : tie.At-loop Inv-loop μ-loop → tie.Start Inv-loop μ-loop
 start l = l .before .before .before .before .before
 
 abbrev lentA : tie.Start Inv-loop μ-loop → Lent
-lentA s = record { bytes = now (s .args .a-bytes); byteStart = s .args .a-byte-start; indices = now (s .args .a-indices); indexStart = s .args .a-index-start }
+lentA s = lent (now (s .args .a-bytes)) (s .args .a-byte-start) (now (s .args .a-indices)) (s .args .a-index-start)
 
 abbrev lentB : tie.Start Inv-loop μ-loop → Lent
-lentB s = record { bytes = now (s .args .b-bytes); byteStart = s .args .b-byte-start; indices = now (s .args .b-indices); indexStart = s .args .b-index-start }
+lentB s = lent (now (s .args .b-bytes)) (s .args .b-byte-start) (now (s .args .b-indices)) (s .args .b-index-start)
 
 -- both records have an entry k
 abbrev turn : tie.Then2 Inv-loop μ-loop → tie.At-loop Inv-loop μ-loop

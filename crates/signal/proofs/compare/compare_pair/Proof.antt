@@ -2,23 +2,23 @@
 -- Assumes nothing.
 use mathlib.Core.Path.{_≡_, sym, ap, _∙_}
 use denote.Ref.{now}
-use Rattle.signal.proofs.Comparing.{sound, first-refused, second-refused, pair-apart, pair-told}
-use Rattle.signal.specs.Parts.{Sound, pairOf}
+use Rattle.signal.proofs.Comparing.{valid, first-refused, second-refused, pair-apart, pair-told}
+use Rattle.signal.specs.Parts.{Valid, pairOf}
 use borrow.Author.Needs.{needs}
 use Rattle.fst.specs.Refusal.{numberOf, given}
 use Rattle.signal.proofs.compare.compare_pair.Statement.{statement}
 use Rattle.signal.proofs.compare.compare_pair.Tie as tie
 
 -- neither entry is 9 or 10
-first : (c : tie.After-enum-told) → Sound (c .before .before .before .before .before .args .a) (now (c .before .before .before .before .before .args .x))
+first : (c : tie.After-enum-told) → Valid (c .before .before .before .before .before .args .a) (now (c .before .before .before .before .before .args .x))
 first c =
     let t = c .before .before in
-    sound (t .before .before .before .pre .0) (sym (ap numberOf (c .enum-told .given .1)) ∙ t .try-entry .ensures)
+    valid (t .before .before .before .pre .0) (sym (ap numberOf (c .enum-told .given .1)) ∙ t .try-entry .ensures)
 
-second : (c : tie.After-enum-told2) → Sound (c .before .before .before .before .before .before .before .before .args .b) (now (c .before .before .before .before .before .before .before .before .args .y))
+second : (c : tie.After-enum-told2) → Valid (c .before .before .before .before .before .before .before .before .args .b) (now (c .before .before .before .before .before .before .before .before .args .y))
 second c =
     let t = c .before .before in
-    sound (t .before .before .before .before .before .before .pre .1) (sym (ap numberOf (c .enum-told2 .given .1)) ∙ t .try-entry2 .ensures)
+    valid (t .before .before .before .before .before .before .pre .1) (sym (ap numberOf (c .enum-told2 .given .1)) ∙ t .try-entry2 .ensures)
 
 try-entry-requires : tie.Need-try-entry-requires
 try-entry-requires c κs = search needs

@@ -4,7 +4,7 @@ use mathlib.Core.Path.{_≡_, sym, _∙_}
 use Rattle.signal.specs.Decode.{levelPart}
 use denote.Ref.{now}
 use Rattle.signal.proofs.Reading.{some, Owned}
-use Rattle.signal.proofs.Comparing.{sound-owned, bytes-alike, same-length, codes-alike}
+use Rattle.signal.proofs.Comparing.{valid-owned, bytes-alike, same-length, codes-alike}
 use borrow.Author.Needs.{needs}
 use Rattle.value.specs.Level.{markOf}
 use Rattle.fst.specs.declared.Encoding.the-variants.{BitVector}
@@ -20,12 +20,12 @@ own-a : (c : tie.After-states-in2)
     Owned (a .width) (a .max-states) (now (a .a)) (c .before .before .states-in .result)
 own-a c =
     let m = c .before .before in
-    sound-owned (m .before .before .before .before .pre .0) (m .before .mark .ensures) (m .states-in .ensures)
+    valid-owned (m .before .before .before .before .pre .0) (m .before .mark .ensures) (m .states-in .ensures)
 
 own-b : (c : tie.After-states-in2)
     → let a = c .before .before .before .before .before .before .args in
     Owned (a .width) (a .other-max) (now (a .b)) (c .states-in2 .result)
-own-b c = sound-owned (c .before .before .before .before .before .before .pre .1) (c .before .mark2 .ensures) (c .states-in2 .ensures)
+own-b c = valid-owned (c .before .before .before .before .before .before .pre .1) (c .before .mark2 .ensures) (c .states-in2 .ensures)
 
 part-a : (c : tie.After-level-part2)
     → let a = start c .args in

@@ -1,7 +1,7 @@
 -- `signal::compare::same_value` meets its contract.
 -- Assumes nothing.
 use mathlib.Core.Path.{sym, ap₂, _∙_}
-use Rattle.signal.proofs.Comparing.{sound-vector, unlike-event, unlike-real, unlike-vector, unlike-width, like-vector}
+use Rattle.signal.proofs.Comparing.{valid-vector, unlike-event, unlike-real, unlike-vector, unlike-width, like-vector}
 use denote.Ref.{now}
 use Rattle.fst.specs.declared.Encoding.{Encoding}
 use Rattle.signal.specs.Compare.{sameValue}
@@ -49,7 +49,7 @@ same-text-requires c κs =
     let b = c .before .before in
     let k = b .before .before .before in
     let s = k .before .before .before .before in
-    (sound-vector (k .a .given .1) (s .pre .0), rw (← c .if1 .left) at (sound-vector (b .b .given .1) (s .pre .1)))
+    (valid-vector (k .a .given .1) (s .pre .0), rw (← c .if1 .left) at (valid-vector (b .b .given .1) (s .pre .1)))
 
 returns-5 : tie.Need-returns-5
 unfolding sameValue

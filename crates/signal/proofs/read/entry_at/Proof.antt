@@ -13,11 +13,11 @@ use Rattle.signal.proofs.read.entry_at.Statement.{statement}
 use Rattle.signal.proofs.read.entry_at.Tie as tie
 
 -- the entry lies within the bytes
-placed : (c : tie.After-size-of) → c .before .before .args .byte-start + (c .before .before .args .entry * c .size-of .result + c .size-of .result) ≤ length (now (c .before .before .args .bytes))
-placed c = rw (c .size-of .ensures) (c .before .before .pre)
+placed : (c : tie.After-size) → c .before .before .args .byte-start + (c .before .before .args .entry * c .size .result + c .size .result) ≤ length (now (c .before .before .args .bytes))
+placed c = rw (c .size .ensures) (c .before .before .pre)
 
-size-of-requires : tie.Need-size-of-requires
-size-of-requires c κs = search needs
+size-requires : tie.Need-size-requires
+size-requires c κs = search needs
 
 mul-at : tie.Need-mul-at
 mul-at c = omega (arith, placed c)
@@ -42,15 +42,15 @@ unfolding entryAt part
 returns c =
     let b = c .before in
     let a = b .before .before .args in
-    let z = b .size-of .result in
+    let z = b .size .result in
     let at = a .byte-start + a .entry * z in
-    ap (λ (n : ℕ). take n (drop at (now (a .bytes)))) (add-sub-cancel-left at z) ∙ ap (λ (n : ℕ). take n (drop (a .byte-start + a .entry * n) (now (a .bytes)))) (b .size-of .ensures)
+    ap (λ (n : ℕ). take n (drop at (now (a .bytes)))) (add-sub-cancel-left at z) ∙ ap (λ (n : ℕ). take n (drop (a .byte-start + a .entry * n) (now (a .bytes)))) (b .size .ensures)
 
 pub entry-at-spec : {M : Type 1} → statement M
 entry-at-spec =
     tie.close
     (tie.spec
-    size-of-requires
+    size-requires
     mul-at
     add-at
     add-result
