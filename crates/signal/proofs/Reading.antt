@@ -13,6 +13,7 @@ use lib.Dec.{ltb, leb, leb→le}
 use lib.ListN.{length, drop, length-drop}
 use borrow.Author.Tests.{ltb-false, lt-ltb, le-ltb, le-leb, lt-leb}
 use Rattle.value.specs.declared.States.{States}
+use Rattle.value.specs.declared.States.the-variants.{Two}
 use Rattle.value.specs.Slice.{part, overlay}
 use Rattle.value.specs.Level.{markOf, lenOf, setAt, hasNoCode, textOf}
 use Rattle.value.proofs.Tests.{to-T, and-left, and-right}
@@ -34,7 +35,7 @@ use Rattle.signal.specs.declared.EntryAnswer.the-variants as answer
 use Rattle.signal.specs.Decode.{entryAt, markIn, setIn, levelPart, levelsIn, hasBadMark, hasBadCode, codesAt}
 use Rattle.fst.specs.declared.Refusal.the-variants.{BadMark}
 use Rattle.signal.specs.Read.{Entry, kindOf, entryIn, readEntry, partOf, replyOf, hasNoText, readText}
-use Rattle.signal.specs.Parts.{ownStates, Levels, Whole, Inside, answerIn, partIn, textStored}
+use Rattle.signal.specs.Parts.{ownStates, ownIn, Levels, Whole, Inside, answerIn, partIn, textStored}
 
 -- ---- one entry of a bit vector
 
@@ -50,6 +51,39 @@ pub record Owned (w : ℕ) (M : States) (v : List ℕ) (S : States) : Type 0 whe
   pub levels : Levels w S (levelPart (BitVector w M) v)
   pub codes : codesAt w S (levelPart (BitVector w M) v) ≡ levelsIn (BitVector w M) v
 
+module _ (e : Encoding) (v : List ℕ) where
+  pub own-plain : OneOf (0 ∷ 1 ∷ []) (tagOf the-type e) → own.Own Two ≡ ownIn e v
+  unfolding ownIn hasBadMark setIn
+  own-plain o = go e o
+    where
+      go : (e : Encoding) → OneOf (0 ∷ 1 ∷ []) (tagOf the-type e) → own.Own Two ≡ ownIn e v
+      go Event o = refl
+      go Real o = refl
+      go (BitVector w M) o = absurd (⊎-elim (λ z. omega arith) (λ z. omega arith) o)
+
+  pub own-vector : {w : ℕ} {M : States} → e ≡ BitVector w M → ownStates M v ≡ ownIn e v
+  unfolding ownIn ownStates hasBadMark setIn
+  own-vector q = rw q
+
+  pub bad-own : ownIn e v ≡ own.Bad → hasBadMark e v ≡ true
+  unfolding ownIn
+  bad-own h = go (hasBadMark e v) h
+    where
+      go : (b : Bool) → cond b own.Bad (own.Own (setIn e v)) ≡ own.Bad → b ≡ true
+      go true h = refl
+      go false h = let z : _≡_ {A = ℕ} 0 1 = cc in absurd (omega arith)
+
+  pub own-set : {S : States} → ownIn e v ≡ own.Own S → (hasBadMark e v ≡ false) × (setIn e v ≡ S)
+  unfolding ownIn
+  own-set {S} h = go (hasBadMark e v) h
+    where
+      go : (b : Bool) → cond b own.Bad (own.Own (setIn e v)) ≡ own.Own S → (b ≡ false) × (setIn e v ≡ S)
+      go true h = let z : _≡_ {A = ℕ} 0 1 = cc in absurd (omega arith)
+      go false h = (refl, cc)
+
+pub bad-told : (w : ℕ) (M : States) (v : List ℕ) → ownStates M v ≡ own.Bad → hasBadMark (BitVector w M) v ≡ true
+bad-told w M v h = bad-own (BitVector w M) v (sym (own-vector (BitVector w M) v refl) ∙ h)
+
 module _ {w : ℕ} {M : States} {v : List ℕ} (h : Whole (BitVector w M) v) where
   wide : (1 ≤ w) × (w ≤ 4096)
   unfolding widthStands
@@ -61,35 +95,33 @@ module _ {w : ℕ} {M : States} {v : List ℕ} (h : Whole (BitVector w M) v) whe
   some = rw (h .long) (size-pos w (wide .0) M)
 
   pub owned : {S : States} → ownStates M v ≡ own.Own S → Owned w M v S
-  unfolding ownStates hasBadMark setIn levelPart levelsIn
-  owned {S} e = go (ltb (markOf M) (markIn M v)) refl e
-    where
-      go : (b : Bool) → ltb (markOf M) (markIn M v) ≡ b → cond b own.Bad (own.Own (setAt (markIn M v))) ≡ own.Own S → Owned w M v S
-      go true t e = let z : _≡_ {A = ℕ} 0 1 = cc in absurd (omega arith)
-      go false t e =
-          let s : setAt (markIn M v) ≡ S = cc in
-          let m : markIn M v ≤ markOf M = ltb-false _ _ t in
-          let k : markOf S ≡ markIn M v = ap markOf (sym s) ∙ mark-set (markIn M v) (omega (arith, mark-small M)) in
-          let f : lenOf w S ≤ entrySize w M = len-fits w S M (omega arith) in
-          let l = h .long in
-          record {
-            sound = t;
-            set = s;
-            within = omega arith;
-            part = rw (s, h .long);
-            levels = record { short = wide .1; long = rw (s, length-drop) (omega arith) };
-            codes = rw s;
-          }
-
-pub bad-told : (w : ℕ) (M : States) (v : List ℕ) → ownStates M v ≡ own.Bad → hasBadMark (BitVector w M) v ≡ true
-unfolding ownStates hasBadMark
-bad-told w M v e = go (ltb (markOf M) (markIn M v)) e
-  where
-    go : (b : Bool) → cond b own.Bad (own.Own (setAt (markIn M v))) ≡ own.Bad → b ≡ true
-    go true e = refl
-    go false e = let z : _≡_ {A = ℕ} 0 1 = cc in absurd (omega arith)
+  unfolding hasBadMark setIn levelPart levelsIn
+  owned {S} e =
+      let t = own-set (BitVector w M) v (sym (own-vector (BitVector w M) v refl) ∙ e) in
+      let m : markIn M v ≤ markOf M = ltb-false _ _ (t .0) in
+      let k : markOf S ≡ markIn M v = ap markOf (sym (t .1)) ∙ mark-set (markIn M v) (omega (arith, mark-small M)) in
+      let f : lenOf w S ≤ entrySize w M = len-fits w S M (omega arith) in
+      let l = h .long in
+      record {
+        sound = t .0;
+        set = t .1;
+        within = omega arith;
+        part = rw (t .1, h .long);
+        levels = record { short = wide .1; long = rw (t .1, length-drop) (omega arith) };
+        codes = rw (t .1);
+      }
 
 -- ---- Read
+
+pub part-plain : (e : Encoding) (v : List ℕ) → OneOf (0 ∷ 1 ∷ []) (tagOf the-type e) → v ≡ partIn e v
+unfolding partIn hasBadMark levelPart
+part-plain Event v o = refl
+part-plain Real v o = refl
+part-plain (BitVector w M) v o = absurd (⊎-elim (λ z. omega arith) (λ z. omega arith) o)
+
+pub part-vector : {e : Encoding} {w : ℕ} {M S : States} {v : List ℕ} → e ≡ BitVector w M → Owned w M v S → levelPart (BitVector w M) v ≡ partIn e v
+unfolding partIn
+part-vector q o = rw (q, o .sound)
 
 -- an entry within a record's used part
 pub entry-within : (d : Description) (bytes : List ℕ) (start k : ℕ) → k < d .count → entryAt d 0 (part start (usedSize d) bytes) k ≡ entryAt d start bytes k

@@ -26,9 +26,12 @@ use Rattle.signal.specs.Compare.{sameValue}
 
 -- ---- one entry
 
--- an entry's own set, or none where its mark is bad
+-- the own set of an entry, or none where its mark is bad: of a bit vector by its largest set, and of any kind
 unfoldable pub ownStates : States → List ℕ → OwnStates
 ownStates M v = cond (ltb (markOf M) (markIn M v)) own.Bad (own.Own (setAt (markIn M v)))
+
+unfoldable pub ownIn : Encoding → List ℕ → OwnStates
+ownIn e v = cond (hasBadMark e v) own.Bad (own.Own (setIn e v))
 
 -- a byte of two codes of which one is 9 to 15
 abbrev pub isBadByte : ℕ → Bool

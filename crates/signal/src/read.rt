@@ -6,8 +6,8 @@ ghost use Rattle.fst.specs.declared.Encoding.the-variants.{BitVector};
 ghost use Rattle.fst.specs.Record.{sizeOf};
 ghost use Rattle.fst.specs.Refusal.{Outcome, numberOf};
 ghost use Rattle.signal.specs.Decode.{entryAt};
-ghost use Rattle.signal.specs.Parts.{Whole, Inside, answerIn, partIn, textStored};
-ghost use Rattle.signal.specs.Read.{readEntry, replyOf, partOf, readText};
+ghost use Rattle.signal.specs.Parts.{Whole, Inside, ownIn, answerIn, partIn, textStored};
+ghost use Rattle.signal.specs.Read.{kindOf, readEntry, replyOf, partOf, readText};
 use crate::EntryAnswer;
 use crate::Kind;
 use crate::OwnStates;
@@ -50,32 +50,45 @@ pub fn entry_at<'a>(
     &bytes[at..at + size]
 }
 
+fn kind_of(encoding: Encoding) -> Kind
+    ensures { λ r. ⌜ r ≡ kindOf encoding ⌝ }
+{
+    match encoding {
+        Encoding::Event => Kind::Event,
+        Encoding::Real => Kind::Real,
+        Encoding::BitVector {
+            width: _,
+            max_states: _,
+        } => Kind::BitVector,
+    }
+}
+
+// The own set of an entry of any kind.
+fn own_in(encoding: Encoding, entry: &[u8]) -> OwnStates
+    requires { ⌜ Whole encoding (now entry) ⌝ }
+    ensures { λ r. ⌜ r ≡ ownIn encoding (now (entry .entry)) ⌝ }
+{
+    let Encoding::BitVector {
+        width: _,
+        max_states,
+    } = encoding
+    else {
+        return OwnStates::Own(States::Two);
+    };
+    own_states(max_states, entry)
+}
+
 // The kind and the own set of an entry, or 9.
 fn entry_answer(encoding: Encoding, entry: &[u8]) -> EntryAnswer
     requires { ⌜ Whole encoding (now entry) ⌝ }
     ensures { λ r. ⌜ r ≡ answerIn encoding (now (entry .entry)) ⌝ }
 {
-    match encoding {
-        Encoding::Event => EntryAnswer::Entry {
-            kind: Kind::Event,
-            states: States::Two,
-        },
-        Encoding::Real => EntryAnswer::Entry {
-            kind: Kind::Real,
-            states: States::Two,
-        },
-        Encoding::BitVector {
-            width: _,
-            max_states,
-        } => {
-            let OwnStates::Own(states) = own_states(max_states, entry) else {
-                return EntryAnswer::Refused(Refusal::BadMark);
-            };
-            EntryAnswer::Entry {
-                kind: Kind::BitVector,
-                states,
-            }
-        }
+    let OwnStates::Own(states) = own_in(encoding, entry) else {
+        return EntryAnswer::Refused(Refusal::BadMark);
+    };
+    EntryAnswer::Entry {
+        kind: kind_of(encoding),
+        states,
     }
 }
 
@@ -84,16 +97,17 @@ fn part_in<'a>(encoding: Encoding, entry: &'a [u8]) -> &'a [u8]
     requires { ⌜ Whole encoding (now entry) ⌝ }
     ensures { λ r. ⌜ now r ≡ partIn encoding (now (entry .entry)) ⌝ }
 {
-    match encoding {
-        Encoding::Event => entry,
-        Encoding::Real => entry,
-        Encoding::BitVector { width, max_states } => {
-            let OwnStates::Own(states) = own_states(max_states, entry) else {
-                return &entry[0..0];
-            };
-            level_part(width, states, entry)
-        }
-    }
+    let OwnStates::Own(states) = own_in(encoding, entry) else {
+        return &entry[0..0];
+    };
+    let Encoding::BitVector {
+        width,
+        max_states: _,
+    } = encoding
+    else {
+        return entry;
+    };
+    level_part(width, states, entry)
 }
 
 pub fn read_entry(
