@@ -17,8 +17,8 @@ use Rattle.fst.specs.declared.Encoding.the-variants.{Event, Real, BitVec
 use Rattle.fst.specs.declared.Description.{Description}
 use Rattle.fst.specs.Refusal.{Reply, refused, given, tried, Outcome}
 use Rattle.layout.specs.Entry.{entrySize, entryOf, markByte, unmarked, levelBytes, widenEntry, widenAll}
-use Rattle.fst.specs.Record.{Lent, Kept, keptIn, widthStands, fitsBytes, fits, isBad, fresh, freshReal, described}
-use Rattle.fst.specs.Change.{Change, text, real, isOtherKind, isOtherLength, isForeign, isBelowLast, repeats, appended, changed, refusals, Recorder, stored, addChange}
+use Rattle.fst.specs.Record.{Lent, Kept, Recorder, keptIn, widthStands, fitsBytes, fits, isBad, lent, described, fresh, freshReal}
+use Rattle.fst.specs.Change.{Change, text, real, isOtherKind, isOtherLength, isForeign, isBelowLast, repeats, appended, changed, refusals, stored, addChange}
 
 -- a change at an index, the number that it gets and the record that is then in the slices
 pub record Checked : Type 0 where
@@ -35,25 +35,25 @@ pub record Row : Type 0 where
   pub calls : List Checked
 
 -- gives-2 bytes and gives-3 indices stand before the record, and what is left of the room behind it
-unfoldable pub around : ℕ → ℕ → Kept → Recorder
+unfoldable pub around : ℕ → ℕ → Kept → Recorder Description
 around byteRoom indexRoom k =
     record {
-      description = k .description;
+      description = described (k .encoding) (length (k .indices));
       bytes = replicate 2 0xAA ++ (k .bytes ++ replicate (byteRoom - length (k .bytes)) 0xBB);
       indices = replicate 3 70 ++ (k .indices ++ replicate (indexRoom - length (k .indices)) 80);
     }
 
-unfoldable pub lentBy : Recorder → Lent
-lentBy r = record { bytes = r .bytes; byteStart = 2; indices = r .indices; indexStart = 3 }
+unfoldable pub lentBy : Recorder Description → Lent
+lentBy r = lent (r .bytes) 2 (r .indices) 3
 
-unfoldable pub Follows : (Kept → Recorder) → Recorder → List Checked → Type 0
+unfoldable pub Follows : (Kept → Recorder Description) → Recorder Description → List Checked → Type 0
 Follows within r [] = Unit
 Follows within r (c ∷ cs) =
     let o = addChange (r .description) (lentBy r) (c .index) (c .change) in
-    _≡_ {A = Outcome Recorder} o (record { refused = c .refused; left = within (c .then) }) × Follows within (o .left) cs
+    _≡_ {A = Outcome (Recorder Description)} o (record { refused = c .refused; left = within (c .then) }) × Follows within (o .left) cs
 
 -- the recorder after the calls
-unfoldable pub played : Recorder → List Checked → Recorder
+unfoldable pub played : Recorder Description → List Checked → Recorder Description
 played r [] = r
 played r (c ∷ cs) = played ((addChange (r .description) (lentBy r) (c .index) (c .change)) .left) cs
 
@@ -67,10 +67,10 @@ AllHold (r ∷ rs) = Holds r × AllHold rs
 -- ---- rows
 
 abbrev pub kept : Encoding → List ℕ → List ℕ → Kept
-kept e indices bytes = record { description = described e (length indices); bytes = bytes; indices = indices }
+kept e indices bytes = record { encoding = e; bytes = bytes; indices = indices }
 
 abbrev pub freshly : Reply Description → Kept
-freshly (given d) = record { description = d; bytes = []; indices = [] }
+freshly (given d) = kept (d .encoding) [] []
 freshly (refused n) = kept Event [] []
 
 abbrev pub row : ℕ → List Checked → Row

@@ -1,10 +1,10 @@
 -- Inner: what the functions of which Add a change is made ask.
 -- Assumes nothing.
-use Prim.Native.Nat.{ℕ, _+_, _*_, _^_, _≤_}
+use Prim.Native.Nat.{ℕ, zero, suc, _+_, _*_, _^_, _≤_}
 use mathlib.Core.Path.{_≡_}
 use mathlib.Core.Bool.{Bool, false}
 use mathlib.Core.List.{List}
-use lib.ListN.{length}
+use lib.ListN.{length, getD}
 use Rattle.value.specs.declared.States.{States}
 use Rattle.value.specs.Digits.{number}
 use Rattle.value.specs.Slice.{part, same}
@@ -12,6 +12,8 @@ use Rattle.value.specs.Level.{foldAll, codesOf, leastOf, markOf, bitsOf}
 use Rattle.wavemem.specs.Packed.{Codes}
 use Rattle.fst.specs.declared.Encoding.the-variants.{BitVector}
 use Rattle.fst.specs.declared.Description.{Description}
+use Rattle.fst.specs.declared.NextIndex.{NextIndex}
+use Rattle.fst.specs.declared.NextIndex.the-variants.{Absent, At}
 use Rattle.layout.specs.Entry.{entrySize, widenEntry, widenAll}
 use Rattle.layout.specs.Writable.{entryFrom}
 use Rattle.fst.specs.Record.{Lent, maximum, keptIn, isBad}
@@ -30,6 +32,11 @@ pub record AdmittedString (d : Description) (l : Lent) (i : ℕ) (M own : States
   pub admitted : Admitted d l i (text value)
   pub vector : d .encoding ≡ BitVector (length value) M
   pub least : own ≡ leastOf (codesOf (foldAll value))
+
+-- the last of n indices
+unfoldable pub lastIn : ℕ → List ℕ → NextIndex
+lastIn zero indices = Absent
+lastIn (suc n) indices = At (getD indices n 0)
 
 -- a bit vector of a width, and the size of its entries
 pub record SizedVector (d : Description) (width size : ℕ) : Type 0 where

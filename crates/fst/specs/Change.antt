@@ -15,7 +15,7 @@ use Rattle.fst.specs.declared.Description.{Description}
 use Rattle.fst.specs.declared.Added.{Added}
 use Rattle.fst.specs.Refusal.{numberOf, Test, _⇐_, given, tried, Outcome, outcome}
 use Rattle.layout.specs.Entry.{entryOf, widenAll}
-use Rattle.fst.specs.Record.{Lent, Held, Kept, sizeOf, keptIn, fits, isBad, described}
+use Rattle.fst.specs.Record.{Lent, Kept, Recorder, sizeOf, keptIn, fits, isBad, described}
 
 -- a change: a string's bytes, or a real's 64 bits
 pub data Change : Type 0 where
@@ -56,33 +56,33 @@ unfoldable pub repeats : ℕ → ℕ → List ℕ → List ℕ → Bool
 repeats size zero bytes new = false
 repeats size (suc n) bytes new = same (part (n * size) size bytes) new
 
--- a record of n entries with one more, unless that repeats the last
-unfoldable pub appended : Encoding → ℕ → List ℕ → List ℕ → ℕ → List ℕ → Kept
-appended e n bytes indices i new =
-    cond (repeats (sizeOf e) n bytes new)
-    (record { description = described e n; bytes = bytes; indices = indices })
-    (record { description = described e (suc n); bytes = bytes ++ new; indices = indices ++ (i ∷ []) })
+-- a record with one entry more, unless that repeats the last
+unfoldable pub appended : Encoding → List ℕ → List ℕ → ℕ → List ℕ → Kept
+appended e bytes indices i new =
+    cond (repeats (sizeOf e) (length indices) bytes new)
+    (record { encoding = e; bytes = bytes; indices = indices })
+    (record { encoding = e; bytes = bytes ++ new; indices = indices ++ (i ∷ []) })
 
--- the record of n entries with a change: an event's "every change kept", with no bytes to be equal; a real's 8 bytes "little-endian"; a
--- string's entry under its least set, every entry under the set that is then the largest. A change of the other kind adds nothing.
-unfoldable pub changed : Encoding → ℕ → List ℕ → List ℕ → ℕ → Change → Kept
-changed Event n bytes indices i (text s) =
-    record { description = described Event (suc n); bytes = bytes; indices = indices ++ (i ∷ []) }
-changed Event n bytes indices i (real x) =
-    record { description = described Event n; bytes = bytes; indices = indices }
-changed Real n bytes indices i (text s) =
-    record { description = described Real n; bytes = bytes; indices = indices }
-changed Real n bytes indices i (real x) = appended Real n bytes indices i (reverse (digits 256 8 x))
-changed (BitVector w M) n bytes indices i (text s) =
+-- a record with a change: an event's "every change kept", with no bytes to be equal; a real's 8 bytes "little-endian"; a string's entry under
+-- its least set, every entry under the set that is then the largest. A change of the other kind adds nothing.
+unfoldable pub changed : Encoding → List ℕ → List ℕ → ℕ → Change → Kept
+changed Event bytes indices i (text s) = record { encoding = Event; bytes = bytes; indices = indices ++ (i ∷ []) }
+changed Event bytes indices i (real x) = record { encoding = Event; bytes = bytes; indices = indices }
+changed Real bytes indices i (text s) = record { encoding = Real; bytes = bytes; indices = indices }
+changed Real bytes indices i (real x) = appended Real bytes indices i (reverse (digits 256 8 x))
+changed (BitVector w M) bytes indices i (text s) =
     let codes = codesOf (foldAll s) in
     let own = leastOf codes in
     let to = join M own in
-    appended (BitVector w to) n (widenAll w M to n bytes) indices i (entryOf w to own codes)
-changed (BitVector w M) n bytes indices i (real x) =
-    record { description = described (BitVector w M) n; bytes = bytes; indices = indices }
+    appended (BitVector w to) (widenAll w M to (length indices) bytes) indices i (entryOf w to own codes)
+changed (BitVector w M) bytes indices i (real x) = record { encoding = BitVector w M; bytes = bytes; indices = indices }
 
 abbrev pub withChange : Kept → ℕ → Change → Kept
-withChange k i c = changed (k .description .encoding) (k .description .count) (k .bytes) (k .indices) i c
+withChange k i c = changed (k .encoding) (k .bytes) (k .indices) i c
+
+-- is there no room for a record
+abbrev pub lacksRoom : Kept → Lent → Bool
+lacksRoom k l = not (fits (k .encoding) (length (k .indices)) l)
 
 -- the numbers of Add a change; "7: the record with this change, repeats dropped, exceeds a slice or the maximum"
 unfoldable pub refusals : Description → Lent → ℕ → Change → List Test
@@ -92,28 +92,26 @@ refusals d l i c =
     ∷ 4 ⇐ isOtherLength (d .encoding) c
     ∷ 5 ⇐ isForeign (d .encoding) c
     ∷ 6 ⇐ isBelowLast i (d .count) ((keptIn d l) .indices)
-    ∷ 7 ⇐ not (fits ((withChange (keptIn d l) i c) .description) l)
+    ∷ 7 ⇐ lacksRoom (withChange (keptIn d l) i c) l
     ∷ []
 
--- what a call has in hand: the description and the two slices, whole
-abbrev pub Recorder : Type 0
-Recorder = Held Description
+-- what a call has in hand
+abbrev pub inHand : Description → Lent → Recorder Description
+inHand d l = record { description = d; bytes = l .bytes; indices = l .indices }
 
--- a record's used part laid over the slices: "Bytes and indices past the used part never alter"
-unfoldable pub stored : Lent → Kept → Recorder
+-- a record's used part laid over the slices, with its description: "Bytes and indices past the used part never alter"
+unfoldable pub stored : Lent → Kept → Recorder Description
 stored l k =
     record {
-      description = k .description;
+      description = described (k .encoding) (length (k .indices));
       bytes = overlay (l .bytes) (l .byteStart) (k .bytes);
       indices = overlay (l .indices) (l .indexStart) (k .indices);
     }
 
-unfoldable pub addChange : Description → Lent → ℕ → Change → Outcome Recorder
-addChange d l i c =
-    outcome (record { description = d; bytes = l .bytes; indices = l .indices })
-    (tried (refusals d l i c) (given (stored l (withChange (keptIn d l) i c))))
+unfoldable pub addChange : Description → Lent → ℕ → Change → Outcome (Recorder Description)
+addChange d l i c = outcome (inHand d l) (tried (refusals d l i c) (given (stored l (withChange (keptIn d l) i c))))
 
 -- what a call leaves, by its answer and the slices as they are then
-abbrev pub leftBy : Added → List ℕ → List ℕ → Outcome Recorder
+abbrev pub leftBy : Added → List ℕ → List ℕ → Outcome (Recorder Description)
 leftBy r bytes indices =
     record { refused = numberOf (r .verdict); left = record { description = r .next; bytes = bytes; indices = indices } }

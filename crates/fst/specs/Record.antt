@@ -31,15 +31,23 @@ pub record Lent : Type 0 where
 abbrev pub lent : List ℕ → ℕ → List ℕ → ℕ → Lent
 lent bytes byteStart indices indexStart = record { bytes = bytes; byteStart = byteStart; indices = indices; indexStart = indexStart }
 
--- a description, of one type or another, with bytes and time indices
+-- a record by itself: its encoding and its used part. Its count is the number of its time indices.
+pub record Kept : Type 0 where
+  pub encoding : Encoding
+  pub bytes : List ℕ
+  pub indices : List ℕ
+
+-- a description, of one sort or another, with its used part
 pub record Held (D : Type 0) : Type 0 where
   pub description : D
   pub bytes : List ℕ
   pub indices : List ℕ
 
--- a record by itself: its description and its used part
-abbrev pub Kept : Type 0
-Kept = Held Description
+-- a description with two slices, whole: what a call has in hand, and what it leaves
+pub record Recorder (D : Type 0) : Type 0 where
+  pub description : D
+  pub bytes : List ℕ
+  pub indices : List ℕ
 
 -- an entry's bytes: "Event: width 0, no bytes"; "Real: 8 bytes"
 abbrev pub sizeOf : Encoding → ℕ
@@ -71,10 +79,17 @@ usedSize d = d .count * sizeOf (d .encoding)
 unfoldable pub keptIn : Description → Lent → Kept
 keptIn d l =
     record {
-      description = d;
+      encoding = d .encoding;
       bytes = part (l .byteStart) (usedSize d) (l .bytes);
       indices = part (l .indexStart) (d .count) (l .indices);
     }
+
+abbrev pub heldIn : Description → Lent → Held Description
+heldIn d l = record { description = d; bytes = (keptIn d l) .bytes; indices = (keptIn d l) .indices }
+
+-- all of a description but the encoding left out
+abbrev pub keptOf : Held Description → Kept
+keptOf h = record { encoding = h .description .encoding; bytes = h .bytes; indices = h .indices }
 
 -- "bit-vector width outside 1 to 4,096"
 unfoldable pub widthStands : Encoding → Bool
@@ -83,18 +98,18 @@ widthStands Real = true
 widthStands (BitVector w M) = leb 1 w && leb w maxWidth
 
 -- "count above the maximum, or a used part that, from its start, reaches past a lent slice", of the bytes alone and of both slices
-unfoldable pub fitsBytes : Description → ℕ → List ℕ → Bool
-fitsBytes d start bytes = leb (d .count) maximum && leb (start + usedSize d) (length bytes)
+unfoldable pub fitsBytes : Encoding → ℕ → ℕ → List ℕ → Bool
+fitsBytes e n start bytes = leb n maximum && leb (start + n * sizeOf e) (length bytes)
 
-unfoldable pub fits : Description → Lent → Bool
-fits d l = fitsBytes d (l .byteStart) (l .bytes) && leb (l .indexStart + d .count) (length (l .indices))
+unfoldable pub fits : Encoding → ℕ → Lent → Bool
+fits e n l = fitsBytes e n (l .byteStart) (l .bytes) && leb (l .indexStart + n) (length (l .indices))
 
 -- number 2
 unfoldable pub isBadBytes : Description → ℕ → List ℕ → Bool
-isBadBytes d start bytes = not (widthStands (d .encoding) && fitsBytes d start bytes)
+isBadBytes d start bytes = not (widthStands (d .encoding) && fitsBytes (d .encoding) (d .count) start bytes)
 
 unfoldable pub isBad : Description → Lent → Bool
-isBad d l = not (widthStands (d .encoding) && fits d l)
+isBad d l = not (widthStands (d .encoding) && fits (d .encoding) (d .count) l)
 
 -- "Fresh. 1: width above 4,096. Width 0 makes an event; a real is given no width"
 abbrev pub described : Encoding → ℕ → Description

@@ -11,12 +11,14 @@ ghost use Rattle.layout.specs.Entry.{entrySize};
 ghost use Rattle.layout.specs.Writable.{Writable, Numbered, entryFrom};
 ghost use Rattle.fst.specs.Record.{maximum, isBad, lent};
 ghost use Rattle.fst.specs.Change.{text, isBelowLast, addChange, leftBy};
-ghost use Rattle.fst.specs.Adding.{AdmittedString, ShortEntry, Repeatable, equalsWidened, repeatsPlain, repeatsWidened};
+ghost use Rattle.fst.specs.Adding.{lastIn, AdmittedString, ShortEntry, Repeatable, equalsWidened, repeatsPlain, repeatsWidened};
 use crate::Added;
 use crate::Description;
 use crate::Encoding;
+use crate::NextIndex;
 use crate::Refusal;
 use crate::Verdict;
+use crate::record::exceeds;
 use crate::record::is_bad;
 use crate::record::is_bad_vector;
 use crate::record::lacks_room;
@@ -55,15 +57,26 @@ pub fn refused(description: Description, refusal: Refusal) -> Added
     }
 }
 
+fn last_index(indices: &[u32], index_start: usize, count: u32) -> NextIndex
+    requires { ⌜ «index_start» + count ≤ length (now indices) ⌝ }
+    ensures { λ r. ⌜ r ≡ lastIn count (part «index_start» count (now (indices .entry))) ⌝ }
+{
+    if 0 < count {
+        let last = indices[index_start + (count as usize - 1)];
+        return NextIndex::At(last);
+    }
+    NextIndex::Absent
+}
+
 pub fn is_below_last(index: u32, indices: &[u32], index_start: usize, count: u32) -> bool
     requires { ⌜ «index_start» + count ≤ length (now indices) ⌝ }
     ensures { λ r. ⌜ r ≡ isBelowLast index count (part «index_start» count (now (indices .entry))) ⌝ }
 {
-    if 0 < count {
-        let last = indices[index_start + (count as usize - 1)];
-        return index < last;
-    }
-    false
+    let kept = last_index(indices, index_start, count);
+    let NextIndex::At(last) = kept else {
+        return false;
+    };
+    index < last
 }
 
 fn copy_from(bytes: &[u8], at: usize, count: usize, out: &mut [u8])
@@ -177,7 +190,7 @@ fn next_count(count: u32, repeat: bool) -> u32
 impl Description {
     // Number 7, and what is stored, of a string of any set. The room is that of the record with the change.
     fn raise_levels(
-        mut self,
+        self,
         max_states: States,
         states: States,
         bytes: &mut [u8],
@@ -194,29 +207,27 @@ impl Description {
         let count = self.count;
         let joint = States::join(max_states, states);
         let repeat = repeats_last(max_states, joint, states, value, bytes, byte_start, count);
-        let before = self;
-        self = Description {
-            encoding: Encoding::BitVector {
-                width,
-                max_states: joint,
-            },
-            count: next_count(count, repeat),
+        let encoding = Encoding::BitVector {
+            width,
+            max_states: joint,
         };
-        if is_bad(self, bytes, byte_start, indices, index_start) {
-            return refused(before, Refusal::NoRoom);
+        let total = next_count(count, repeat);
+        if exceeds(encoding, total, bytes, byte_start, indices, index_start) {
+            return refused(self, Refusal::NoRoom);
         }
+        let next = Description::new(encoding, total);
         let entries = count as usize;
         expand_entries(max_states, joint, bytes, byte_start, entries, width);
         if repeat {
-            return accepted(self);
+            return accepted(next);
         }
         let at = byte_start + entries * entry_size(joint, width);
         write_entry(joint, states, value, bytes, at);
         indices[index_start + entries] = index;
-        accepted(self)
+        accepted(next)
     }
 
-    // The same of a string that raises no set: the entries stay as they are, and a repeat needs no room.
+    // A string that raises no set leaves the entries as they are, and needs no room where it is a repeat.
     fn append_levels(
         mut self,
         max_states: States,
@@ -395,7 +406,7 @@ impl Description {
         }
         let before = self;
         self.count += 1;
-        if is_bad(self, bytes, byte_start, indices, index_start) {
+        if lacks_room(before, 0, bytes, byte_start, indices, index_start) {
             return refused(before, Refusal::NoRoom);
         }
         indices[index_start + before.count as usize] = index;

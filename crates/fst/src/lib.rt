@@ -148,6 +148,12 @@ impl Description {
     }
 }
 
+// A time index, where there is one.
+pub enum NextIndex {
+    Absent,
+    At(u32),
+}
+
 // The answer of a call that makes a record.
 pub enum Made {
     Record(Description),

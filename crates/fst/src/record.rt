@@ -1,11 +1,11 @@
 // Fresh records, and what a description asks of the slices that it is lent with.
 ghost use mathlib.Core.Path.{_≡_};
-ghost use mathlib.Core.Bool.{_&&_, not, false};
+ghost use mathlib.Core.Bool.{_&&_, not, true, false};
 ghost use Prim.Native.Nat.{_+_, _*_, _≤_};
 ghost use lib.Dec.{leb};
 ghost use lib.ListN.{length};
 ghost use Rattle.fst.specs.Refusal.{madeOf};
-ghost use Rattle.fst.specs.Record.{maximum, maxWidth, sizeOf, isBadBytes, isBad, lent, described, fresh, freshReal};
+ghost use Rattle.fst.specs.Record.{maximum, maxWidth, sizeOf, widthStands, fits, isBadBytes, isBad, lent, fresh, freshReal};
 ghost use Rattle.fst.specs.Adding.{SizedVector};
 use crate::Description;
 use crate::Encoding;
@@ -130,7 +130,26 @@ pub fn is_bad_vector(
     lacks_indices(count, indices, index_start)
 }
 
-// Number 7 of one entry more, where the record is not bad and its entries have a size.
+// Whether so many entries exceed the maximum or a slice.
+pub fn exceeds(
+    encoding: Encoding,
+    count: u32,
+    bytes: &[u8],
+    byte_start: usize,
+    indices: &[u32],
+    index_start: usize,
+) -> bool
+    requires { ⌜ widthStands encoding ≡ true ⌝ }
+    ensures { λ r. ⌜ r ≡ not (fits encoding count (lent (now (bytes .entry)) «byte_start» (now (indices .entry)) «index_start»)) ⌝ }
+{
+    let size = encoding.size();
+    if !has_room(count, size, bytes.len(), byte_start) {
+        return true;
+    }
+    lacks_indices(count, indices, index_start)
+}
+
+// Whether one entry more has no room, where the record is not bad and its entries have a size.
 pub fn lacks_room(
     description: Description,
     size: usize,
@@ -140,7 +159,7 @@ pub fn lacks_room(
     index_start: usize,
 ) -> bool
     requires { ⌜ (isBad description (lent (now bytes) «byte_start» (now indices) «index_start») ≡ false) × (size ≡ sizeOf (description .encoding)) ⌝ }
-    ensures { λ r. ⌜ r ≡ isBad (described (description .encoding) (description .count + 1)) (lent (now (bytes .entry)) «byte_start» (now (indices .entry)) «index_start») ⌝ }
+    ensures { λ r. ⌜ r ≡ not (fits (description .encoding) (description .count + 1) (lent (now (bytes .entry)) «byte_start» (now (indices .entry)) «index_start»)) ⌝ }
 {
     let count = description.count;
     if count == MAXIMUM {

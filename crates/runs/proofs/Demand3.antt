@@ -7,24 +7,24 @@ use native.Mathlib.Omega.{arith}
 use mathlib.Core.List.{List}
 use borrow.Author.Tests.{le-ltb}
 use Rattle.fst.specs.Refusal.{given}
-use Rattle.fst.specs.Record.{maxWidth, empty, encodingFor, fresh}
-use Rattle.runs.specs.Runs.{byValue, Call, Run, freshKept, after, fed, historyOf, historyLaidOut, Same}
+use Rattle.fst.specs.Record.{maxWidth, keptOf, empty, encodingFor, fresh}
+use Rattle.runs.specs.Runs.{byValue, Call, Run, freshHeld, after, fed, historyOf, historyLaidOut, Same}
 use Rattle.fst.proofs.Refusals.{passes}
 use Rattle.layout.proofs.Entries.{laws}
 use Rattle.runs.proofs.Runs as runs
 
 -- "A run starts with the description that Fresh gives for a width of 1 to 4,096"
-pub fresh-gives : (w : ℕ) → 1 ≤ w → w ≤ maxWidth → fresh w ≡ given ((freshKept w) .description)
+pub fresh-gives : (w : ℕ) → 1 ≤ w → w ≤ maxWidth → fresh w ≡ given ((freshHeld w) .description)
 unfolding fresh
 fresh-gives zero a b = absurd (omega arith)
 fresh-gives (suc w) a b = passes (given (empty (encodingFor (suc w)))) _ (le-ltb maxWidth (suc w) b, tt)
 
 -- "After every run the record is its history laid out"
-pub run-is-laid-out : (w : ℕ) → 1 ≤ w → (calls : List Call) → Run byValue (freshKept w) calls
-    → after byValue (freshKept w) calls ≡ historyLaidOut w (historyOf (fed byValue (freshKept w) calls))
+pub run-is-laid-out : (w : ℕ) → 1 ≤ w → (calls : List Call) → Run byValue (freshHeld w) calls
+    → keptOf (after byValue (freshHeld w) calls) ≡ historyLaidOut w (historyOf (fed byValue (freshHeld w) calls))
 run-is-laid-out w h calls r = runs.layout w (laws w h) calls r
 
 -- two runs of one width leave equal records just where their histories are equal
-pub demand-3 : (w : ℕ) → 1 ≤ w → (xs ys : List Call) → Run byValue (freshKept w) xs → Run byValue (freshKept w) ys
-    → Same byValue (after byValue (freshKept w) xs) (after byValue (freshKept w) ys) ↔ (historyOf (fed byValue (freshKept w) xs) ≡ historyOf (fed byValue (freshKept w) ys))
+pub demand-3 : (w : ℕ) → 1 ≤ w → (xs ys : List Call) → Run byValue (freshHeld w) xs → Run byValue (freshHeld w) ys
+    → Same byValue (after byValue (freshHeld w) xs) (after byValue (freshHeld w) ys) ↔ (historyOf (fed byValue (freshHeld w) xs) ≡ historyOf (fed byValue (freshHeld w) ys))
 demand-3 w h xs ys r q = runs.demand3 w (laws w h) xs ys r q

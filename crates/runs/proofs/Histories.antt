@@ -8,19 +8,17 @@ use Rattle.value.specs.Level.{foldAll}
 use Rattle.value.proofs.Tests.{from-T}
 use Rattle.value.proofs.Slices.{same-refl}
 use Rattle.fst.specs.declared.Description.{Description}
-use Rattle.fst.specs.Record.{Lent, Kept, keptIn}
-use Rattle.fst.specs.Change.{Change, text, real, withChange, refusals, stored, addChange}
+use Rattle.fst.specs.Record.{Lent, Held, keptIn}
+use Rattle.fst.specs.Change.{Change, text, real, withChange, refusals, inHand, stored, addChange}
 use Rattle.runs.specs.Runs.{byValue, Call, leaves, after, Fed, fed, Pair, endsLike, sameString, fedOne, historyOf}
 use Rattle.runs.proofs.Joined.{joined-grows, joined-ends}
 use Rattle.fst.proofs.Refusals.{refused-old}
 
 -- a refused call leaves the description and both slices as they were, whole
 pub refused-unchanged : (d : Description) (l : Lent) (i : ℕ) (c : Change) (n : ℕ) → (addChange d l i c) .refused ≡ suc n
-    → (addChange d l i c) .left ≡ record { description = d; bytes = l .bytes; indices = l .indices }
+    → (addChange d l i c) .left ≡ inHand d l
 unfolding addChange refusals
-refused-unchanged d l i c n e =
-    refused-old (refusals d l i c) tt (record { description = d; bytes = l .bytes; indices = l .indices })
-    (stored l (withChange (keptIn d l) i c)) n e
+refused-unchanged d l i c n e = refused-old (refusals d l i c) tt (inHand d l) (stored l (withChange (keptIn d l) i c)) n e
 
 -- ---- a history grows at its end, and nowhere else
 
@@ -37,13 +35,13 @@ all-grow h (f ∷ fs) =
     let rest = all-grow (fedOne h f) fs in
     (one .0 ++ rest .0, rest .1 ∙ ap (λ (g : List Pair). g ++ rest .0) (one .1) ∙ append-assoc h (one .0) (rest .0))
 
-fed-append : (k : Kept) (cs ds : List Call) → fed byValue k (cs ++ ds) ≡ fed byValue k cs ++ fed byValue (after byValue k cs) ds
+fed-append : (k : Held Description) (cs ds : List Call) → fed byValue k (cs ++ ds) ≡ fed byValue k cs ++ fed byValue (after byValue k cs) ds
 unfolding fed after
 fed-append k [] ds = refl
 fed-append k (c ∷ cs) ds = rw (fed-append (leaves byValue k c) cs ds)
 
 -- no later call, accepted or refused, loses or alters a pair
-pub history-grows : (k : Kept) (cs ds : List Call) → (t : List Pair) × (historyOf (fed byValue k (cs ++ ds)) ≡ historyOf (fed byValue k cs) ++ t)
+pub history-grows : (k : Held Description) (cs ds : List Call) → (t : List Pair) × (historyOf (fed byValue k (cs ++ ds)) ≡ historyOf (fed byValue k cs) ++ t)
 history-grows k cs ds =
     let rest = all-grow (historyOf (fed byValue k cs)) (fed byValue (after byValue k cs) ds) in
     (rest .0, ap historyOf (fed-append k cs ds) ∙ foldl-append fedOne [] (fed byValue k cs) (fed byValue (after byValue k cs) ds) ∙ rest .1)

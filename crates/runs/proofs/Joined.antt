@@ -1,17 +1,11 @@
 -- Lists whose end is looked at and added to: what they end in, what joins them.
 -- Assumes nothing.
 use mathlib.Core.Path.{_≡_, refl, sym, ap, _∙_}
-use Prim.Native.Nat.{suc}
 use mathlib.Core.Bool.{Bool, true, false, cond}
 use mathlib.Core.List.{List, [], _∷_, _++_, map, append-nil, map-append}
-use lib.ListN.{length}
 use Rattle.runs.specs.All.{All}
 use Rattle.runs.specs.Runs.{endsLike, joined}
 use Rattle.runs.proofs.All.{all-snoc}
-
-pub length-snoc : {A : Type 0} (l : List A) (x : A) → length (l ++ (x ∷ [])) ≡ suc (length l)
-length-snoc [] x = refl
-length-snoc (y ∷ l) x = ap suc (length-snoc l x)
 
 -- ---- what a list ends in
 

@@ -16,21 +16,11 @@ use Rattle.value.proofs.Levels.{codes-inj}
 use Rattle.value.proofs.Slices.{part-overlay}
 use Rattle.fst.specs.declared.Encoding.the-variants.{BitVector}
 use Rattle.layout.specs.Entry.{entrySize, entryOf, widenAll}
-use Rattle.fst.specs.Record.{Lent, Kept, largestIn, keptIn}
+use Rattle.fst.specs.Record.{Lent, Kept, keptIn, keptOf}
 use Rattle.fst.specs.Change.{repeats, appended, stored}
 use Rattle.runs.specs.All.{All}
-use Rattle.runs.specs.Runs.{byValue, leftIn, Step, indexOf, entriesOf, laidOut, endsLike, joined, Same}
+use Rattle.runs.specs.Runs.{byValue, leftIn, Step, indexOf, entriesOf, laidOut, endsLike, joined, Seen, seen}
 use Rattle.layout.proofs.EntryLaws.{Codes, EntryLaws}
-use Rattle.runs.proofs.Joined.{length-snoc}
-
--- equal records are equal in the sense of demand 3
-pub equal-same : (k l : Kept) → k ≡ l → Same byValue k l
-equal-same k l e =
-    record {
-      indices = ap (λ (x : Kept). x .indices) e;
-      bytes = ap (λ (x : Kept). x .bytes) e;
-      largest = ap (λ (x : Kept). largestIn (x .description .encoding)) e;
-    }
 
 -- ---- entries in order
 
@@ -139,36 +129,37 @@ module _ (w : ℕ) (L : EntryLaws w) where
 
   -- two lists laid out are equal records only where they are equal lists under one set
   pub laid-same : (M N : States) (l m : List Step) → All (Sound w M) l → All (Sound w N) m
-      → Same byValue (laidOut w M l) (laidOut w N m) → (M ≡ N) × (l ≡ m)
+      → seen (laidOut w M l) ≡ seen (laidOut w N m) → (M ≡ N) × (l ≡ m)
   unfolding laidOut
-  laid-same M N l m a b s = (
-    s .largest,
-    told M l m a (rw (s .largest) b) (s .indices) (s .bytes ∙ ap (λ (K : States). entriesOf w K m) (sym (s .largest))),
-  )
+  laid-same M N l m a b s =
+      let e : M ≡ N = ap (λ (x : Seen States). x .largest) s in (
+        e,
+        told M l m a (rw e b) (ap (λ (x : Seen States). x .indices) s)
+            (ap (λ (x : Seen States). x .bytes) s ∙ ap (λ (K : States). entriesOf w K m) (sym e)),
+      )
 
   -- a list laid over two slices is found there
   pub laid-found : (M : States) (l : List Step) (lent : Lent) → lent .byteStart ≤ length (lent .bytes) → lent .indexStart ≤ length (lent .indices)
-      → leftIn byValue lent (stored lent (laidOut w M l)) ≡ laidOut w M l
+      → keptOf (leftIn byValue lent (stored lent (laidOut w M l))) ≡ laidOut w M l
   unfolding keptIn laidOut stored
   laid-found M l lent a b =
-      ap₂ (λ (bytes indices : List ℕ). record { description = record { encoding = BitVector w M; count = length l }; bytes = bytes; indices = indices })
+      rw (length-map l indexOf)
+      (ap₂ (λ (bytes indices : List ℕ). record { encoding = BitVector w M; bytes = bytes; indices = indices })
       (part-overlay (lent .bytes) (entriesOf w M l) (lent .byteStart) (length l * entrySize w M) a (entries-length M l))
-      (part-overlay (lent .indices) (map indexOf l) (lent .indexStart) (length l) b (length-map l indexOf))
+      (part-overlay (lent .indices) (map indexOf l) (lent .indexStart) (length l) b (length-map l indexOf)))
 
   -- a step joins the record as it joins the list
   pub step-appended : (from to : States) (l : List Step) → All (Sound w from) l → markOf from ≤ markOf to → (s : Step)
-      → appended (BitVector w to) (length l) (widenAll w from to (length l) (entriesOf w from l)) (map indexOf l) (s .index) (entryFor w to s)
+      → appended (BitVector w to) (widenAll w from to (length (map indexOf l)) (entriesOf w from l)) (map indexOf l) (s .index) (entryFor w to s)
       ≡ laidOut w to (joined (sameEntry w to) l s)
   unfolding laidOut joined appended
   step-appended from to l g up s =
-      ap (λ (b : List ℕ). appended (BitVector w to) (length l) b (map indexOf l) (s .index) (entryFor w to s)) (widen-entries from to l g up)
-      ∙ ap (λ (b : Bool). cond b (laidOut w to l) grown) (repeats-ends to l s)
-      ∙ go (endsLike (sameEntry w to) l s)
+      rw (length-map l indexOf, widen-entries from to l g up, repeats-ends to l s) (go (endsLike (sameEntry w to) l s))
     where
       grown : Kept
       grown =
           record {
-            description = record { encoding = BitVector w to; count = suc (length l) };
+            encoding = BitVector w to;
             bytes = entriesOf w to l ++ entryFor w to s;
             indices = map indexOf l ++ (s .index ∷ []);
           }
@@ -176,7 +167,6 @@ module _ (w : ℕ) (L : EntryLaws w) where
       go : (b : Bool) → cond b (laidOut w to l) grown ≡ laidOut w to (cond b l (l ++ (s ∷ [])))
       go true = refl
       go false =
-          let p = length-snoc l s in
           let q = entries-snoc w to l s in
           let r = map-append indexOf l (s ∷ []) in
-          sym (λ t. record { description = record { encoding = BitVector w to; count = p t }; bytes = q t; indices = r t })
+          sym (λ t. record { encoding = BitVector w to; bytes = q t; indices = r t })

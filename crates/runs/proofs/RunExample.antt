@@ -13,14 +13,14 @@ use Rattle.value.specs.Level.{placeIn, codeOf, fold, setOf, joinAll}
 use Rattle.fst.specs.declared.Encoding.the-variants.{BitVector}
 use Rattle.fst.specs.Refusal.{tried}
 use Rattle.layout.specs.Entry.{entrySize, entryOf, markByte, unmarked, levelBytes, widenEntry, widenAll}
-use Rattle.fst.specs.Record.{keptIn, widthStands, fitsBytes, fits, isBad}
+use Rattle.fst.specs.Record.{lent, described, keptIn, widthStands, fitsBytes, fits, isBad}
 use Rattle.fst.specs.Change.{text, isOtherKind, isOtherLength, isForeign, isBelowLast, repeats, appended, changed, refusals, stored, addChange}
-use Rattle.runs.specs.Runs.{byValue, Call, leaves, Run, freshKept, after, Fed, fed, endsLike, joined, historyOf}
+use Rattle.runs.specs.Runs.{byValue, Call, leaves, Run, freshHeld, after, Fed, fed, endsLike, joined, historyOf}
 
 abbrev call : List ℕ → ℕ → List ℕ → ℕ → ℕ → String → Call
 call bytes byteStart indices indexStart i s =
     record {
-      lent = record { bytes = bytes; byteStart = byteStart; indices = indices; indexStart = indexStart };
+      lent = lent bytes byteStart indices indexStart;
       index = i;
       change = text (chars s);
     }
@@ -39,15 +39,15 @@ rowTwo = call (9 ∷ []) 0 (5 ∷ []) 0 0 "x" ∷ call (0x42 ∷ []) 0 (0 ∷ []
 abbrev accepted : Fed → Bool
 accepted f = f .accepted
 
-pub there : Run byValue (freshKept 1) calls′ × Run byValue (freshKept 1) rowTwo
+pub there : Run byValue (freshHeld 1) calls′ × Run byValue (freshHeld 1) rowTwo
 unfolding Run leaves number digits part overlay same any placeIn codeOf fold setOf joinAll tried entrySize entryOf markByte unmarked levelBytes widenEntry widenAll keptIn widthStands fitsBytes fits isBad isOtherKind isOtherLength isForeign isBelowLast repeats appended changed refusals stored addChange
 there = ((refl, (refl, (refl, (refl, tt)))), (refl, (refl, tt)))
 
-pub ends : (map accepted (fed byValue (freshKept 1) calls′) ≡ true ∷ false ∷ true ∷ true ∷ [])
-    × (historyOf (fed byValue (freshKept 1) calls′) ≡ record { index = 4; string = chars "x" } ∷ record { index = 9; string = chars "h" } ∷ [])
-    × (after byValue (freshKept 1) calls′
-    ≡ record { description = record { encoding = BitVector 1 Nine; count = 2 }; bytes = 0x42 ∷ 0x84 ∷ []; indices = 4 ∷ 9 ∷ [] })
+pub ends : (map accepted (fed byValue (freshHeld 1) calls′) ≡ true ∷ false ∷ true ∷ true ∷ [])
+    × (historyOf (fed byValue (freshHeld 1) calls′) ≡ record { index = 4; string = chars "x" } ∷ record { index = 9; string = chars "h" } ∷ [])
+    × (after byValue (freshHeld 1) calls′
+    ≡ record { description = described (BitVector 1 Nine) 2; bytes = 0x42 ∷ 0x84 ∷ []; indices = 4 ∷ 9 ∷ [] })
     -- "Row 2 gives one pair"
-    × (historyOf (fed byValue (freshKept 1) rowTwo) ≡ record { index = 0; string = chars "x" } ∷ [])
+    × (historyOf (fed byValue (freshHeld 1) rowTwo) ≡ record { index = 0; string = chars "x" } ∷ [])
 unfolding after fed endsLike joined leaves number digits part overlay same any placeIn codeOf fold setOf joinAll tried entrySize entryOf markByte unmarked levelBytes widenEntry widenAll keptIn widthStands fitsBytes fits isBad isOtherKind isOtherLength isForeign isBelowLast repeats appended changed refusals stored addChange
 ends = (refl, refl, refl, refl)

@@ -5,31 +5,32 @@ use mathlib.Core.Path.{_≡_, refl, sym, ap, _∙_, subst}
 use mathlib.Core.Logic.{_↔_}
 use Prim.Native.Nat.{ℕ, suc, _≤_}
 use native.Mathlib.Omega.{arith}
-use mathlib.Core.Bool.{Bool, true, false, cond, true≢false}
+use mathlib.Core.Bool.{Bool, true, false, not, cond, true≢false}
 use mathlib.Core.List.{List, [], _∷_, _++_, map, foldl, map-append}
 use lib.Dec.{T, eqb}
 use lib.ListN.{length, length-map}
 use borrow.Author.Tests.{not-false, eqb-true, ne-eqb}
 use Rattle.value.specs.declared.States.{States}
 use Rattle.value.specs.declared.States.the-variants.{Two}
-use Rattle.value.specs.Level.{fold, foldAll, codeOf, codesOf, markOf, join, leastOf, joinAll}
+use Rattle.value.specs.Level.{fold, foldAll, codeOf, codesOf, markOf, join, leastOf, joinAll, hasNoCode}
 use Rattle.value.specs.Digits.{Below}
 use Rattle.value.proofs.Tests.{to-T}
 use Rattle.value.proofs.Slices.{same-sound, same-by}
 use Rattle.value.proofs.Levels.{mark-inj, mark-join, all-below, under}
 use Rattle.fst.specs.declared.Description.{Description}
+use Rattle.fst.specs.declared.Encoding.the-variants.{BitVector}
 use Rattle.fst.specs.Refusal.{Reply, refused, given, Outcome, outcome}
 use Rattle.layout.specs.Entry.{entryOf}
-use Rattle.fst.specs.Record.{Lent, Kept, keptIn}
-use Rattle.fst.specs.Change.{Change, text, real, isOtherKind, isOtherLength, isForeign, changed, withChange, refusals, Recorder, stored, addChange}
+use Rattle.fst.specs.Record.{Lent, Kept, Held, Recorder, keptIn, keptOf, described}
+use Rattle.fst.specs.Change.{Change, text, real, isOtherKind, isOtherLength, isForeign, changed, withChange, refusals, inHand, stored, addChange}
 use Rattle.runs.specs.All.{All}
-use Rattle.runs.specs.Runs.{byValue, Call, called, leftIn, leaves, Run, freshKept, after, Fed, fed, Pair, endsLike, joined, sameString, fedOne, historyOf, Step, entriesOf, laidOut, stepOf, largestOf, historyLaidOut, Same}
+use Rattle.runs.specs.Runs.{byValue, Call, called, leftIn, leaves, Run, freshHeld, after, Fed, fed, Pair, endsLike, joined, sameString, fedOne, historyOf, Step, entriesOf, laidOut, stepOf, largestOf, historyLaidOut, seen, seenBy, Same}
 use Rattle.layout.proofs.EntryLaws.{EntryLaws}
 use Rattle.fst.proofs.Refusals.{Passed, Result, through, stopped, result}
-use Rattle.fst.proofs.Records.{Fits, fits-room, not-bad}
+use Rattle.fst.proofs.Records.{standing}
 use Rattle.runs.proofs.All.{all-map}
 use Rattle.runs.proofs.Joined.{joined-all, joined-map, joined-by}
-use Rattle.runs.proofs.Laid.{entryFor, sameEntry, Sound, entry-tells, equal-same, laid-same, laid-found, step-appended}
+use Rattle.runs.proofs.Laid.{entryFor, sameEntry, Sound, entry-tells, laid-same, laid-found, step-appended}
 
 -- ---- the largest set
 
@@ -115,7 +116,7 @@ steps-tell (p ∷ h) = ap (λ (l : List Pair). p ∷ l) (steps-tell h)
 -- ---- a call
 
 -- what a call feeds the history
-abbrev pub fedBy : Kept → Call → Fed
+abbrev pub fedBy : Held Description → Call → Fed
 fedBy k c = record { index = c .index; change = c .change; accepted = eqb ((called byValue k c) .refused) 0 }
 
 module _ (w : ℕ) (L : EntryLaws w) where
@@ -148,81 +149,74 @@ module _ (w : ℕ) (L : EntryLaws w) where
       ∙ ap (λ (N : States). laidOut w N (map stepOf (joined sameString h p))) (joined-largest h p)
 
   -- a reply and what the history makes of it agree
-  abbrev Agrees : List Pair → Lent → ℕ → Change → Outcome Recorder → Type 0
+  abbrev Agrees : List Pair → Lent → ℕ → Change → Outcome (Recorder Description) → Type 0
   Agrees h l i ch o =
       let f : Fed = record { index = i; change = ch; accepted = eqb (o .refused) 0 } in
-      (leftIn byValue l (o .left) ≡ historyLaidOut w (fedOne h f)) × All (Spelt w) (fedOne h f)
+      (keptOf (leftIn byValue l (o .left)) ≡ historyLaidOut w (fedOne h f)) × All (Spelt w) (fedOne h f)
 
-  refused-agrees : (h : List Pair) → All (Spelt w) h → (l : Lent) (i : ℕ) (ch : Change)
-      → keptIn ((historyLaidOut w h) .description) l ≡ historyLaidOut w h → (n : ℕ)
-      → Agrees h l i ch (record { refused = suc n; left = record { description = (historyLaidOut w h) .description; bytes = l .bytes; indices = l .indices } })
-  refused-agrees h g l i (text s) held n = rw (ne-eqb (suc n) 0 (λ e. omega (arith, e))) (held, g)
-  refused-agrees h g l i (real x) held n = (held, g)
+  -- one call, from a description that finds a history laid out
+  module _ (h : List Pair) (g : All (Spelt w) h) (d : Description) (l : Lent) (i : ℕ) (held : keptIn d l ≡ historyLaidOut w h) where
+    refused-agrees : (ch : Change) (n : ℕ) → Agrees h l i ch (record { refused = suc n; left = inHand d l })
+    unfolding keptIn
+    refused-agrees (text s) n = rw (ne-eqb (suc n) 0 (λ e. omega (arith, e))) (held, g)
+    refused-agrees (real x) n = (held, g)
 
-  given-agrees : (h : List Pair) → All (Spelt w) h → (l : Lent) (i : ℕ) (ch : Change)
-      → let d = (historyLaidOut w h) .description in
-      keptIn d l ≡ historyLaidOut w h → Passed (refusals d l i ch)
-      → Agrees h l i ch (record { refused = 0; left = stored l (withChange (keptIn d l) i ch) })
-  unfolding refusals historyLaidOut laidOut isOtherKind isOtherLength isForeign
-  given-agrees h g l i (real x) held ps = absurd (true≢false (ps .1 .0))
-  given-agrees h g l i (text s) held ps =
-      let d = (historyLaidOut w h) .description in
-      let room : Fits d l = fits-room d l ((not-bad d l (ps .0)) .1) in
-      let p : Pair = record { index = i; string = foldAll s } in
-      let sp : Spelt w p = record {
-        long = length-map (foldAll s) codeOf ∙ length-map s fold ∙ eqb-true (length s) w (not-false (eqb (length s) w) (ps .1 .1 .0));
-        letters = all-below (codesOf (foldAll s)) (ps .1 .1 .1 .0);
-      } in
-      let h′ = joined sameString h p in (
-        ap (λ (k : Kept). leftIn byValue l (stored l (withChange k i (text s)))) held
-            ∙ ap (λ (k : Kept). leftIn byValue l (stored l k)) (string-joins h g i s sp)
-            ∙ laid-found w L (largestSet h′) (map stepOf h′) l (omega arith) (omega arith),
-        joined-all (Spelt w) sameString h p g sp,
-      )
+    vector : d .encoding ≡ BitVector w (largestSet h)
+    unfolding keptIn historyLaidOut laidOut
+    vector = ap (λ (k : Kept). k .encoding) held
 
-  -- one call, from a record that is a history laid out
-  call-agrees : (h : List Pair) → All (Spelt w) h → (l : Lent) (i : ℕ) (ch : Change)
-      → let d = (historyLaidOut w h) .description in
-      keptIn d l ≡ historyLaidOut w h → Agrees h l i ch (addChange d l i ch)
-  unfolding addChange refusals
-  call-agrees h g l i ch held = go (result (given (stored l (withChange (keptIn d l) i ch))) (refusals d l i ch) tt)
-    where
-      d : Description
-      d = (historyLaidOut w h) .description
+    given-agrees : (ch : Change) → Passed (refusals d l i ch) → Agrees h l i ch (record { refused = 0; left = stored l (withChange (keptIn d l) i ch) })
+    unfolding refusals isOtherKind isOtherLength isForeign historyLaidOut
+    given-agrees (real x) ps = absurd (true≢false (rw vector at (ps .1 .0)))
+    given-agrees (text s) ps =
+        let room = (standing (ps .0)) .room in
+        let p : Pair = record { index = i; string = foldAll s } in
+        let same : not (eqb (length s) w) ≡ false = rw vector at (ps .1 .1 .0) in
+        let known : hasNoCode (codesOf (foldAll s)) ≡ false = rw vector at (ps .1 .1 .1 .0) in
+        let sp : Spelt w p = record {
+          long = length-map (foldAll s) codeOf ∙ length-map s fold ∙ eqb-true (length s) w (not-false (eqb (length s) w) same);
+          letters = all-below (codesOf (foldAll s)) known;
+        } in
+        let h′ = joined sameString h p in (
+          ap (λ (k : Kept). keptOf (leftIn byValue l (stored l (withChange k i (text s))))) held
+              ∙ ap (λ (k : Kept). keptOf (leftIn byValue l (stored l k))) (string-joins h g i s sp)
+              ∙ laid-found w L (largestSet h′) (map stepOf h′) l (omega (arith, room .bytes)) (omega (arith, room .indices)),
+          joined-all (Spelt w) sameString h p g sp,
+        )
 
-      old : Recorder
-      old = record { description = d; bytes = l .bytes; indices = l .indices }
-
-      go : Result (given (stored l (withChange (keptIn d l) i ch))) (refusals d l i ch) → Agrees h l i ch (addChange d l i ch)
-      go (through ps e) = subst (λ (r : Reply Recorder). Agrees h l i ch (outcome old r)) (sym e) (given-agrees h g l i ch held ps)
-      go (stopped n e) = subst (λ (r : Reply Recorder). Agrees h l i ch (outcome old r)) (sym e) (refused-agrees h g l i ch held n)
+    call-agrees : (ch : Change) → Agrees h l i ch (addChange d l i ch)
+    unfolding addChange refusals
+    call-agrees ch = go (result (given (stored l (withChange (keptIn d l) i ch))) (refusals d l i ch) tt)
+      where
+        go : Result (given (stored l (withChange (keptIn d l) i ch))) (refusals d l i ch) → Agrees h l i ch (addChange d l i ch)
+        go (through ps e) = subst (λ (r : Reply (Recorder Description)). Agrees h l i ch (outcome (inHand d l) r)) (sym e) (given-agrees ch ps)
+        go (stopped n e) = subst (λ (r : Reply (Recorder Description)). Agrees h l i ch (outcome (inHand d l) r)) (sym e) (refused-agrees ch n)
 
   -- any calls, from a record that is a history laid out
-  layout-from : (h : List Pair) → All (Spelt w) h → (k : Kept) → k ≡ historyLaidOut w h → (cs : List Call) → Run byValue k cs
-      → (after byValue k cs ≡ historyLaidOut w (foldl fedOne h (fed byValue k cs))) × All (Spelt w) (foldl fedOne h (fed byValue k cs))
-  unfolding Run after fed leaves
+  layout-from : (h : List Pair) → All (Spelt w) h → (k : Held Description) → keptOf k ≡ historyLaidOut w h → (cs : List Call) → Run byValue k cs
+      → (keptOf (after byValue k cs) ≡ historyLaidOut w (foldl fedOne h (fed byValue k cs))) × All (Spelt w) (foldl fedOne h (fed byValue k cs))
+  unfolding Run after fed leaves keptIn
   layout-from h g k e [] r = (e, g)
   layout-from h g k e (c ∷ cs) r =
-      let st = subst (λ (x : Kept). keptIn (x .description) (c .lent) ≡ x → Agrees h (c .lent) (c .index) (c .change) (called byValue x c)) (sym e)
-      (call-agrees h g (c .lent) (c .index) (c .change)) (r .0) in
+      let st = call-agrees h g (k .description) (c .lent) (c .index) (ap keptOf (r .0) ∙ e) (c .change) in
       layout-from (fedOne h (fedBy k c)) (st .1) (leaves byValue k c) (st .0) cs (r .1)
 
-  from-fresh : (cs : List Call) → Run byValue (freshKept w) cs
-      → let h = historyOf (fed byValue (freshKept w) cs) in
-      (after byValue (freshKept w) cs ≡ historyLaidOut w h) × All (Spelt w) h
+  from-fresh : (cs : List Call) → Run byValue (freshHeld w) cs
+      → let h = historyOf (fed byValue (freshHeld w) cs) in
+      (keptOf (after byValue (freshHeld w) cs) ≡ historyLaidOut w h) × All (Spelt w) h
   unfolding historyLaidOut laidOut joinAll entriesOf
-  from-fresh cs r = layout-from [] tt (freshKept w) refl cs r
+  from-fresh cs r = layout-from [] tt (freshHeld w) refl cs r
 
   -- after every run the record is its history laid out
-  pub layout : (cs : List Call) → Run byValue (freshKept w) cs → after byValue (freshKept w) cs ≡ historyLaidOut w (historyOf (fed byValue (freshKept w) cs))
+  pub layout : (cs : List Call) → Run byValue (freshHeld w) cs → keptOf (after byValue (freshHeld w) cs) ≡ historyLaidOut w (historyOf (fed byValue (freshHeld w) cs))
   layout cs r = (from-fresh cs r) .0
 
   -- and each string of the history is w levels in small letters
-  pub spelt : (cs : List Call) → Run byValue (freshKept w) cs → All (Spelt w) (historyOf (fed byValue (freshKept w) cs))
+  pub spelt : (cs : List Call) → Run byValue (freshHeld w) cs → All (Spelt w) (historyOf (fed byValue (freshHeld w) cs))
   spelt cs r = (from-fresh cs r) .1
 
   -- two histories laid out are equal records only where they are equal
-  history-same : (h g : List Pair) → All (Spelt w) h → All (Spelt w) g → Same byValue (historyLaidOut w h) (historyLaidOut w g) → h ≡ g
+  history-same : (h g : List Pair) → All (Spelt w) h → All (Spelt w) g → seen (historyLaidOut w h) ≡ seen (historyLaidOut w g) → h ≡ g
   unfolding historyLaidOut
   history-same h g a b s =
       sym (steps-tell h)
@@ -231,10 +225,10 @@ module _ (w : ℕ) (L : EntryLaws w) where
       (steps-sound w (largestSet h) h a (omega arith)) (steps-sound w (largestSet g) g b (omega arith)) s) .1)
       ∙ steps-tell g
 
-  pub demand3 : (xs ys : List Call) → Run byValue (freshKept w) xs → Run byValue (freshKept w) ys
-      → Same byValue (after byValue (freshKept w) xs) (after byValue (freshKept w) ys) ↔ (historyOf (fed byValue (freshKept w) xs) ≡ historyOf (fed byValue (freshKept w) ys))
+  pub demand3 : (xs ys : List Call) → Run byValue (freshHeld w) xs → Run byValue (freshHeld w) ys
+      → Same byValue (after byValue (freshHeld w) xs) (after byValue (freshHeld w) ys) ↔ (historyOf (fed byValue (freshHeld w) xs) ≡ historyOf (fed byValue (freshHeld w) ys))
   demand3 xs ys r q = (
-    (λ s. history-same (historyOf (fed byValue (freshKept w) xs)) (historyOf (fed byValue (freshKept w) ys)) (spelt xs r) (spelt ys q)
-        (rw (← layout xs r, ← layout ys q) s)),
-    (λ e. equal-same (after byValue (freshKept w) xs) (after byValue (freshKept w) ys) (layout xs r ∙ ap (historyLaidOut w) e ∙ sym (layout ys q))),
+    (λ s. history-same (historyOf (fed byValue (freshHeld w) xs)) (historyOf (fed byValue (freshHeld w) ys)) (spelt xs r) (spelt ys q)
+        (sym (ap seen (layout xs r)) ∙ s ∙ ap seen (layout ys q))),
+    (λ e. ap seen (layout xs r ∙ ap (historyLaidOut w) e ∙ sym (layout ys q))),
   )

@@ -5,7 +5,6 @@ use mathlib.Core.Path.{_≡_}
 use mathlib.Core.Bool.{Bool, true, false, cond}
 use mathlib.Core.List.{List, [], _∷_, _++_, map, foldl}
 use lib.Dec.{eqb}
-use lib.ListN.{length}
 use Rattle.value.specs.declared.States.{States}
 use Rattle.value.specs.declared.States.the-variants.{Two}
 use Rattle.value.specs.Slice.{same}
@@ -14,7 +13,7 @@ use Rattle.fst.specs.declared.Description.{Description}
 use Rattle.fst.specs.declared.Encoding.the-variants.{BitVector}
 use Rattle.fst.specs.Refusal.{Outcome}
 use Rattle.layout.specs.Entry.{entryOf}
-use Rattle.fst.specs.Record.{Lent, Held, Kept, largestIn, keptIn, empty}
+use Rattle.fst.specs.Record.{Lent, lent, Kept, Held, Recorder, largestIn, heldIn, empty}
 use Rattle.fst.specs.Change.{Change, text, real, addChange}
 
 -- ---- a run
@@ -22,13 +21,13 @@ use Rattle.fst.specs.Change.{Change, text, real, addChange}
 -- what records of one sort of description are: what a description finds in two slices, how a change is added there, and its largest set
 pub record Records (D : Type 0) : Type 1 where
   pub found : D → Lent → Held D
-  pub added : D → Lent → ℕ → Change → Outcome (Held D)
+  pub added : D → Lent → ℕ → Change → Outcome (Recorder D)
   pub Set : Type 0
   pub largest : D → Set
 
 -- those of Add a change by value
 abbrev pub byValue : Records Description
-byValue = record { found = keptIn; added = addChange; Set = States; largest = λ d. largestIn (d .encoding) }
+byValue = record { found = heldIn; added = addChange; Set = States; largest = λ d. largestIn (d .encoding) }
 
 -- one change of a run, with the slices lent for it
 pub record Call : Type 0 where
@@ -36,13 +35,12 @@ pub record Call : Type 0 where
   pub index : ℕ
   pub change : Change
 
-abbrev pub called : {D : Type 0} → Records D → Held D → Call → Outcome (Held D)
+abbrev pub called : {D : Type 0} → Records D → Held D → Call → Outcome (Recorder D)
 called R k c = R .added (k .description) (c .lent) (c .index) (c .change)
 
 -- the record that is found where a call left it, from the same starts on
-abbrev pub leftIn : {D : Type 0} → Records D → Lent → Held D → Held D
-leftIn R l r =
-    R .found (r .description) (record { bytes = r .bytes; byteStart = l .byteStart; indices = r .indices; indexStart = l .indexStart })
+abbrev pub leftIn : {D : Type 0} → Records D → Lent → Recorder D → Held D
+leftIn R l r = R .found (r .description) (lent (r .bytes) (l .byteStart) (r .indices) (l .indexStart))
 
 -- the record that a call leaves in its slices
 unfoldable pub leaves : {D : Type 0} → Records D → Held D → Call → Held D
@@ -54,8 +52,8 @@ Run R k [] = Unit
 Run R k (c ∷ cs) = (R .found (k .description) (c .lent) ≡ k) × Run R (leaves R k c) cs
 
 -- "A run starts with the description that Fresh gives for a width of 1 to 4,096"
-abbrev pub freshKept : ℕ → Kept
-freshKept w = record { description = empty (BitVector w Two); bytes = []; indices = [] }
+abbrev pub freshHeld : ℕ → Held Description
+freshHeld w = record { description = empty (BitVector w Two); bytes = []; indices = [] }
 
 -- the record after a run
 unfoldable pub after : {D : Type 0} → Records D → Held D → List Call → Held D
@@ -124,12 +122,7 @@ entriesOf w M (s ∷ l) = entryOf w M (s .set) (codesOf (s .string)) ++ entriesO
 
 -- "The count is the number of pairs, the time indices are theirs in order"
 unfoldable pub laidOut : ℕ → States → List Step → Kept
-laidOut w M l =
-    record {
-      description = record { encoding = BitVector w M; count = length l };
-      bytes = entriesOf w M l;
-      indices = map indexOf l;
-    }
+laidOut w M l = record { encoding = BitVector w M; bytes = entriesOf w M l; indices = map indexOf l }
 
 -- "each with its string's least set as its own set"
 abbrev pub stepOf : Pair → Step
@@ -143,8 +136,20 @@ largestOf l = joinAll (map (λ (s : Step). s .set) l)
 unfoldable pub historyLaidOut : ℕ → List Pair → Kept
 historyLaidOut w h = laidOut w (largestOf (map stepOf h)) (map stepOf h)
 
--- "Two records are equal in the sense of demand 3 when their time indices, their used bytes and their largest sets are equal"
-pub record Same {D : Type 0} (R : Records D) (k l : Held D) : Type 0 where
-  pub indices : k .indices ≡ l .indices
-  pub bytes : k .bytes ≡ l .bytes
-  pub largest : R .largest (k .description) ≡ R .largest (l .description)
+-- ---- demand 3
+
+-- what it looks at in a record: "their time indices, their used bytes and their largest sets"
+pub record Seen (S : Type 0) : Type 0 where
+  pub indices : List ℕ
+  pub bytes : List ℕ
+  pub largest : S
+
+abbrev pub seen : Kept → Seen States
+seen k = record { indices = k .indices; bytes = k .bytes; largest = largestIn (k .encoding) }
+
+abbrev pub seenBy : {D : Type 0} → (R : Records D) → Held D → Seen (R .Set)
+seenBy R h = record { indices = h .indices; bytes = h .bytes; largest = R .largest (h .description) }
+
+-- "Two records are equal in the sense of demand 3 when .. are equal"
+abbrev pub Same : {D : Type 0} → Records D → Held D → Held D → Type 0
+Same R k l = seenBy R k ≡ seenBy R l

@@ -1,17 +1,12 @@
 -- `fst::Description::add_change` meets its contract.
 -- Assumes nothing.
 use mathlib.Core.Path.{sym, _∙_}
-use denote.Ref.{now}
-use Rattle.fst.specs.Record.{Lent, lent}
-use Rattle.fst.specs.Change.{text}
-use Rattle.fst.proofs.Adding.{gives-2, untouched}
+use Rattle.fst.proofs.Records.{standing}
+use Rattle.fst.proofs.Adding.{gives-2, beside}
 use Rattle.fst.proofs.AddingPlain.{real-gives-3}
 use borrow.Author.Needs.{needs}
 use Rattle.fst.proofs.Description.add_change.Statement.{statement}
 use Rattle.fst.proofs.Description.add_change.Tie as tie
-
-abbrev here : tie.Start → Lent
-here x = lent (now (x .args .bytes)) (x .args .byte-start) (now (x .args .indices)) (x .args .index-start)
 
 enum-told : tie.Need-enum-told
 enum-told c = search needs
@@ -37,9 +32,8 @@ same-length-2 c = search needs
 returns : tie.Need-returns
 returns c =
     let b = c .before .before in
-    let x = b .before .before .before .before .before .before .before .before in
-    untouched (here x) (c .refused .ensures)
-    ∙ gives-2 (x .args .self) (here x) (x .args .index) (text (now (x .args .value))) (sym (b .is-bad .ensures) ∙ c .before .if1 .taken)
+    beside (c .refused .ensures)
+    ∙ gives-2 _ _ _ _ (sym (b .is-bad .ensures) ∙ c .before .if1 .taken)
 
 refused-requires-2 : tie.Need-refused-requires-2
 refused-requires-2 c κs = search needs
@@ -68,10 +62,8 @@ same-length-6 c = search needs
 returns-3 : tie.Need-returns-3
 returns-3 c =
     let b = c .before .before in
-    let e = b .before .before .before in
-    let x = e .before .before .before .before .before in
-    untouched (here x) (c .refused2 .ensures)
-    ∙ real-gives-3 (x .args .self) (here x) (x .args .index) (now (x .args .value)) (sym (b .is-bad .ensures) ∙ c .before .if1 .left) (e .enum-told2 .given .1)
+    beside (c .refused2 .ensures)
+    ∙ real-gives-3 (standing (sym (b .is-bad .ensures) ∙ c .before .if1 .left)) (b .before .before .before .enum-told2 .given .1) _ _
 
 same-length-7 : tie.Need-same-length-7
 same-length-7 c = search needs

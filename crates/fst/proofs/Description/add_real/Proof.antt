@@ -1,6 +1,6 @@
 -- `fst::Description::add_real` meets its contract.
 -- Assumes nothing.
-use mathlib.Core.Path.{_≡_, refl, sym, ap₂, _∙_}
+use mathlib.Core.Path.{_≡_, refl, sym, ap, ap₂, _∙_}
 use mathlib.Core.Bool.{true, false}
 use mathlib.Core.List.{List, [], _∷_}
 use mathlib.Core.Logic.{⊎-elim}
@@ -9,20 +9,22 @@ use native.Mathlib.Omega.{arith}
 use denote.Ref.{now}
 use lib.ListN.{length, set}
 use Rattle.fst.specs.declared.Added.{Added}
-use Rattle.fst.specs.Record.{Lent, lent, isBad}
-use Rattle.fst.specs.Change.{leftBy, real, isOtherKind}
+use Rattle.fst.specs.Record.{Lent, lent, sizeOf, keptIn}
+use Rattle.fst.specs.Change.{leftBy, real, isOtherKind, withChange}
 use types.Run
 use denote.Enum.Declared
 use Rattle.fst.specs.declared.Encoding.{Encoding}
 use Rattle.fst.specs.declared.Encoding.the-variants.{Event, Real, BitVector}
 use Rattle.fst.specs.Adding.{Admitted}
 use Rattle.fst.proofs.Encoding.{the-type}
-use Rattle.fst.proofs.Adding.{Suited, standing, gives-2, gives-3, gives-6, admits, untouched}
-use Rattle.fst.proofs.AddingPlain.{oneMore, real-suited, real-room, real-stays, real-full, real-more, real-roomier}
+use Rattle.fst.proofs.Records.{Standing, standing}
+use Rattle.fst.proofs.Adding.{Suited, gives-2, gives-3, gives-6, admits, beside}
+use Rattle.fst.proofs.AddingPlain.{Roomier, roomier, behind, dropped, kept-full, kept-more, realBytes, real-suited, real-room, real-kept, real-same}
 use borrow.Author.Needs.{needs}
 use Rattle.fst.proofs.Description.add_real.Statement.{statement}
 use Rattle.fst.proofs.Description.add_real.Tie as tie
 
+-- the slices that are lent
 abbrev here : tie.Start → Lent
 here x = lent (now (x .args .bytes)) (x .args .byte-start) (now (x .args .indices)) (x .args .index-start)
 
@@ -42,32 +44,32 @@ module _ (b : tie.After-is-below-last) where
   abbrev start : tie.Start
   start = b .before .before .before .before .before .before .before .before .before .before
 
-  sound : isBad (start .args .self) (here start) ≡ false
-  sound = sym (b .before .before .before .before .before .is-bad .ensures) ∙ b .before .before .before .before .if1 .left
+  stands : Standing (start .args .self) (here start)
+  stands = standing (sym (b .before .before .before .before .before .is-bad .ensures) ∙ b .before .before .before .before .if1 .left)
 
   isReal : start .args .self .encoding ≡ Real
   isReal = b .before .before .enum-told .given .1
 
   suited : Suited (start .args .self) (here start) (real (start .args .bits))
-  suited = real-suited (start .args .self) (here start) (start .args .index) (start .args .bits) sound isReal
+  suited = real-suited stands isReal (start .args .index) _
 
   passes : b .is-below-last .result ≡ false → Admitted (start .args .self) (here start) (start .args .index) (real (start .args .bits))
-  passes h = admits (start .args .self) (here start) (start .args .index) (real (start .args .bits)) suited (sym h ∙ b .is-below-last .ensures)
+  passes h = admits suited _ (sym h ∙ b .is-below-last .ensures)
 
 -- and once the room is
-module _ (z : tie.After-is-bad2) where
+module _ (z : tie.After-lacks-room) where
   abbrev known : tie.After-is-below-last
   known = z .before .before .before .before .before .before .before .before
 
-  roomy : z .is-bad2 .result ≡ false → isBad (oneMore (start known .args .self)) (here (start known)) ≡ false
-  roomy h = sym (z .is-bad2 .ensures) ∙ h
+  admitted : Admitted (start known .args .self) (here (start known)) (start known .args .index) (real (start known .args .bits))
+  admitted = passes known (z .before .before .before .before .before .before .before .if2 .left)
 
-  places : z .is-bad2 .result ≡ false
-      → (start known .args .byte-start + start known .args .self .count * 8 + 8 ≤ length (now (start known .args .bytes)))
-      × (start known .args .index-start + start known .args .self .count < length (now (start known .args .indices)))
-  places h =
-      let x = start known in
-      real-roomier (x .args .self) (here x) (x .args .index) (x .args .bits) (sound known) (isReal known) (passes known (z .before .before .before .before .before .before .before .if2 .left)) (roomy h)
+  kept : withChange (keptIn (start known .args .self) (here (start known))) (start known .args .index) (real (start known .args .bits))
+      ≡ behind (start known .args .self) (here (start known)) (start known .args .index) (realBytes (start known .args .bits))
+  kept = real-kept (stands known) (isReal known) _ _ (sym (z .before .before .before .before .if3 .left) ∙ z .before .before .before .before .before .repeats-real .ensures)
+
+  places : z .lacks-room .result ≡ false → Roomier (start known .args .self) (here (start known)) 8
+  places h = roomier 8 (ap sizeOf (isReal known)) (sym (z .lacks-room .ensures) ∙ h)
 
 is-bad-requires : tie.Need-is-bad-requires
 is-bad-requires c κs = search needs
@@ -82,10 +84,7 @@ same-length-2 : tie.Need-same-length-2
 same-length-2 c = search needs
 
 returns : tie.Need-returns
-returns c =
-    let x = c .before .before .before .before .before .before .before in
-    untouched (here x) (c .refused .ensures)
-    ∙ gives-2 (x .args .self) (here x) (x .args .index) (real (x .args .bits)) (sym (c .before .before .is-bad .ensures) ∙ c .before .if1 .taken)
+returns c = beside (c .refused .ensures) ∙ gives-2 _ _ _ _ (sym (c .before .before .is-bad .ensures) ∙ c .before .if1 .taken)
 
 enum-told : tie.Need-enum-told
 enum-told c = search needs
@@ -102,13 +101,12 @@ same-length-4 c = search needs
 returns-2 : tie.Need-returns-2
 returns-2 c =
     let x = c .before .before .before .before .before .before .before .before in
-    untouched (here x) (c .refused2 .ensures)
-    ∙ gives-3 (x .args .self) (here x) (x .args .index) (real (x .args .bits)) (sym (c .before .before .before .is-bad .ensures) ∙ c .before .before .if1 .left) (other (x .args .bits) (x .args .self .encoding) (c .before .match .keys2))
+    beside (c .refused2 .ensures)
+    ∙ gives-3 (standing (sym (c .before .before .before .is-bad .ensures) ∙ c .before .before .if1 .left)) _ _ (other (x .args .bits) (x .args .self .encoding) (c .before .match .keys2))
 
 is-below-last-requires : tie.Need-is-below-last-requires
 is-below-last-requires c κs =
-    let x = c .before .before .before .before .before .before .before .before .before in
-    (standing (x .args .self) (here x) (sym (c .before .before .before .before .is-bad .ensures) ∙ c .before .before .before .if1 .left)) .indices
+    (standing (sym (c .before .before .before .before .is-bad .ensures) ∙ c .before .before .before .if1 .left)) .room .indices
 
 refused-requires-3 : tie.Need-refused-requires-3
 refused-requires-3 c κs = search needs
@@ -122,15 +120,13 @@ same-length-6 c = search needs
 returns-3 : tie.Need-returns-3
 returns-3 c =
     let b = c .before .before in
-    let x = start b in
-    untouched (here x) (c .refused3 .ensures)
-    ∙ gives-6 (x .args .self) (here x) (x .args .index) (real (x .args .bits)) (suited b) (sym (c .before .if2 .taken) ∙ b .is-below-last .ensures)
+    beside (c .refused3 .ensures) ∙ gives-6 (suited b) _ (sym (c .before .if2 .taken) ∙ b .is-below-last .ensures)
 
 repeats-real-requires : tie.Need-repeats-real-requires
 repeats-real-requires c κs =
     let b = c .before .before in
     let x = start b in
-    ((standing (x .args .self) (here x) (sound b)) .count, real-room (x .args .self) (here x) (x .args .index) (x .args .bits) (sound b) (isReal b))
+    ((stands b) .room .count, real-room (stands b) (isReal b) (x .args .index) (x .args .bits))
 
 accepted-requires : tie.Need-accepted-requires
 accepted-requires c κs = search needs
@@ -144,19 +140,18 @@ same-length-8 c = search needs
 returns-4 : tie.Need-returns-4
 returns-4 c =
     let b = c .before .before .before .before .before in
-    let x = start b in
-    untouched (here x) (c .accepted .ensures)
-    ∙ real-stays (x .args .self) (here x) (x .args .index) (x .args .bits) (sound b) (isReal b) (passes b (c .before .before .before .before .if2 .left)) (sym (c .before .if3 .taken) ∙ c .before .before .repeats-real .ensures)
+    beside (c .accepted .ensures)
+    ∙ dropped (passes b (c .before .before .before .before .if2 .left)) (real-same (stands b) (isReal b) _ _ (sym (c .before .if3 .taken) ∙ c .before .before .repeats-real .ensures))
 
 add-self : tie.Need-add-self
 add-self c =
-    let b = c .before .before .before .before .before in
-    let x = start b in
-    let f = (standing (x .args .self) (here x) (sound b)) .count in
+    let f = (stands (c .before .before .before .before .before)) .room .count in
     omega arith
 
-is-bad-requires-2 : tie.Need-is-bad-requires-2
-is-bad-requires-2 c κs = search needs
+lacks-room-requires : tie.Need-lacks-room-requires
+lacks-room-requires c κs =
+    let b = c .before .before .before .before .before .before .before in
+    ((stands b) .sound, sym (ap sizeOf (isReal b)))
 
 refused-requires-4 : tie.Need-refused-requires-4
 refused-requires-4 c κs = search needs
@@ -170,10 +165,7 @@ same-length-10 c = search needs
 returns-5 : tie.Need-returns-5
 returns-5 c =
     let z = c .before .before in
-    let b = known z in
-    let x = start b in
-    untouched (here x) (c .refused4 .ensures)
-    ∙ real-full (x .args .self) (here x) (x .args .index) (x .args .bits) (sound b) (isReal b) (passes b (z .before .before .before .before .before .before .before .if2 .left)) (sym (z .before .before .before .before .if3 .left) ∙ z .before .before .before .before .before .repeats-real .ensures) (sym (z .is-bad2 .ensures) ∙ c .before .if4 .taken)
+    beside (c .refused4 .ensures) ∙ kept-full (admitted z) _ (kept z) (sym (z .lacks-room .ensures) ∙ c .before .if4 .taken)
 
 cast-entries : tie.Need-cast-entries
 cast-entries c = search needs
@@ -185,7 +177,7 @@ add-write-real : tie.Need-add-write-real
 add-write-real c = let p = places (c .before .before) (c .before .if4 .left) in omega arith
 
 write-real-requires : tie.Need-write-real-requires
-write-real-requires c κs = (places (c .before .before) (c .before .if4 .left)) .0
+write-real-requires c κs = (places (c .before .before) (c .before .if4 .left)) .bytes
 
 add-indices : tie.Need-add-indices
 add-indices c = let p = places (c .before .before .before .before .before) (c .before .before .before .before .if4 .left) in omega (arith, few-indices (start (known (c .before .before .before .before .before))))
@@ -194,7 +186,7 @@ mul-indices : tie.Need-mul-indices
 mul-indices c = let p = places (c .before .before .before .before .before) (c .before .before .before .before .if4 .left) in omega (arith, few-indices (start (known (c .before .before .before .before .before))))
 
 slice-write-indices : tie.Need-slice-write-indices
-slice-write-indices c = (places (c .before .before .before .before .before) (c .before .before .before .before .if4 .left)) .1
+slice-write-indices c = (places (c .before .before .before .before .before) (c .before .before .before .before .if4 .left)) .index
 
 accepted-requires-2 : tie.Need-accepted-requires-2
 accepted-requires-2 c κs = search needs
@@ -208,10 +200,10 @@ same-length-12 c = search needs
 returns-6 : tie.Need-returns-6
 returns-6 c =
     let z = c .before .before .before .before .before .before in
-    let b = known z in
-    let x = start b in
-    ap₂ (λ (r : Added) (l : List ℕ). leftBy r l (set (now (x .args .indices)) (x .args .index-start + x .args .self .count) (x .args .index))) (c .accepted2 .ensures) (c .before .before .before .write-real .ensures)
-    ∙ real-more (x .args .self) (here x) (x .args .index) (x .args .bits) (sound b) (isReal b) (passes b (z .before .before .before .before .before .before .before .if2 .left)) (sym (z .before .before .before .before .if3 .left) ∙ z .before .before .before .before .before .repeats-real .ensures) (roomy z (c .before .before .before .before .before .if4 .left))
+    let x = start (known z) in
+    ap₂ (λ (r : Added) (b : List ℕ). leftBy r b (set (now (x .args .indices)) (x .args .index-start + x .args .self .count) (x .args .index)))
+    (c .accepted2 .ensures) (c .before .before .before .write-real .ensures)
+    ∙ kept-more (admitted z) _ (kept z) 8 (ap sizeOf (isReal (known z))) (sym (z .lacks-room .ensures) ∙ c .before .before .before .before .before .if4 .left)
 
 pub add-real-spec : {M : Type 1} → statement M
 add-real-spec =
@@ -238,7 +230,7 @@ add-real-spec =
     same-length-8
     returns-4
     add-self
-    is-bad-requires-2
+    lacks-room-requires
     refused-requires-4
     same-length-9
     same-length-10

@@ -1,16 +1,10 @@
 -- `fst::Description::add_string` meets its contract.
 -- Assumes nothing.
 use mathlib.Core.Path.{sym, _∙_}
-use denote.Ref.{now}
-use Rattle.fst.specs.Record.{Lent, lent}
-use Rattle.fst.specs.Change.{text}
-use Rattle.fst.proofs.Adding.{gives-2, untouched}
+use Rattle.fst.proofs.Adding.{gives-2, beside}
 use borrow.Author.Needs.{needs}
 use Rattle.fst.proofs.Description.add_string.Statement.{statement}
 use Rattle.fst.proofs.Description.add_string.Tie as tie
-
-abbrev here : tie.Start → Lent
-here x = lent (now (x .args .bytes)) (x .args .byte-start) (now (x .args .indices)) (x .args .index-start)
 
 entry-size-requires : tie.Need-entry-size-requires
 entry-size-requires c κs = search needs
@@ -33,9 +27,8 @@ same-length-2 c = search needs
 returns : tie.Need-returns
 returns c =
     let b = c .before .before in
-    let x = b .before .before .before .before .before .before .before in
-    untouched (here x) (c .refused .ensures)
-    ∙ gives-2 (x .args .self) (here x) (x .args .index) (text (now (x .args .value))) (sym (b .is-bad-vector .ensures) ∙ c .before .if1 .taken)
+    beside (c .refused .ensures)
+    ∙ gives-2 _ _ _ _ (sym (b .is-bad-vector .ensures) ∙ c .before .if1 .taken)
 
 add-text-requires : tie.Need-add-text-requires
 add-text-requires c κs =

@@ -6,19 +6,16 @@ use native.Mathlib.Omega.{arith}
 use denote.Ref.{now}
 use lib.ListN.{length}
 use Rattle.layout.specs.Entry.{entrySize}
-use Rattle.fst.specs.Record.{Lent, lent, widthStands}
+use Rattle.fst.specs.Record.{lent, widthStands}
 use Rattle.fst.specs.Change.{text}
 use Rattle.value.specs.declared.StatesAnswer.the-variants as answer
 use Rattle.value.specs.Answer.{leastStates}
-use Rattle.fst.proofs.Records.{not-bad}
-use Rattle.fst.proofs.Adding.{Suited, standing, width-known, gives-6, admits, untouched}
+use Rattle.fst.proofs.Records.{standing}
+use Rattle.fst.proofs.Adding.{Suited, width-known, gives-6, admits, beside}
 use Rattle.fst.proofs.AddingStrings.{string-gives-4, string-gives-5, string-suited, string-levels, levels-told}
 use borrow.Author.Needs.{needs}
 use Rattle.fst.proofs.Description.add_text.Statement.{statement}
 use Rattle.fst.proofs.Description.add_text.Tie as tie
-
-abbrev here : tie.Start → Lent
-here x = lent (now (x .args .bytes)) (x .args .byte-start) (now (x .args .indices)) (x .args .index-start)
 
 -- what is known once the index is tried
 module _ (b : tie.After-is-below-last) where
@@ -31,8 +28,8 @@ module _ (b : tie.After-is-below-last) where
   least : leastStates (now (start .args .value)) ≡ answer.Least (b .before .before .before .answer .given .0 .0)
   least = sym (b .before .before .before .before .before .scan .ensures .least) ∙ b .before .before .before .answer .given .1
 
-  suited : Suited (start .args .self) (here start) (text (now (start .args .value)))
-  suited = string-suited (start .args .self) (here start) (start .args .index) (now (start .args .value)) (start .args .width) (start .args .max-states) (start .pre .0) (start .pre .1) long _ least
+  suited : Suited (start .args .self) (lent (now (start .args .bytes)) (start .args .byte-start) (now (start .args .indices)) (start .args .index-start)) (text (now (start .args .value)))
+  suited = string-suited (standing (start .pre .0)) (start .pre .1) (start .args .index) _ long least
 
 refused-requires : tie.Need-refused-requires
 refused-requires c κs = search needs
@@ -40,13 +37,12 @@ refused-requires c κs = search needs
 returns : tie.Need-returns
 returns c =
     let x = c .before .before .before .before .before in
-    untouched (here x) (c .refused .ensures)
-    ∙ string-gives-4 (x .args .self) (here x) (x .args .index) (now (x .args .value)) (x .args .width) (x .args .max-states) (x .pre .0) (x .pre .1) (c .before .if1 .taken)
+    beside (c .refused .ensures) ∙ string-gives-4 (standing (x .pre .0)) (x .pre .1) _ _ (c .before .if1 .taken)
 
 scan-requires : tie.Need-scan-requires
 scan-requires c κs =
     let x = c .before .before .before .before in
-    let w = width-known (x .args .width) (x .args .max-states) (ap widthStands (sym (x .pre .1)) ∙ (not-bad (x .args .self) (here x) (x .pre .0)) .0) in
+    let w = width-known (x .args .max-states) (ap widthStands (sym (x .pre .1)) ∙ (standing (x .pre .0)) .width) in
     omega (arith, c .if1 .left, w .1)
 
 enum-known-answer : tie.Need-enum-known-answer
@@ -61,13 +57,13 @@ refused-requires-2 c κs = search needs
 returns-2 : tie.Need-returns-2
 returns-2 c =
     let x = c .before .before .before .before .before .before .before .before in
-    untouched (here x) (c .refused2 .ensures)
-    ∙ string-gives-5 (x .args .self) (here x) (x .args .index) (now (x .args .value)) (x .args .width) (x .args .max-states) (x .pre .0) (x .pre .1) (c .before .before .before .before .if1 .left) (sym (c .before .before .before .scan .ensures .least) ∙ c .before .enum-told .given .1)
+    beside (c .refused2 .ensures)
+    ∙ string-gives-5 (standing (x .pre .0)) (x .pre .1) _ _ (c .before .before .before .before .if1 .left) (sym (c .before .before .before .scan .ensures .least) ∙ c .before .enum-told .given .1)
 
 is-below-last-requires : tie.Need-is-below-last-requires
 is-below-last-requires c κs =
     let x = c .before .before .before .before .before .before .before .before .before in
-    (standing (x .args .self) (here x) (x .pre .0)) .indices
+    (standing (x .pre .0)) .room .indices
 
 refused-requires-3 : tie.Need-refused-requires-3
 refused-requires-3 c κs = search needs
@@ -78,22 +74,18 @@ same-length c = search needs
 returns-3 : tie.Need-returns-3
 returns-3 c =
     let b = c .before .before in
-    let x = start b in
-    untouched (here x) (c .refused3 .ensures)
-    ∙ gives-6 (x .args .self) (here x) (x .args .index) (text (now (x .args .value))) (suited b) (sym (c .before .if2 .taken) ∙ b .is-below-last .ensures)
+    beside (c .refused3 .ensures) ∙ gives-6 (suited b) _ (sym (c .before .if2 .taken) ∙ b .is-below-last .ensures)
 
 add-levels-requires : tie.Need-add-levels-requires
 add-levels-requires c κs =
     let b = c .before .before .before in
     let x = start b in
-    let v =
-    string-levels (x .args .self) (here x) (x .args .index) (now (x .args .value)) (x .args .width) (x .args .max-states) (x .pre .0) (x .pre .1) (long b) _ (least b)
-    (admits (x .args .self) (here x) (x .args .index) (text (now (x .args .value))) (suited b) (sym (c .before .before .if2 .left) ∙ b .is-below-last .ensures)) in
+    let v = string-levels (standing (x .pre .0)) (x .pre .1) _ _ (long b) (least b) (admits (suited b) _ (sym (c .before .before .if2 .left) ∙ b .is-below-last .ensures)) in
     let t = b .before .before .before .before .before .scan in (
       v,
       λ low.
-          levels-told (x .args .self) (here x) (x .args .index) (now (x .args .value)) (x .args .max-states) _ v low (x .args .size) (t .result)
-          (x .pre .2 ∙ ap (λ (k : ℕ). entrySize k (x .args .max-states)) (sym (long b))) (b .before .before .before .answer .given .1) (t .ensures),
+          levels-told v low (x .args .size) (t .result) (x .pre .2 ∙ ap (λ (k : ℕ). entrySize k (x .args .max-states)) (sym (long b))) (b .before .before .before .answer .given .1)
+          (t .ensures),
     )
 
 same-length-2 : tie.Need-same-length-2

@@ -1,25 +1,24 @@
 -- `fst::Description::append_levels` meets its contract.
 -- Assumes nothing.
-use mathlib.Core.Path.{_≡_, refl, sym, ap, ap₂, subst, _∙_}
-use mathlib.Core.Bool.{Bool, true, false}
+use mathlib.Core.Path.{_≡_, sym, ap₂, _∙_}
+use mathlib.Core.Bool.{false}
 use mathlib.Core.List.{List}
 use Prim.Native.Nat.{ℕ, _+_, _*_, _≤_, _<_}
 use native.Mathlib.Omega.{arith}
 use denote.Ref.{now}
 use lib.ListN.{length, set}
-use Rattle.value.specs.Slice.{overlay}
-use Rattle.layout.specs.Entry.{entrySize}
 use Rattle.layout.specs.Writable.{Numbered, entryFrom}
 use Rattle.fst.specs.declared.Added.{Added}
-use Rattle.fst.specs.Record.{Lent, lent, isBad}
-use Rattle.fst.specs.Change.{leftBy}
-use Rattle.fst.proofs.Adding.{standing}
-use Rattle.fst.proofs.AddingPlain.{oneMore}
-use Rattle.fst.proofs.AddingStrings.{same-comparable, repeated, append-stays, append-full, append-more, append-roomier, append-size, levels-numbered, size-some}
+use Rattle.fst.specs.Record.{Lent, lent, keptIn}
+use Rattle.fst.specs.Change.{text, withChange, leftBy}
+use Rattle.fst.proofs.Adding.{beside}
+use Rattle.fst.proofs.AddingPlain.{Roomier, roomier, behind, dropped, kept-full, kept-more}
+use Rattle.fst.proofs.AddingStrings.{string-standing, same-repeatable, append-kept, append-same, levels-numbered, size-some, size-here}
 use borrow.Author.Needs.{needs}
 use Rattle.fst.proofs.Description.append_levels.Statement.{statement}
 use Rattle.fst.proofs.Description.append_levels.Tie as tie
 
+-- the slices that are lent
 abbrev here : tie.Start → Lent
 here x = lent (now (x .args .bytes)) (x .args .byte-start) (now (x .args .indices)) (x .args .index-start)
 
@@ -39,39 +38,31 @@ module _ (z : tie.After-lacks-room) where
   abbrev start : tie.Start
   start = z .before .before .before .before .before .before .before .before .before .before
 
-  sized : start .args .short .size ≡ entrySize (length (now (start .args .value))) (start .args .max-states)
-  sized = start .pre .2 .sized
-
-  other : false ≡ repeated (start .args .self) (here start) (start .args .index) (now (start .args .value)) (start .args .max-states) (start .args .states) (start .pre .0) (start .pre .1)
-  other = sym (z .before .before .before .if1 .left) ∙ z .before .before .before .before .repeats-number .ensures
-
-  roomy : z .lacks-room .result ≡ false → isBad (oneMore (start .args .self)) (here start) ≡ false
-  roomy h = sym (z .lacks-room .ensures) ∙ h
+  abbrev kept : withChange (keptIn (start .args .self) (here start)) (start .args .index) (text (now (start .args .value)))
+      ≡ behind (start .args .self) (here start) (start .args .index) (entryFrom (start .args .max-states) (start .args .states) (now (start .args .value)))
+  kept = append-kept (start .pre .0) (start .pre .1) (sym (z .before .before .before .if1 .left) ∙ z .before .before .before .before .repeats-number .ensures)
 
   places : z .lacks-room .result ≡ false
-      → (start .args .byte-start + start .args .self .count * entrySize (length (now (start .args .value))) (start .args .max-states) + entrySize (length (now (start .args .value))) (start .args .max-states) ≤ length (now (start .args .bytes)))
-      × (start .args .index-start + start .args .self .count < length (now (start .args .indices)))
-  places h =
-      append-roomier (start .args .self) (here start) (start .args .index) (now (start .args .value)) (start .args .max-states) (start .args .states) (start .pre .0) (start .pre .1) (roomy h)
+      → Roomier (start .args .self) (here start) (start .args .short .size)
+  places h = roomier _ (size-here (start .pre .0) (start .pre .1) (start .pre .2)) (sym (z .lacks-room .ensures) ∙ h)
 
 marked-number-requires : tie.Need-marked-number-requires
 marked-number-requires c κs =
-    let x = c .before .before .before in
-    size-some (x .args .self) (here x) (x .args .index) (now (x .args .value)) (x .args .max-states) (x .args .states) (x .pre .0) (x .pre .1) _ _ (x .pre .2)
+    let p = c .before .before .before .pre in
+    size-some (p .0) (p .1) (p .2)
 
 -- the entry's number
 numbered : (n : tie.After-marked-number) →
     let a = n .before .before .before .before .args in
     Numbered (a .max-states) (a .states) (now (a .value)) (a .short .size) (n .marked-number .result)
 numbered n =
-    let x = n .before .before .before .before in
-    levels-numbered (x .args .self) (here x) (x .args .index) (now (x .args .value)) (x .args .max-states) (x .args .states) (x .pre .0) (x .pre .1) _ _ _ (x .pre .2) (n .marked-number .ensures)
+    let p = n .before .before .before .before .pre in
+    levels-numbered (p .0) (p .1) (p .2) (n .marked-number .ensures)
 
 repeats-number-requires : tie.Need-repeats-number-requires
 repeats-number-requires c κs =
-    let n = c .before in
-    let x = n .before .before .before .before in
-    (same-comparable (x .args .self) (here x) (x .args .index) (now (x .args .value)) (x .args .max-states) (x .args .states) (x .pre .0) (x .pre .1), numbered n)
+    let p = c .before .before .before .before .before .pre in
+    (same-repeatable (p .0) (p .1), numbered (c .before))
 
 accepted-requires : tie.Need-accepted-requires
 accepted-requires c κs = search needs
@@ -81,14 +72,14 @@ same-length c = search needs
 
 returns : tie.Need-returns
 returns c =
-    let x = c .before .before .before .before .before .before .before .before in
-    ap (λ (r : Added). leftBy r ((here x) .bytes) ((here x) .indices)) (c .accepted .ensures)
-    ∙ append-stays (x .args .self) (here x) (x .args .index) (now (x .args .value)) (x .args .max-states) (x .args .states) (x .pre .0) (x .pre .1) (sym (c .before .if1 .taken) ∙ c .before .before .repeats-number .ensures)
+    let p = c .before .before .before .before .before .before .before .before .pre in
+    beside (c .accepted .ensures)
+    ∙ dropped (p .0 .admitted) (append-same (p .0) (p .1) (sym (c .before .if1 .taken) ∙ c .before .before .repeats-number .ensures))
 
 lacks-room-requires : tie.Need-lacks-room-requires
 lacks-room-requires c κs =
-    let x = c .before .before .before .before .before .before .before .before .before in
-    (x .pre .0 .admitted .sound, x .pre .2 .sized ∙ sym (append-size (x .args .self) (here x) (x .args .index) (now (x .args .value)) (x .args .max-states) (x .args .states) (x .pre .0) (x .pre .1)))
+    let p = c .before .before .before .before .before .before .before .before .before .pre in
+    (p .0 .admitted .sound, sym (size-here (p .0) (p .1) (p .2)))
 
 refused-requires : tie.Need-refused-requires
 refused-requires c κs = search needs
@@ -102,14 +93,11 @@ same-length-3 c = search needs
 returns-2 : tie.Need-returns-2
 returns-2 c =
     let z = c .before .before in
-    let x = start z in
-    ap (λ (r : Added). leftBy r ((here x) .bytes) ((here x) .indices)) (c .refused .ensures)
-    ∙ append-full (x .args .self) (here x) (x .args .index) (now (x .args .value)) (x .args .max-states) (x .args .states) (x .pre .0) (x .pre .1) (other z) (sym (z .lacks-room .ensures) ∙ c .before .if2 .taken)
+    beside (c .refused .ensures) ∙ kept-full ((start z) .pre .0 .admitted) _ (kept z) (sym (z .lacks-room .ensures) ∙ c .before .if2 .taken)
 
 add-self : tie.Need-add-self
 add-self c =
-    let x = c .before .before .before .before .before .before .before .before .before .before .before .before in
-    let f = (standing (x .args .self) (here x) (x .pre .0 .admitted .sound)) .count in
+    let f = (string-standing (c .before .before .before .before .before .before .before .before .before .before .before .before .pre .0)) .room .count in
     omega arith
 
 cast-entries : tie.Need-cast-entries
@@ -119,10 +107,7 @@ cast-entries c = search needs
 place : (c : tie.After-struct-known) →
     let a = (start (c .before .before)) .args in
     a .byte-start + a .self .count * a .short .size + a .short .size ≤ length (now (a .bytes))
-place c =
-    let z = c .before .before in
-    let a = (start z) .args in
-    subst (λ (k : ℕ). a .byte-start + a .self .count * k + k ≤ length (now (a .bytes))) (sym (sized z)) ((places z (c .before .if2 .left)) .0)
+place c = (places (c .before .before) (c .before .if2 .left)) .bytes
 
 mul-at : tie.Need-mul-at
 mul-at c = record { fits = (product _ _ _ _ (place c) (few-bytes (start (c .before .before)))) .0 }
@@ -134,14 +119,13 @@ store-number-requires : tie.Need-store-number-requires
 store-number-requires c κs =
     let z = c .before .before .before in
     let x = start z in
-    let p = same-comparable (x .args .self) (here x) (x .args .index) (now (x .args .value)) (x .args .max-states) (x .args .states) (x .pre .0) (x .pre .1) in
-    let S = entrySize (length (now (x .args .value))) (x .args .max-states) in (
+    let p = same-repeatable (x .pre .0) (x .pre .1) in (
       record {
         under = p .under;
         codes = p .codes;
         wide = p .wide;
         short = p .short;
-        fits = subst (λ (k : ℕ). x .args .byte-start + x .args .self .count * k + S ≤ length (now (x .args .bytes))) (sym (sized z)) ((places z (c .before .before .if2 .left)) .0);
+        fits = omega (arith, place (c .before), x .pre .2 .sized);
       },
       numbered (z .before .before .before .before .before .before),
     )
@@ -149,7 +133,7 @@ store-number-requires c κs =
 index-in : (c : tie.After-slice-known3) →
     let x = start (c .before .before .before .before .before .before) in
     x .args .index-start + x .args .self .count < length (now (x .args .indices))
-index-in c = (places (c .before .before .before .before .before .before) (c .before .before .before .before .before .if2 .left)) .1
+index-in c = (places (c .before .before .before .before .before .before) (c .before .before .before .before .before .if2 .left)) .index
 
 add-indices : tie.Need-add-indices
 add-indices c = let p = index-in c in omega (arith, few-indices (start (c .before .before .before .before .before .before)))
@@ -173,11 +157,9 @@ returns-3 : tie.Need-returns-3
 returns-3 c =
     let z = c .before .before .before .before .before .before .before in
     let x = start z in
-    let w = c .before .before .before .store-number in
-    let E = entryFrom (x .args .max-states) (x .args .states) (now (x .args .value)) in
-    ap₂ (λ (r : Added) (b : List ℕ). leftBy r b (set (now (x .args .indices)) (x .args .index-start + x .args .self .count) (x .args .index))) (c .accepted2 .ensures)
-    (w .ensures ∙ ap (λ (k : ℕ). overlay (now (x .args .bytes)) (x .args .byte-start + x .args .self .count * k) E) (sized z))
-    ∙ append-more (x .args .self) (here x) (x .args .index) (now (x .args .value)) (x .args .max-states) (x .args .states) (x .pre .0) (x .pre .1) (other z) (roomy z (c .before .before .before .before .before .before .if2 .left))
+    ap₂ (λ (r : Added) (b : List ℕ). leftBy r b (set (now (x .args .indices)) (x .args .index-start + x .args .self .count) (x .args .index)))
+    (c .accepted2 .ensures) (c .before .before .before .store-number .ensures)
+    ∙ kept-more (x .pre .0 .admitted) _ (kept z) _ (size-here (x .pre .0) (x .pre .1) (x .pre .2)) (sym (z .lacks-room .ensures) ∙ c .before .before .before .before .before .before .if2 .left)
 
 pub append-levels-spec : {M : Type 1} → statement M
 append-levels-spec =

@@ -5,17 +5,19 @@ use mathlib.Core.Path.{_≡_, sym, ap, _∙_}
 use Prim.Native.Nat.{_+_, _<_}
 use native.Mathlib.Omega.{arith}
 use denote.Ref.{now}
-use lib.ListN.{length, set}
-use Rattle.fst.specs.declared.Added.{Added}
-use Rattle.fst.specs.Record.{Lent, lent, isBad}
-use Rattle.fst.specs.Change.{leftBy, text}
+use mathlib.Core.List.{[]}
+use lib.ListN.{length}
+use Rattle.fst.specs.Record.{Lent, lent, sizeOf}
+use Rattle.fst.specs.Change.{text}
 use Rattle.fst.specs.Adding.{Admitted}
-use Rattle.fst.proofs.Adding.{Suited, standing, gives-6, admits, untouched}
-use Rattle.fst.proofs.AddingPlain.{oneMore, event-gives-4, event-suited, event-full, event-more}
+use Rattle.fst.proofs.Records.{standing}
+use Rattle.fst.proofs.Adding.{Suited, gives-6, admits, beside}
+use Rattle.fst.proofs.AddingPlain.{roomier, kept-full, event-gives-4, event-suited, event-kept, event-more}
 use borrow.Author.Needs.{needs}
 use Rattle.fst.proofs.Description.keep_event.Statement.{statement}
 use Rattle.fst.proofs.Description.keep_event.Tie as tie
 
+-- the slices that are lent
 abbrev here : tie.Start → Lent
 here x = lent (now (x .args .bytes)) (x .args .byte-start) (now (x .args .indices)) (x .args .index-start)
 
@@ -25,21 +27,18 @@ module _ (b : tie.After-is-below-last) where
   start = b .before .before .before .before .before .before
 
   suited : Suited (start .args .self) (here start) (text (now (start .args .value)))
-  suited = event-suited (start .args .self) (here start) (start .args .index) (now (start .args .value)) (start .pre .0) (start .pre .1) (b .before .before .if1 .left)
+  suited = event-suited (standing (start .pre .0)) (start .pre .1) (start .args .index) _ (b .before .before .if1 .left)
 
   passes : b .is-below-last .result ≡ false → Admitted (start .args .self) (here start) (start .args .index) (text (now (start .args .value)))
-  passes h = admits (start .args .self) (here start) (start .args .index) (text (now (start .args .value))) suited (sym h ∙ b .is-below-last .ensures)
+  passes h = admits suited _ (sym h ∙ b .is-below-last .ensures)
 
 -- and once the room is
-module _ (z : tie.After-is-bad) where
+module _ (z : tie.After-lacks-room) where
   abbrev told : tie.After-is-below-last
   told = z .before .before .before .before
 
-  roomy : z .is-bad .result ≡ false → isBad (oneMore (start told .args .self)) (here (start told)) ≡ false
-  roomy h = sym (z .is-bad .ensures) ∙ h
-
-  index-in : z .is-bad .result ≡ false → start told .args .index-start + start told .args .self .count < length (now (start told .args .indices))
-  index-in h = let f = (standing (oneMore (start told .args .self)) (here (start told)) (roomy h)) .indices in omega arith
+  index-in : z .lacks-room .result ≡ false → start told .args .index-start + start told .args .self .count < length (now (start told .args .indices))
+  index-in h = (roomier {d = start told .args .self} {l = here (start told)} 0 (ap sizeOf (start told .pre .1)) (sym (z .lacks-room .ensures) ∙ h)) .index
 
 refused-requires : tie.Need-refused-requires
 refused-requires c κs = search needs
@@ -47,13 +46,10 @@ refused-requires c κs = search needs
 returns : tie.Need-returns
 returns c =
     let x = c .before .before .before .before .before in
-    untouched (here x) (c .refused .ensures)
-    ∙ event-gives-4 (x .args .self) (here x) (x .args .index) (now (x .args .value)) (x .pre .0) (x .pre .1) (c .before .if1 .taken)
+    beside (c .refused .ensures) ∙ event-gives-4 (standing (x .pre .0)) (x .pre .1) _ _ (c .before .if1 .taken)
 
 is-below-last-requires : tie.Need-is-below-last-requires
-is-below-last-requires c κs =
-    let x = c .before .before .before .before .before in
-    (standing (x .args .self) (here x) (x .pre .0)) .indices
+is-below-last-requires c κs = (standing (c .before .before .before .before .before .pre .0)) .room .indices
 
 refused-requires-2 : tie.Need-refused-requires-2
 refused-requires-2 c κs = search needs
@@ -64,18 +60,17 @@ same-length c = search needs
 returns-2 : tie.Need-returns-2
 returns-2 c =
     let b = c .before .before in
-    let x = start b in
-    untouched (here x) (c .refused2 .ensures)
-    ∙ gives-6 (x .args .self) (here x) (x .args .index) (text (now (x .args .value))) (suited b) (sym (c .before .if2 .taken) ∙ b .is-below-last .ensures)
+    beside (c .refused2 .ensures) ∙ gives-6 (suited b) _ (sym (c .before .if2 .taken) ∙ b .is-below-last .ensures)
 
 add-self : tie.Need-add-self
 add-self c =
-    let x = start (c .before .before) in
-    let f = (standing (x .args .self) (here x) (x .pre .0)) .count in
+    let f = (standing ((start (c .before .before)) .pre .0)) .room .count in
     omega arith
 
-is-bad-requires : tie.Need-is-bad-requires
-is-bad-requires c κs = search needs
+lacks-room-requires : tie.Need-lacks-room-requires
+lacks-room-requires c κs =
+    let p = (start (c .before .before .before)) .pre in
+    (p .0, sym (ap sizeOf (p .1)))
 
 refused-requires-3 : tie.Need-refused-requires-3
 refused-requires-3 c κs = search needs
@@ -87,8 +82,8 @@ returns-3 : tie.Need-returns-3
 returns-3 c =
     let z = c .before .before in
     let x = start (told z) in
-    untouched (here x) (c .refused3 .ensures)
-    ∙ event-full (x .args .self) (here x) (x .args .index) (now (x .args .value)) (x .pre .0) (x .pre .1) (passes (told z) (z .before .before .before .if2 .left)) (sym (z .is-bad .ensures) ∙ c .before .if3 .taken)
+    beside (c .refused3 .ensures)
+    ∙ kept-full (passes (told z) (z .before .before .before .if2 .left)) [] (event-kept (standing (x .pre .0)) (x .pre .1) _ _) (sym (z .lacks-room .ensures) ∙ c .before .if3 .taken)
 
 cast-indices : tie.Need-cast-indices
 cast-indices c = search needs
@@ -112,8 +107,8 @@ returns-4 : tie.Need-returns-4
 returns-4 c =
     let z = c .before .before .before in
     let x = start (told z) in
-    ap (λ (r : Added). leftBy r ((here x) .bytes) (set (now (x .args .indices)) (x .args .index-start + x .args .self .count) (x .args .index))) (c .accepted .ensures)
-    ∙ event-more (x .args .self) (here x) (x .args .index) (now (x .args .value)) (x .pre .0) (x .pre .1) (passes (told z) (z .before .before .before .if2 .left)) (roomy z (c .before .before .if3 .left))
+    beside (c .accepted .ensures)
+    ∙ event-more (standing (x .pre .0)) (x .pre .1) _ _ (passes (told z) (z .before .before .before .if2 .left)) (sym (z .lacks-room .ensures) ∙ c .before .before .if3 .left)
 
 pub keep-event-spec : {M : Type 1} → statement M
 keep-event-spec =
@@ -126,7 +121,7 @@ keep-event-spec =
     same-length
     returns-2
     add-self
-    is-bad-requires
+    lacks-room-requires
     refused-requires-3
     same-length-2
     returns-3

@@ -1,28 +1,28 @@
 -- `fst::Description::raise_levels` meets its contract.
 -- Assumes nothing.
 use mathlib.Core.Path.{_≡_, refl, sym, ap, ap₂, _∙_}
-use mathlib.Core.Bool.{Bool, false, cond}
+use mathlib.Core.Bool.{true, false, cond}
 use mathlib.Core.List.{List}
 use Prim.Native.Nat.{ℕ, _+_, _*_, _≤_, _<_}
 use native.Mathlib.Omega.{arith}
 use denote.Ref.{now}
 use lib.ListN.{length, set}
-use Rattle.fst.specs.declared.Added.{Added}
-use Rattle.fst.specs.Record.{Lent, lent, isBad, described}
-use Rattle.fst.specs.Change.{leftBy, repeats}
+use Rattle.fst.specs.declared.Description.{Description}
+use Rattle.fst.specs.Record.{Lent, lent}
+use Rattle.fst.specs.Adding.{repeatsWidened}
 use Rattle.value.specs.declared.States.{States}
 use Rattle.value.specs.Slice.{overlay}
 use Rattle.value.specs.Level.{join}
-use Rattle.fst.specs.declared.Encoding.the-variants.{BitVector}
-use Rattle.fst.specs.declared.Description.{Description}
 use Rattle.layout.specs.Entry.{entrySize}
 use Rattle.layout.specs.Writable.{entryFrom}
-use Rattle.fst.proofs.Adding.{standing, untouched}
-use Rattle.fst.proofs.AddingStrings.{wide, comparable, widenable, roomier, writable, levels-full, levels-stay, levels-grow}
+use Rattle.fst.proofs.Adding.{beside, acceptedWith}
+use Rattle.fst.proofs.AddingPlain.{Roomier}
+use Rattle.fst.proofs.AddingStrings.{string-standing, repeatable, width-then, widenable, wider-room, writable, levels-full, levels-stay, levels-grow}
 use borrow.Author.Needs.{needs}
 use Rattle.fst.proofs.Description.raise_levels.Statement.{statement}
 use Rattle.fst.proofs.Description.raise_levels.Tie as tie
 
+-- the slices that are lent
 abbrev here : tie.Start → Lent
 here x = lent (now (x .args .bytes)) (x .args .byte-start) (now (x .args .indices)) (x .args .index-start)
 
@@ -30,8 +30,16 @@ here x = lent (now (x .args .bytes)) (x .args .byte-start) (now (x .args .indice
 few-indices : (x : tie.Start) → length (now (x .args .indices)) * 4 < 18446744073709551616
 few-indices x = omega arith
 
+few-bytes : (x : tie.Start) → length (now (x .args .bytes)) < 18446744073709551616
+few-bytes x = omega arith
+
+-- an acceptance by its parts
+left-by : (indices : List ℕ) {d e : Description} {b c : List ℕ} → d ≡ e → b ≡ c
+    → acceptedWith (record { description = d; bytes = b; indices = indices }) ≡ acceptedWith (record { description = e; bytes = c; indices = indices })
+left-by indices p q = ap₂ (λ (d : Description) (b : List ℕ). acceptedWith (record { description = d; bytes = b; indices = indices })) p q
+
 -- what is known once the room is tried
-module _ (z : tie.After-is-bad) where
+module _ (z : tie.After-exceeds) where
   abbrev start : tie.Start
   start = z .before .before .before .before .before .before .before .before .before .before
 
@@ -41,57 +49,38 @@ module _ (z : tie.After-is-bad) where
   joined : joint ≡ join (start .args .max-states) (start .args .states)
   joined = z .before .before .before .before .before .before .join .ensures
 
-  abbrev repeat : Bool
-  repeat = z .before .before .before .before .repeats-last .result
-
-  told : repeat ≡ repeats (entrySize (length (now (start .args .value))) joint) (start .args .self .count) (wide (start .args .self) (here start) (start .args .index) (now (start .args .value)) (start .args .max-states) (start .args .states) joint (start .pre) joined) (entryFrom joint (start .args .states) (now (start .args .value)))
+  told : z .before .before .before .before .repeats-last .result ≡ repeatsWidened (start .args .max-states) joint (start .args .states) (now (start .args .value)) (start .args .byte-start) (start .args .self .count) (now (start .args .bytes))
   told = z .before .before .before .before .repeats-last .ensures
 
-  abbrev next : ℕ
-  next = z .before .before .before .next-count .result
-
-  counted : next ≡ cond repeat (start .args .self .count) (start .args .self .count + 1)
+  counted : z .before .before .before .next-count .result ≡ cond (z .before .before .before .before .repeats-last .result) (start .args .self .count) (start .args .self .count + 1)
   counted = z .before .before .before .next-count .ensures
 
-  abbrev nextIs : Description
-  nextIs = described (BitVector (length (now (start .args .value))) joint) next
-
-  roomy : z .is-bad .result ≡ false → isBad nextIs (here start) ≡ false
-  roomy h = sym (z .is-bad .ensures) ∙ h
-
   -- room for one entry more
-  places : z .is-bad .result ≡ false → repeat ≡ false
-      → (start .args .byte-start + start .args .self .count * entrySize (length (now (start .args .value))) joint + entrySize (length (now (start .args .value))) joint ≤ length (now (start .args .bytes)))
-      × (start .args .index-start + start .args .self .count < length (now (start .args .indices)))
-  places h e = roomier (start .args .self) (here start) (start .args .index) (now (start .args .value)) (start .args .max-states) (start .args .states) joint (start .pre) joined repeat told next counted (roomy h) e
+  places : z .exceeds .result ≡ false → z .before .before .before .before .repeats-last .result ≡ false → Roomier (start .args .self) (here start) (entrySize (length (now (start .args .value))) joint)
+  places h e = wider-room (start .pre) joined told counted (sym (z .exceeds .ensures) ∙ h) e
 
 -- the new entry's place
 place : (c : tie.After-entry-size) →
-    let x = start (c .before .before .before .before .before .before .before) in
+    let x = start (c .before .before .before .before .before .before .before .before) in
     x .args .byte-start + x .args .self .count * c .entry-size .result + c .entry-size .result ≤ length (now (x .args .bytes))
-place c = rw (c .entry-size .ensures) ((places (c .before .before .before .before .before .before .before) (c .before .before .before .before .before .before .if1 .left) (c .before .if2 .left)) .0)
+place c = rw (c .entry-size .ensures) ((places (c .before .before .before .before .before .before .before .before) (c .before .before .before .before .before .before .before .if1 .left) (c .before .if2 .left)) .bytes)
 
 cast-width : tie.Need-cast-width
 cast-width c =
-    let x = c .before .before .before in
-    let p = (comparable (x .args .self) (here x) (x .args .index) (now (x .args .value)) (x .args .max-states) (x .args .states) _ (x .pre) refl) .short in
+    let p = (repeatable (c .before .before .before .pre) refl) .short in
     omega arith
 
 join-requires : tie.Need-join-requires
 join-requires c κs = search needs
 
 repeats-last-requires : tie.Need-repeats-last-requires
-repeats-last-requires c κs =
-    let x = c .before .before .before .before .before in
-    comparable (x .args .self) (here x) (x .args .index) (now (x .args .value)) (x .args .max-states) (x .args .states) _ (x .pre) (c .before .join .ensures)
+repeats-last-requires c κs = repeatable (c .before .before .before .before .before .pre) (c .before .join .ensures)
 
 next-count-requires : tie.Need-next-count-requires
-next-count-requires c κs =
-    let x = c .before .before .before .before .before .before in
-    (standing (x .args .self) (here x) (x .pre .admitted .sound)) .count
+next-count-requires c κs = (string-standing (c .before .before .before .before .before .before .pre)) .room .count
 
-is-bad-requires : tie.Need-is-bad-requires
-is-bad-requires c κs = search needs
+exceeds-requires : tie.Need-exceeds-requires
+exceeds-requires c κs = width-then (c .before .before .before .before .before .before .before .before .before .pre) (c .before .before .before .before .before .join .ensures)
 
 refused-requires : tie.Need-refused-requires
 refused-requires c κs = search needs
@@ -105,18 +94,19 @@ same-length-2 c = search needs
 returns : tie.Need-returns
 returns c =
     let z = c .before .before in
-    let x = start z in
-    untouched (here x) (c .refused .ensures)
-    ∙ levels-full (x .args .self) (here x) (x .args .index) (now (x .args .value)) (x .args .max-states) (x .args .states) (joint z) (x .pre) (joined z) (repeat z) (told z) (next z) (counted z) (sym (z .is-bad .ensures) ∙ c .before .if1 .taken)
+    beside (c .refused .ensures)
+    ∙ levels-full ((start z) .pre) (joined z) (told z) (counted z) (sym (z .exceeds .ensures) ∙ c .before .if1 .taken)
+
+new-requires : tie.Need-new-requires
+new-requires c κs = search needs
 
 cast-entries : tie.Need-cast-entries
 cast-entries c = search needs
 
 expand-entries-requires : tie.Need-expand-entries-requires
 expand-entries-requires c κs =
-    let z = c .before .before in
-    let x = start z in
-    widenable (x .args .self) (here x) (x .args .index) (now (x .args .value)) (x .args .max-states) (x .args .states) (joint z) (x .pre) (joined z) (repeat z) (told z) (next z) (counted z) (roomy z (c .before .if1 .left))
+    let z = c .before .before .before in
+    widenable ((start z) .pre) (joined z) (told z) (counted z) (sym (z .exceeds .ensures) ∙ c .before .before .if1 .left)
 
 accepted-requires : tie.Need-accepted-requires
 accepted-requires c κs = search needs
@@ -129,37 +119,37 @@ same-length-4 c = search needs
 
 returns-2 : tie.Need-returns-2
 returns-2 c =
-    let z = c .before .before .before .before .before .before .before in
-    let x = start z in
-    ap₂ (λ (r : Added) (b : List ℕ). leftBy r b (now (x .args .indices))) (c .accepted .ensures) (c .before .before .before .before .expand-entries .ensures)
-    ∙ levels-stay (x .args .self) (here x) (x .args .index) (now (x .args .value)) (x .args .max-states) (x .args .states) (joint z) (x .pre) (joined z) (repeat z) (told z) (next z) (counted z) (roomy z (c .before .before .before .before .before .before .if1 .left)) (c .before .if2 .taken)
+    let z = c .before .before .before .before .before .before .before .before in
+    beside (c .accepted .ensures)
+    ∙ left-by (now ((start z) .args .indices)) (c .before .before .before .before .before .before .new .ensures) (c .before .before .before .before .expand-entries .ensures)
+    ∙ levels-stay ((start z) .pre) (joined z) (told z) (counted z) (sym (z .exceeds .ensures) ∙ c .before .before .before .before .before .before .before .if1 .left) (c .before .if2 .taken)
 
 entry-size-requires : tie.Need-entry-size-requires
 entry-size-requires c κs = search needs
 
 mul-at : tie.Need-mul-at
-mul-at c = let p = place c in omega arith
+mul-at c = omega (arith, place c, few-bytes (start (c .before .before .before .before .before .before .before .before)))
 
 add-at : tie.Need-add-at
-add-at c = let p = place c in omega arith
+add-at c = omega (arith, place c, few-bytes (start (c .before .before .before .before .before .before .before .before)))
 
 write-entry-requires : tie.Need-write-entry-requires
 write-entry-requires c κs =
-    let z = c .before .before .before .before .before .before .before .before in
-    let x = start z in
-    writable (x .args .self) (here x) (x .args .index) (now (x .args .value)) (x .args .max-states) (x .args .states) (joint z) (x .pre) (joined z) (repeat z) (told z) (next z) (counted z) (roomy z (c .before .before .before .before .before .before .before .if1 .left)) (c .before .before .if2 .left) _ _ (c .before .before .before .before .before .expand-entries .kept .1 .1 .0)
-    (ap (λ (k : ℕ). x .args .byte-start + x .args .self .count * k) (c .before .entry-size .ensures))
+    let z = c .before .before .before .before .before .before .before .before .before in
+    let a = (start z) .args in
+    writable ((start z) .pre) (joined z) (told z) (counted z) (sym (z .exceeds .ensures) ∙ c .before .before .before .before .before .before .before .before .if1 .left) (c .before .before .if2 .left) (c .before .before .before .before .before .expand-entries .kept .1 .1 .0)
+    (ap (λ (k : ℕ). a .byte-start + a .self .count * k) (c .before .entry-size .ensures))
 
 index-in : (c : tie.After-slice-known4) →
-    let x = start (c .before .before .before .before .before .before .before .before .before .before .before) in
+    let x = start (c .before .before .before .before .before .before .before .before .before .before .before .before) in
     x .args .index-start + x .args .self .count < length (now (x .args .indices))
-index-in c = (places (c .before .before .before .before .before .before .before .before .before .before .before) (c .before .before .before .before .before .before .before .before .before .before .if1 .left) (c .before .before .before .before .before .if2 .left)) .1
+index-in c = (places (c .before .before .before .before .before .before .before .before .before .before .before .before) (c .before .before .before .before .before .before .before .before .before .before .before .if1 .left) (c .before .before .before .before .before .if2 .left)) .index
 
 add-indices : tie.Need-add-indices
-add-indices c = let p = index-in c in omega (arith, few-indices (start (c .before .before .before .before .before .before .before .before .before .before .before)))
+add-indices c = let p = index-in c in omega (arith, few-indices (start (c .before .before .before .before .before .before .before .before .before .before .before .before)))
 
 mul-indices : tie.Need-mul-indices
-mul-indices c = let p = index-in c in omega (arith, few-indices (start (c .before .before .before .before .before .before .before .before .before .before .before)))
+mul-indices c = let p = index-in c in omega (arith, few-indices (start (c .before .before .before .before .before .before .before .before .before .before .before .before)))
 
 slice-write-indices : tie.Need-slice-write-indices
 slice-write-indices c = index-in c
@@ -175,16 +165,16 @@ same-length-6 c = search needs
 
 returns-3 : tie.Need-returns-3
 returns-3 c =
-    let z = c .before .before .before .before .before .before .before .before .before .before .before .before in
+    let z = c .before .before .before .before .before .before .before .before .before .before .before .before .before in
     let x = start z in
-    let w = c .before .before .before .write-entry in
-    ap₂ (λ (r : Added) (b : List ℕ). leftBy r b (set (now (x .args .indices)) (x .args .index-start + x .args .self .count) (x .args .index))) (c .accepted2 .ensures)
-    (w .ensures .1
+    beside (c .accepted2 .ensures)
+    ∙ left-by (set (now (x .args .indices)) (x .args .index-start + x .args .self .count) (x .args .index)) (c .before .before .before .before .before .before .before .before .before .before .before .new .ensures)
+    (c .before .before .before .write-entry .ensures .1
     ∙ ap₂
     (λ (b : List ℕ) (k : ℕ).
     overlay b (x .args .byte-start + x .args .self .count * k) (entryFrom (joint z) (x .args .states) (now (x .args .value))))
     (c .before .before .before .before .before .before .before .before .before .expand-entries .ensures) (c .before .before .before .before .before .entry-size .ensures))
-    ∙ levels-grow (x .args .self) (here x) (x .args .index) (now (x .args .value)) (x .args .max-states) (x .args .states) (joint z) (x .pre) (joined z) (repeat z) (told z) (next z) (counted z) (roomy z (c .before .before .before .before .before .before .before .before .before .before .before .if1 .left)) (c .before .before .before .before .before .before .if2 .left)
+    ∙ levels-grow (x .pre) (joined z) (told z) (counted z) (sym (z .exceeds .ensures) ∙ c .before .before .before .before .before .before .before .before .before .before .before .before .if1 .left) (c .before .before .before .before .before .before .if2 .left)
 
 pub raise-levels-spec : {M : Type 1} → statement M
 raise-levels-spec =
@@ -194,11 +184,12 @@ raise-levels-spec =
     join-requires
     repeats-last-requires
     next-count-requires
-    is-bad-requires
+    exceeds-requires
     refused-requires
     same-length
     same-length-2
     returns
+    new-requires
     cast-entries
     expand-entries-requires
     accepted-requires

@@ -1,29 +1,25 @@
 -- `fst::change::is_below_last` meets its contract.
 -- Assumes nothing.
-use native.Mathlib.Omega.{arith}
-use Rattle.fst.proofs.Adding.{none-kept, last-kept}
+use mathlib.Core.Path.{sym, _∙_}
+use Rattle.fst.proofs.Adding.{below-none, below-some}
 use borrow.Author.Needs.{needs}
 use Rattle.fst.proofs.change.is_below_last.Statement.{statement}
 use Rattle.fst.proofs.change.is_below_last.Tie as tie
 
-sub-last : tie.Need-sub-last
-sub-last c = search needs
+last-index-requires : tie.Need-last-index-requires
+last-index-requires c κs = search needs
 
-add-last : tie.Need-add-last
-add-last c = search needs
+enum-known-kept : tie.Need-enum-known-kept
+enum-known-kept c = search needs
 
-mul-last : tie.Need-mul-last
-mul-last c = search needs
-
-shared-slice-read-last : tie.Need-shared-slice-read-last
-shared-slice-read-last c = search needs
+enum-told : tie.Need-enum-told
+enum-told c = search needs
 
 returns : tie.Need-returns
-returns c = last-kept _ _ _ _ (λ e. omega arith)
+returns c = below-none _ _ _ (sym (c .before .before .last-index .ensures) ∙ c .enum-told .given .1)
 
 returns-2 : tie.Need-returns-2
-returns-2 c = none-kept _ _ _ (omega arith)
+returns-2 c = below-some _ _ _ _ (sym (c .before .before .before .last-index .ensures) ∙ c .before .kept .given .1)
 
 pub is-below-last-spec : {M : Type 1} → statement M
-is-below-last-spec =
-    tie.close (tie.spec sub-last add-last mul-last shared-slice-read-last returns returns-2)
+is-below-last-spec = tie.close (tie.spec last-index-requires enum-known-kept enum-told returns returns-2)

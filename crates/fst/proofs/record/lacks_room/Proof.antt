@@ -6,7 +6,7 @@ use native.Mathlib.Omega.{arith}
 use denote.Ref.{now}
 use lib.ListN.{length}
 use Rattle.fst.specs.Record.{Lent, lent}
-use Rattle.fst.proofs.Adding.{standing}
+use Rattle.fst.proofs.Records.{standing}
 use Rattle.fst.proofs.AddingPlain.{most, no-bytes, by-indices}
 use borrow.Author.Needs.{needs}
 use Rattle.fst.proofs.record.lacks_room.Statement.{statement}
@@ -18,14 +18,14 @@ here x = lent (now (x .args .bytes)) (x .args .byte-start) (now (x .args .indice
 -- the bytes in use
 within : (x : tie.Start) → x .args .byte-start + x .args .description .count * x .args .size ≤ length (now (x .args .bytes))
 within x =
-    let f = (standing (x .args .description) (here x) (x .pre .0)) .bytes in
+    let f = (standing {d = x .args .description} {l = here x} (x .pre .0)) .room .bytes in
     rw (x .pre .1) f
 
 few-bytes : (x : tie.Start) → length (now (x .args .bytes)) < 18446744073709551616
 few-bytes x = omega arith
 
 returns : tie.Need-returns
-returns c = most (c .before .args .description) (here (c .before)) (c .before .pre .0) (c .if1 .taken)
+returns c = most (standing (c .before .pre .0)) (c .if1 .taken)
 
 cast-entries : tie.Need-cast-entries
 cast-entries c = search needs
@@ -42,19 +42,19 @@ sub-if2 c = within (c .before)
 returns-2 : tie.Need-returns-2
 returns-2 c =
     let x = c .before .before in
-    no-bytes (x .args .description) (here x) (x .pre .0) (c .before .if1 .left)
+    no-bytes (standing (x .pre .0)) (c .before .if1 .left)
     (subst (λ (k : ℕ). length (now (x .args .bytes)) - (x .args .byte-start + x .args .description .count * k) < k) (x .pre .1) (c .if2 .taken))
 
 sub-result : tie.Need-sub-result
 sub-result c =
     let x = c .before .before in
-    let f = (standing (x .args .description) (here x) (x .pre .0)) .indices in
+    let f = (standing {d = x .args .description} {l = here x} (x .pre .0)) .room .indices in
     omega arith
 
 returns-3 : tie.Need-returns-3
 returns-3 c =
     let x = c .before .before in
-    by-indices (x .args .description) (here x) (x .pre .0) (c .before .if1 .left)
+    by-indices (standing (x .pre .0)) (c .before .if1 .left)
     (subst (λ (k : ℕ). k ≤ length (now (x .args .bytes)) - (x .args .byte-start + x .args .description .count * k)) (x .pre .1) (c .if2 .left))
 
 pub lacks-room-spec : {M : Type 1} → statement M
