@@ -1,5 +1,5 @@
-//! The operations of the proved archive `libyoksimert.a`, under the oracle's types. What the archive is proved to leave on a refusal is
-//! asserted.
+//! The operations of the proved archive `libyoksimert.a`, under the oracle's types and with the oracle's refusals. What the archive is
+//! proved to leave on a refusal is asserted.
 
 #![forbid(unsafe_code)]
 

@@ -3,7 +3,7 @@
 use crate::MAX_WIDTH;
 
 /// The most inputs of a derivation.
-pub(crate) const MAX_INPUTS: usize = 8;
+pub const MAX_INPUTS: usize = 8;
 /// The most pieces of a derivation.
 pub(crate) const MAX_PIECES: usize = 64;
 

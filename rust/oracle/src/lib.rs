@@ -22,7 +22,7 @@ mod text;
 pub use add_change::{Change, add_change};
 pub use add_piece::{Side, add_piece};
 pub use compare::{Record, compare};
-pub use derivation::{Derivation, empty_derivation};
+pub use derivation::{Derivation, MAX_INPUTS, empty_derivation};
 pub use derive::{Input, Step, derive, derived_laid_out, derived_list};
 pub use fresh::{fresh, fresh_real};
 pub use history::{Fed, history, history_laid_out};

@@ -3,9 +3,6 @@ use oracle::{Change, Description, Refusal};
 use yoksimert::raw;
 
 /// Adds a change and hands back the next description.
-///
-/// # Errors
-/// 2, 3, 4, 5, 6, 7.
 pub fn add_change(
     d: Description,
     bytes: &mut [u8],

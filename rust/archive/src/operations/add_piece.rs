@@ -3,9 +3,6 @@ use oracle::{Derivation, Refusal, Side};
 use yoksimert::raw;
 
 /// Adds a piece and hands back the next derivation.
-///
-/// # Errors
-/// 14, 12, 13.
 pub fn add_piece(
     d: &Derivation,
     side: Side,

@@ -3,9 +3,6 @@ use oracle::{Record, Refusal};
 use yoksimert::raw::{self, FlatRecord};
 
 /// Whether both lists of index and value agree.
-///
-/// # Errors
-/// 2 for the first record, then for the second; 9 and 10 in each pair up to the first difference.
 pub fn compare(a: &Record, b: &Record) -> Result<bool, Refusal> {
     let answer = raw::compare(flat(a), flat(b));
     if answer.number != 0 {

@@ -1,14 +1,8 @@
 use crate::numbers::{accepted, decode, encode, flat_derivation};
-use oracle::{Derivation, Description, Input, Refusal};
+use oracle::{Derivation, Description, Input, MAX_INPUTS, Refusal};
 use yoksimert::raw::{self, FlatDescription, FlatInput, FlatInputs};
 
-/// The most records that can be lent to Derive.
-pub const MAX_INPUTS: usize = 8;
-
 /// Derives a record. Of more than [`MAX_INPUTS`] records the first are lent, with the number of all.
-///
-/// # Errors
-/// 2, 14, 15, 11, 9, 10, 7.
 pub fn derive(
     d: &Derivation,
     inputs: &[Input],

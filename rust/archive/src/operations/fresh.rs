@@ -3,9 +3,6 @@ use oracle::{Description, Refusal};
 use yoksimert::raw::{self, FlatDescription};
 
 /// The empty record of a width; width 0 makes an event.
-///
-/// # Errors
-/// 1.
 pub fn fresh(width: u32) -> Result<Description, Refusal> {
     let made = raw::fresh(width);
     accepted(made.number)?;
@@ -13,9 +10,6 @@ pub fn fresh(width: u32) -> Result<Description, Refusal> {
 }
 
 /// The same by the call that is lent a recorder, which may have held anything.
-///
-/// # Errors
-/// 1.
 pub fn recorder_fresh(width: u32) -> Result<Description, Refusal> {
     let held = FlatDescription::new(width ^ 5, !width, 9, 7);
     let mut lent = held;

@@ -3,9 +3,6 @@ use oracle::{Offset, Refusal};
 use yoksimert::raw;
 
 /// Finds the entries of the greatest index not above the sought one.
-///
-/// # Errors
-/// 2, 11.
 pub fn look_up(indices: &[u32], sought: u32) -> Result<Option<Offset>, Refusal> {
     let answer = raw::look_up(indices, sought);
     if !answer.found {

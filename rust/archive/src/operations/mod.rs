@@ -12,7 +12,7 @@ mod text;
 pub use add_change::add_change;
 pub use add_piece::add_piece;
 pub use compare::compare;
-pub use derive::{MAX_INPUTS, derive};
+pub use derive::derive;
 pub use fresh::{fresh, fresh_real, recorder_fresh};
 pub use look_up::look_up;
 pub use read::read;

@@ -3,9 +3,6 @@ use oracle::{Description, Entry, Refusal};
 use yoksimert::raw;
 
 /// Reads an entry.
-///
-/// # Errors
-/// 2, 8, 9.
 pub fn read(d: Description, bytes: &[u8], byte_start: usize, entry: u32) -> Result<Entry, Refusal> {
     let answer = raw::read(encode(d), bytes, byte_start, entry);
     if answer.number != 0 {

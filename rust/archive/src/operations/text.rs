@@ -3,9 +3,6 @@ use oracle::{Description, Refusal};
 use yoksimert::raw;
 
 /// Writes the string of an entry into the lent text.
-///
-/// # Errors
-/// 2, 3, 8, 9, 10, 7.
 pub fn text(
     d: Description,
     bytes: &[u8],

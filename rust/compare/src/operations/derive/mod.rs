@@ -6,15 +6,12 @@ use crate::domain;
 use crate::operation::{Operation, Outcome, Slices};
 use crate::record::LentRecord;
 use crate::stored::{Fields, Module, Reader, terms};
-use oracle::{Derivation, Description, Encoding, Input, Refusal, States};
+use oracle::{Derivation, Description, Encoding, Input, MAX_INPUTS, Refusal, States};
 #[cfg(wellen)]
 use {
     crate::by_wellen::{Verdict, stored, whole},
     reference::{Record, Refused},
 };
-
-/// The most inputs that the archive and the definition are lent.
-const MAX_INPUTS: usize = 8;
 
 #[derive(Clone, PartialEq, Eq, Debug)]
 pub struct Derive {
