@@ -1,4 +1,6 @@
-//! The operations, one file for each.
+//! The operations, one file for each: what a call is lent, its generator, wellen's domain, how the oracle, wellen and
+//! the archive are called, smaller calls, the stored form, and the equation over the definitions. A new one is its file
+//! and two lines here.
 
 pub mod add_change;
 pub mod add_piece;

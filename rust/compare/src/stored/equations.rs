@@ -2,7 +2,7 @@
 
 use crate::operations::OPERATIONS;
 
-/// A module of definitions, as a file of crate `transform` imports it. The names have spaces between them.
+/// A module of definitions. The names have spaces between them.
 pub struct Module {
     path: &'static str,
     /// What equations name of it.
