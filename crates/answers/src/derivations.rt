@@ -15,8 +15,8 @@ use crate::records::has_made;
 use crate::records::index_buffer;
 use derivation::DerivedBitVecSignal;
 use derivation::Joined;
-use transform::Input;
-use transform::Inputs;
+use steps::Input;
+use steps::Inputs;
 
 // ---- derivations
 

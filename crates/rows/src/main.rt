@@ -10,8 +10,8 @@ use fst::Made;
 use signal::DataOffset;
 use signal::NextIndex;
 use signal::OffsetAnswer;
-use transform::Input;
-use transform::Inputs;
+use steps::Input;
+use steps::Inputs;
 
 // The character of a hexadecimal digit.
 fn digit(n: u8) -> u8

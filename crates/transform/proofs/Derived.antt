@@ -1,54 +1,58 @@
 -- Demand 3 of derived records: a derived list is sound, begins at index 0 and doesn't fall, and an accepted Derive leaves it laid out.
 -- Assumes nothing.
-use mathlib.Core.Path.{_≡_, refl, sym, ap, ap₂, _∙_, subst}
+use Prim.Native.Nat.{_+_, _-_, _<_, _^_, _≤_, min, suc, zero, ℕ}
+use borrow.Author.Tests.{le-ltb, ltb-false}
+use denote.Ref.{now}
+use lib.Dec.{eqb, ltb}
+use lib.ListN.{List·getD-eq-default, List·getD-map, getD, length, length-append, length-map, set}
+use mathlib.Core.Bool.{Bool, cond, false, true, true≢false}
+use mathlib.Core.List.{List, [], _++_, _∷_, append-assoc, append-nil, foldl, map}
 use mathlib.Core.Logic.{_↔_}
-use mathlib.Core.Bool.{Bool, true, false, cond, true≢false}
-use mathlib.Core.List.{List, [], _∷_, _++_, map, foldl, append-nil, append-assoc}
 use mathlib.Core.Option.{Option, none, some}
-use Prim.Native.Nat.{ℕ, zero, suc, _+_, _-_, _^_, _≤_, _<_, min}
+use mathlib.Core.Path.{_∙_, _≡_, ap, ap₂, refl, subst, sym}
 use native.Mathlib.Nat.{pow-le-pow-right}
 use native.Mathlib.Omega.{arith}
-use borrow.Author.Tests.{ltb-false, le-ltb}
-use lib.Dec.{eqb, ltb}
-use lib.ListN.{length, getD, length-map, length-append, List·getD-map, List·getD-eq-default}
-use Rattle.value.specs.Slice.{part, any, sum}
-use Rattle.value.specs.Level.{markOf, bitsOf, hasNoCode, joinAll}
 use Rattle.value.specs.Digits.{Below}
-use Rattle.value.proofs.Digits.{below-take, below-drop, below-mono, below-append}
-use Rattle.value.proofs.Tests.{or-left, or-right, or-both, by-le}
-use Rattle.value.proofs.Levels.{mark-join, bits-up, codes-text, all-below}
+use Rattle.value.specs.Level.{bitsOf, hasNoCode, joinAll, markOf}
+use Rattle.value.specs.Slice.{any, part, sum}
+use Rattle.value.proofs.Digits.{below-append, below-drop, below-mono, below-take}
+use Rattle.value.proofs.Levels.{all-below, bits-up, codes-text, mark-join}
 use Rattle.value.proofs.Slices.{any-none, part-length}
+use Rattle.value.proofs.Tests.{by-le, or-both, or-left, or-right}
+use Rattle.layout.proofs.Entries.{laws}
+use Rattle.fst.specs.Record.{Kept, Lent, keptIn, largestIn}
+use Rattle.fst.specs.Refusal.{Reply, Test, given, refused, tried}
+use Rattle.fst.specs.declared.Description.{Description}
 use Rattle.fst.specs.declared.Encoding.{Encoding}
 use Rattle.fst.specs.declared.Encoding.the-variants.{Event}
-use Rattle.fst.specs.declared.Description.{Description}
-use Rattle.fst.specs.Refusal.{Reply, refused, given, Test, tried}
-use Rattle.fst.specs.Record.{Lent, Kept, largestIn, keptIn}
-use Rattle.fst.specs.Change.{stored}
+use Rattle.fst.proofs.Refusals.{Result, through, stopped, result}
 use Rattle.runs.specs.All.{All}
 use Rattle.runs.specs.Runs as runs
-use Rattle.runs.specs.Runs.{byValue, Step, endsLike, joined, laidOut, Same}
-use Rattle.layout.proofs.Entries.{laws}
-use Rattle.runs.proofs.All.{all-map, all-by}
-use Rattle.runs.proofs.Laid.{Sound, equal-same, laid-same, laid-found}
-use Rattle.fst.proofs.Refusals.{Result, through, stopped, result}
-use Rattle.signal.specs.declared.NextIndex.{NextIndex}
-use Rattle.signal.specs.declared.NextIndex.the-variants.{Absent, At}
-use Rattle.signal.specs.Decode.{entriesFrom, entriesIn, entryAt, setIn, levelsIn}
+use Rattle.runs.specs.Runs.{Same, Step, byValue, endsLike, joined, laidOut}
+use Rattle.runs.proofs.All.{all-by, all-map}
+use Rattle.runs.proofs.Laid.{Sound, equal-same, laid-found, laid-same}
+use Rattle.signal.specs.Decode.{entriesFrom, entriesIn, entryAt, levelsIn, setIn}
 use Rattle.signal.specs.Offset.{falls, headOf}
 use Rattle.signal.specs.Read.{widthOf}
+use Rattle.signal.specs.declared.NextIndex.{NextIndex}
+use Rattle.signal.specs.declared.NextIndex.the-variants.{Absent, At}
+use Rattle.signal.proofs.Entries.{entries-count, entries-each, entry-is, indexed}
 use Rattle.signal.proofs.ReadBack as back
 use Rattle.signal.proofs.ReadBack.{Tells}
-use Rattle.derivation.specs.declared.Extract.{Extract}
+use Rattle.derivation.specs.Piece.{endOf, extractOf, isBadPiece, pieceWidth, piecesOf}
 use Rattle.derivation.specs.declared.DerivedBitVecSignal.{DerivedBitVecSignal}
-use Rattle.transform.specs.declared.Inputs.{Inputs}
-use Rattle.derivation.specs.Piece.{endOf, extractOf, piecesOf, pieceWidth, isBadPiece}
-use Rattle.transform.specs.Steps.{Shown, shownBy, indexOf, Track, unbegun, nowOf, smaller, smallest, moved, Moment, momentsFrom, countOf, momentsOf}
-use Rattle.transform.specs.Derive.{pickedOf, codesShown, setShown, picked, largestShown, yielded, sameStep, shownIn, derivedList, largestAmong, lentOut, encodingOf, isBeyond, isUnfit, startsLate, isLate, indicesFall, entryIsBad, markIsBad, pickIsBad, codeIsBad, deriveRefusals, Derived, derivedBy, derive}
-use Rattle.transform.specs.Tests.{keptAll, Derivable}
-use Rattle.derivation.proofs.Pieces.{Sized, sound, good-piece}
+use Rattle.derivation.specs.declared.Extract.{Extract}
 use Rattle.derivation.proofs.Joins.{count-is}
-use Rattle.transform.proofs.SteppingLevels.{levels-length, levels-below, mark-within}
-use Rattle.transform.proofs.InputTests.{indexed, entries-count, entry-is, entries-each, fit}
+use Rattle.derivation.proofs.Pieces.{Sized, good-piece, sound}
+use Rattle.steps.specs.Inputs.{encodingOf, entryIsBad, indicesFall, isLate, keptAll, markIsBad, startsLate}
+use Rattle.steps.specs.Steps.{Moment, Shown, Track, countOf, keptSteps, momentsFrom, momentsOf, moved, nowOf, shownBy, shownIn, shownIndex, smaller, smallest, unbegun}
+use Rattle.steps.specs.declared.Inputs.{Inputs}
+use Rattle.steps.proofs.Levels.{levels-below, levels-length, mark-within}
+use Rattle.steps.proofs.Sources.{showing}
+use Rattle.transform.specs.Derive.{Derived, codeIsBad, codesShown, derive, deriveRefusals, derivedBy, derivedList, isBeyond, isUnfit, largestAmong, largestShown, lentOut, pickIsBad, picked, pickedOf, sameStep, setShown, yielded}
+use Rattle.transform.specs.Refusals.{Derivable}
+use Rattle.transform.proofs.PieceTests.{fit}
+use Rattle.fst.specs.Change.{stored}
 
 -- ---- lists in order
 
@@ -126,7 +130,7 @@ shown-from k =
     let n : i < length (k .indices) = rw (length-map (entriesIn k) shownBy, entries-count k) at h in
     record { at = i; inside = n; is = List·getD-map shownBy (entriesIn k) i (indexed k 0) ∙ ap shownBy (entry-is k i (indexed k 0) n) })
 
-shown-up : (j b : ℕ) (k : Kept) (l : List ℕ) → Up (λ i. i) b l → Up indexOf b (map shownBy (entriesFrom j k l))
+shown-up : (j b : ℕ) (k : Kept) (l : List ℕ) → Up (λ i. i) b l → Up shownIndex b (map shownBy (entriesFrom j k l))
 unfolding entriesFrom
 shown-up j b k [] u = tt
 shown-up j b k (i ∷ l) u = (u .0, shown-up (suc j) i k l (u .1))
@@ -185,7 +189,7 @@ abbrev momentIndex : Moment → ℕ
 momentIndex m = m .index
 
 abbrev NextUp : ℕ → Track → Type 0
-NextUp b t = Up indexOf b (t .next)
+NextUp b t = Up shownIndex b (t .next)
 
 -- no next entry is below an index
 abbrev LeastIn : ℕ → List Shown → Type 0
@@ -204,7 +208,7 @@ unfolding smallest
 least-under [] i h = tt
 least-under (t ∷ ts) i h = let z = split (t .next) (smallest ts) h in (z .0, least-under ts i (z .1))
   where
-    split : (l : List Shown) (m : NextIndex) → LeastOf i (smaller (headOf (map indexOf l)) m) → LeastIn i l × LeastOf i m
+    split : (l : List Shown) (m : NextIndex) → LeastOf i (smaller (headOf (map shownIndex l)) m) → LeastIn i l × LeastOf i m
     split [] m h = (tt, h)
     split (s ∷ l) Absent h = (h, tt)
     split (s ∷ l) (At j) h = (omega arith, omega arith)
@@ -214,18 +218,18 @@ unfolding smallest
 bounded [] b u = tt
 bounded (t ∷ ts) b u = merge (t .next) (smallest ts) (u .0) (bounded ts b (u .1))
   where
-    merge : (l : List Shown) (m : NextIndex) → Up indexOf b l → LeastOf b m → LeastOf b (smaller (headOf (map indexOf l)) m)
+    merge : (l : List Shown) (m : NextIndex) → Up shownIndex b l → LeastOf b m → LeastOf b (smaller (headOf (map shownIndex l)) m)
     merge [] m u h = h
     merge (s ∷ l) Absent u h = u .0
     merge (s ∷ l) (At j) u h = let k = u .0 in omega arith
 
-moved-up : (i b : ℕ) (n : Option Shown) (l : List Shown) → Up indexOf b l → LeastIn i l → Up indexOf i ((moved i (record { now = n; next = l })) .next)
+moved-up : (i b : ℕ) (n : Option Shown) (l : List Shown) → Up shownIndex b l → LeastIn i l → Up shownIndex i ((moved i (record { now = n; next = l })) .next)
 unfolding moved
 moved-up i b n [] u h = tt
 moved-up i b n (s ∷ l) u h = go (eqb (s .index) i)
   where
     go : (t : Bool) → NextUp i (cond t (record { now = some s; next = l }) (record { now = n; next = s ∷ l }))
-    go true = up-from indexOf i (s .index) l h (u .1)
+    go true = up-from shownIndex i (s .index) l h (u .1)
     go false = (h, u .1)
 
 ups : (ts : List Track) (i b : ℕ) → All (NextUp b) ts → All (NextLeast i) ts → All (NextUp i) (map (moved i) ts)
@@ -247,7 +251,7 @@ moments-up (suc n) (At i) ts b e u =
 abbrev tracks : List Kept → List Track
 tracks ks = map unbegun (map shownIn ks)
 
-head-zero : (k : Kept) (l : List ℕ) → isLate l ≡ false → headOf (map indexOf (map shownBy (entriesFrom 0 k l))) ≡ At 0
+head-zero : (k : Kept) (l : List ℕ) → isLate l ≡ false → headOf (map shownIndex (map shownBy (entriesFrom 0 k l))) ≡ At 0
 unfolding entriesFrom
 head-zero k [] h = absurd (true≢false h)
 head-zero k (zero ∷ l) h = refl
@@ -488,7 +492,7 @@ record Listed (d : DerivedBitVecSignal) (ks : List Kept) : Type 0 where
   every : All (Sound (d .width) (largestAmong ks)) (first ∷ rest)
 
 listed : (d : DerivedBitVecSignal) (count : ℕ) (ks : List Kept) → Passes d count ks → Sized d → Listed d ks
-unfolding derivedList joined endsLike
+unfolding keptSteps joined endsLike
 listed d count [] p z = absurd (omega (arith, some-input d count [] p z))
 listed d count (k ∷ ks) p z =
     let all = k ∷ ks in

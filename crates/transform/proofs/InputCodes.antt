@@ -1,41 +1,48 @@
 -- Whether an input has a number that is no code: by whole bytes, and what that says of each piece.
 -- Assumes nothing.
-use mathlib.Core.Path.{_≡_, refl, sym, ap, ap₂, _∙_}
-use mathlib.Core.Bool.{Bool, true, false, not}
-use mathlib.Core.List.{List, [], _∷_}
-use Prim.Native.Nat.{ℕ, zero, suc, _+_, _-_, _*_, _/_, _%_, _^_, _≤_, _<_, min}
-use native.Mathlib.Omega.{arith}
+use Prim.Native.Nat.{_%_, _*_, _+_, _-_, _/_, _<_, _^_, _≤_, min, suc, zero, ℕ}
 use borrow.Author.Tests.{le-ltb, ltb-true}
-use lib.Bits.{bitAnd, bitOr, and-le-l, and-le-r, and-mask, or-add-and}
-use lib.Dec.{ltb, leb, leb→le}
-use lib.ListN.{length, getD}
-use Rattle.value.specs.declared.States.{States}
-use Rattle.value.specs.declared.States.the-variants.{Two, Four, Nine}
-use Rattle.value.specs.Digits.{digits, Below}
-use Rattle.value.specs.Slice.{part, any}
+use lib.Bits.{and-le-l, and-le-r, and-mask, bitAnd, bitOr, or-add-and}
+use lib.Dec.{leb, leb→le, ltb}
+use lib.ListN.{getD, length}
+use mathlib.Core.Bool.{Bool, false, not, true}
+use mathlib.Core.List.{List, [], _∷_}
+use mathlib.Core.Path.{_∙_, _≡_, ap, ap₂, refl, sym}
+use native.Mathlib.Omega.{arith}
+use Rattle.value.specs.Digits.{Below, digits}
 use Rattle.value.specs.Level.{bitsOf, hasNoCode}
+use Rattle.value.specs.Slice.{any, part}
+use Rattle.value.specs.declared.States.{States}
+use Rattle.value.specs.declared.States.the-variants.{Four, Nine, Two}
 use Rattle.value.proofs.Classes.{each-byte}
-use Rattle.value.proofs.Tests.{to-T, and-right, by-eq}
 use Rattle.value.proofs.Levels.{none-foreign}
-use Rattle.value.proofs.Slices.{part-length, part-at, part-all}
+use Rattle.value.proofs.Lists.{any-each, any-map}
 use Rattle.value.proofs.Packed.{read}
-use Rattle.fst.specs.declared.Encoding.{Encoding}
-use Rattle.fst.specs.declared.Encoding.the-variants.{Event, Real, BitVector}
+use Rattle.value.proofs.Slices.{part-all, part-at, part-length}
+use Rattle.value.proofs.Tests.{and-right, by-eq, to-T}
 use Rattle.fst.specs.Record.{keptIn, usedSize, widthStands}
+use Rattle.fst.specs.Refusal.{tried}
+use Rattle.fst.specs.declared.Encoding.{Encoding}
+use Rattle.fst.specs.declared.Encoding.the-variants.{BitVector, Event, Real}
 use Rattle.fst.proofs.Records.{not-bad}
-use Rattle.signal.specs.Decode.{Indexed, entriesIn, levelsIn, hasBadCode, codesAt}
+use Rattle.signal.specs.Decode.{Indexed, codesAt, entriesIn, hasBadCode, levelsIn}
 use Rattle.signal.specs.Parts.{Levels}
 use Rattle.signal.specs.Read.{widthOf}
-use Rattle.signal.proofs.Decoding.{level-in, level-code}
-use Rattle.derivation.specs.declared.Extract.{Extract}
-use Rattle.derivation.specs.declared.DerivedBitVecSignal.{DerivedBitVecSignal}
-use Rattle.transform.specs.declared.Input.{Input}
-use Rattle.transform.specs.declared.Inputs.{Inputs}
+use Rattle.signal.proofs.Decoding.{level-code, level-in}
+use Rattle.signal.proofs.Entries.{entries-each, entries-none}
+use Rattle.signal.proofs.Reading.{inside}
 use Rattle.derivation.specs.Piece.{endOf, extractOf, piecesOf}
-use Rattle.transform.specs.Derive.{lentTo, inputsOf, isBadInput, inputKept, pickedOf, pickIsBad, codeIsBad, entryIsBad, markIsBad}
-use Rattle.transform.specs.Tests.{TwoCodes, Picking, Readable, keptWith, keptAll}
-use Rattle.transform.proofs.InputTests.{any-map, any-each, noInput, slot-none, input-stands, input-count, entries-none, entries-each, pick-none, pick-count, pick-code, fit, signal-low, code-told, piece-is, pieces-count}
-use Rattle.transform.proofs.SteppingLevels.{levels-length}
+use Rattle.derivation.specs.declared.DerivedBitVecSignal.{DerivedBitVecSignal}
+use Rattle.derivation.specs.declared.Extract.{Extract}
+use Rattle.steps.specs.Inputs.{entryIsBad, inputKept, inputsOf, isBadInput, keptAll, lentTo, markIsBad}
+use Rattle.steps.specs.Refusals.{keptWith}
+use Rattle.steps.specs.declared.Input.{Input}
+use Rattle.steps.specs.declared.Inputs.{Inputs}
+use Rattle.steps.proofs.InputTests.{input-count, input-stands, noInput, slot-none}
+use Rattle.steps.proofs.Levels.{levels-length}
+use Rattle.transform.specs.Derive.{codeIsBad, pickIsBad, pickedOf}
+use Rattle.transform.specs.Refusals.{Readable, RecordPick, TwoCodes}
+use Rattle.transform.proofs.PieceTests.{code-told, fit, pick-code, pick-count, pick-none, piece-is, pieces-count, signal-low}
 
 -- ---- one byte
 
@@ -176,7 +183,7 @@ module _ (d : DerivedBitVecSignal) (inputs : Inputs) (bytes indices : List ℕ) 
     input-narrow = width-narrow (x .description .encoding) (not-bad (x .description) (lentTo bytes indices x) input-sound .0)
 
     module _ (w : ℕ) (q : w ≡ widthOf (x .description .encoding)) (u : List ℕ) (f : u ≡ part (x .«byte_start») (usedSize (x .description)) bytes) where
-      pub whole-picking : Picking (wholeOf w) (x .description) u
+      pub whole-picking : RecordPick (wholeOf w) (x .description) u
       unfolding keptIn
       whole-picking =
           let m = slot-none inputs slots j h (λ y. markIsBad (inputKept bytes indices y)) (sym (any-map markIsBad (inputKept bytes indices) (inputsOf inputs)) ∙ r .marked) in

@@ -1,30 +1,30 @@
 -- The twelve rows of document 01: one list, one proof, over the definitions themselves.
 -- Assumes nothing.
-use mathlib.Core.Path.{_≡_, refl}
-use Prim.Native.Nat.{ℕ, _+_, _-_}
-use mathlib.Core.List.{List, [], _∷_, _++_, map}
+use Prim.Native.Nat.{_-_, ℕ}
 use lib.ListN.{length, replicate}
+use mathlib.Core.List.{List, [], _++_, _∷_, map}
+use mathlib.Core.Path.{_≡_, refl}
+use Rattle.value.specs.Digits.{digits, number}
+use Rattle.value.specs.Level.{codeOf, fold, joinAll, letterOf, placeIn, setOf}
+use Rattle.value.specs.Slice.{any, overlay, part, same, sum}
 use Rattle.value.specs.declared.States.the-variants.{Four}
-use Rattle.value.specs.Digits.{number, digits}
-use Rattle.value.specs.Slice.{part, overlay, same, any, sum}
-use Rattle.value.specs.Level.{placeIn, codeOf, letterOf, fold, setOf, joinAll}
+use Rattle.layout.specs.Entry.{entryOf, entrySize, widenAll, widenEntry}
+use Rattle.fst.specs.Change.{appended, Recorder, addChange, changed, isBelowLast, isForeign, isOtherKind, isOtherLength, refusals, repeats, stored}
+use Rattle.fst.specs.Record.{Kept, fits, fitsBytes, fresh, isBad, keptIn, widthStands}
+use Rattle.fst.specs.Refusal.{given, tried}
 use Rattle.fst.specs.declared.Encoding.the-variants.{BitVector}
-use Rattle.fst.specs.Refusal.{refused, given, tried}
-use Rattle.layout.specs.Entry.{entrySize, entryOf, widenEntry, widenAll}
-use Rattle.fst.specs.Record.{Kept, keptIn, widthStands, fitsBytes, fits, isBad, fresh}
-use Rattle.fst.specs.Change.{isOtherKind, isOtherLength, isForeign, isBelowLast, repeats, appended, changed, refusals, Recorder, stored, addChange}
-use Rattle.runs.specs.Runs.{endsLike, joined, entriesOf, laidOut}
 use Rattle.fst.proofs.Rows as written
 use Rattle.fst.proofs.Rows.{around, lentBy, kept, row, accepted}
-use Rattle.signal.specs.Decode.{entryAt, entriesFrom, markIn, setIn, levelPart, levelsIn, hasBadMark}
-use Rattle.signal.specs.Read.{hasNoText}
+use Rattle.runs.specs.Runs.{endsLike, entriesOf, joined, laidOut}
+use Rattle.signal.specs.Decode.{entriesFrom, entryAt, hasBadMark, levelPart, levelsIn, markIn, setIn}
 use Rattle.signal.specs.Offset.{falls}
+use Rattle.signal.specs.Read.{hasNoText}
 use Rattle.signal.proofs.Rows as sought
-use Rattle.transform.specs.declared.Input.{Input}
-use Rattle.transform.specs.declared.Inputs.{Inputs}
-use Rattle.derivation.specs.Piece.{packedOf, extractOf, isBadPiece, isBadDerivation, adjoin, merging, pieceAdded, nameAdded, derivationWith, isBadRange, isOverfull, addPiece, emptyDerivation, sliceOf}
-use Rattle.transform.specs.Steps.{smallest, moved, momentsFrom, momentsOf}
-use Rattle.transform.specs.Derive.{picked, derivedList, isUnfit, deriveRefusals, Derived, derive}
+use Rattle.derivation.specs.Piece.{addPiece, adjoin, derivationWith, emptyDerivation, extractOf, isBadDerivation, isBadPiece, isBadRange, isOverfull, merging, nameAdded, packedOf, pieceAdded, sliceOf}
+use Rattle.steps.specs.Steps.{keptSteps, momentsFrom, momentsOf, moved, smallest}
+use Rattle.steps.specs.declared.Input.{Input}
+use Rattle.steps.specs.declared.Inputs.{Inputs}
+use Rattle.transform.specs.Derive.{Derived, derive, deriveRefusals, isUnfit, picked}
 
 -- ---- row 12
 
@@ -76,7 +76,7 @@ twelfth =
     }
 
 twelfth-holds : Slices twelfth
-unfolding input alone source front Slices written.around written.lentBy written.Follows written.Holds written.played number digits part overlay same any sum placeIn codeOf letterOf fold setOf joinAll tried entrySize entryOf widenEntry widenAll keptIn widthStands fitsBytes fits isBad fresh isOtherKind isOtherLength isForeign isBelowLast repeats appended changed refusals stored addChange endsLike joined entriesOf laidOut entryAt entriesFrom markIn setIn levelPart levelsIn hasBadMark hasNoText falls packedOf extractOf isBadPiece isBadDerivation adjoin merging pieceAdded nameAdded derivationWith isBadRange isOverfull addPiece emptyDerivation smallest moved momentsFrom momentsOf picked derivedList isUnfit deriveRefusals derive
+unfolding input alone source front Slices written.around written.lentBy written.Follows written.Holds written.played number digits part overlay same any sum placeIn codeOf letterOf fold setOf joinAll tried entrySize entryOf widenEntry widenAll keptIn widthStands fitsBytes fits isBad fresh isOtherKind isOtherLength isForeign isBelowLast repeats appended changed refusals stored addChange endsLike joined entriesOf laidOut entryAt entriesFrom markIn setIn levelPart levelsIn hasBadMark hasNoText falls packedOf extractOf isBadPiece isBadDerivation adjoin merging pieceAdded nameAdded derivationWith isBadRange isOverfull addPiece emptyDerivation smallest moved momentsFrom momentsOf picked keptSteps isUnfit deriveRefusals derive
 twelfth-holds = ((refl, (refl, tt)), refl, refl)
 
 -- ---- the list

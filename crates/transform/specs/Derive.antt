@@ -1,30 +1,29 @@
 -- Document 01, "A derived record", "Derive" and "Derived list".
 -- Assumes nothing.
-use Prim.Native.Nat.{ℕ, zero, suc, _-_}
-use mathlib.Core.Bool.{Bool, true, false, not, _&&_, _||_}
-use mathlib.Core.List.{List, [], _∷_, _++_, map, foldl}
-use mathlib.Core.Option.{Option, none, some}
+use Prim.Native.Nat.{_-_, ℕ}
 use lib.Dec.{eqb, ltb}
-use lib.ListN.{length, take, getD}
+use lib.ListN.{getD, length, set}
+use mathlib.Core.Bool.{Bool, _&&_, _||_, not}
+use mathlib.Core.List.{List, [], _++_, _∷_, map}
+use mathlib.Core.Option.{Option, none, some}
+use Rattle.value.specs.Level.{hasNoCode, joinAll, markOf, textOf}
+use Rattle.value.specs.Slice.{any, overlay, part, same}
 use Rattle.value.specs.declared.States.{States}
 use Rattle.value.specs.declared.States.the-variants.{Two}
-use Rattle.value.specs.Slice.{part, overlay, same, any}
-use Rattle.value.specs.Level.{markOf, joinAll, textOf, hasNoCode}
-use Rattle.fst.specs.declared.Encoding.{Encoding}
-use Rattle.fst.specs.declared.Encoding.the-variants.{Event}
+use Rattle.fst.specs.Record.{Kept, Lent, fits, largestIn}
+use Rattle.fst.specs.Refusal.{Reply, Test, _⇐_, given, madeOf, refused, tried}
 use Rattle.fst.specs.declared.Description.{Description}
-use Rattle.fst.specs.Refusal.{Reply, refused, given, Test, _⇐_, tried}
-use Rattle.fst.specs.Record.{Lent, Kept, largestIn, keptIn, fits, isBad}
-use Rattle.runs.specs.Runs.{Step, joined, laidOut}
-use Rattle.signal.specs.Decode.{Indexed, entriesIn, levelsIn, hasBadMark}
-use Rattle.signal.specs.Read.{hasNoText, widthOf}
-use Rattle.signal.specs.Offset.{falls}
-use Rattle.derivation.specs.declared.Extract.{Extract}
+use Rattle.fst.specs.declared.Encoding.the-variants.{Event}
+use Rattle.fst.specs.declared.Made.{Made}
+use Rattle.runs.specs.Runs.{Step, laidOut}
+use Rattle.signal.specs.Decode.{Indexed, entriesIn, levelsIn}
+use Rattle.signal.specs.Read.{widthOf}
+use Rattle.derivation.specs.Piece.{endOf, isBadDerivation, piecesOf}
 use Rattle.derivation.specs.declared.DerivedBitVecSignal.{DerivedBitVecSignal}
-use Rattle.transform.specs.declared.Input.{Input}
-use Rattle.transform.specs.declared.Inputs.{Inputs}
-use Rattle.derivation.specs.Piece.{endOf, piecesOf, isBadDerivation}
-use Rattle.transform.specs.Steps.{Shown, shownBy, Moment, momentsOf}
+use Rattle.derivation.specs.declared.Extract.{Extract}
+use Rattle.steps.specs.Inputs.{encodingOf, indicesFall, inputsOf, isBadInput, isNoBitVector, keptAll, markIsBad, startsLate}
+use Rattle.steps.specs.Steps.{Moment, Shown, keptSteps}
+use Rattle.steps.specs.declared.Inputs.{Inputs}
 
 -- ---- what a step yields
 
@@ -59,12 +58,9 @@ yielded es m = record { index = m .index; string = textOf (picked es (m .showing
 abbrev pub sameStep : Step → Step → Bool
 sameStep a b = same (a .string) (b .string) && eqb (markOf (a .set)) (markOf (b .set))
 
-abbrev pub shownIn : Kept → List Shown
-shownIn k = map shownBy (entriesIn k)
-
 -- "The index, string in small letters and set of each step .., in order, less the dropped steps"
-unfoldable pub derivedList : List Extract → List Kept → List Step
-derivedList es ks = foldl (joined sameStep) [] (map (yielded es) (momentsOf (map shownIn ks)))
+abbrev pub derivedList : List Extract → List Kept → List Step
+derivedList es ks = keptSteps (yielded es) sameStep ks
 
 -- "The largest set is the largest of the inputs' largest sets"
 abbrev pub largestAmong : List Kept → States
@@ -75,26 +71,6 @@ abbrev pub derivedKept : DerivedBitVecSignal → List Kept → Kept
 derivedKept d ks = laidOut (d .width) (largestAmong ks) (derivedList (piecesOf d) ks)
 
 -- ---- Derive
-
--- "Input records share one lent byte slice and one index list, each with its starts"
-abbrev pub lentTo : List ℕ → List ℕ → Input → Lent
-lentTo bytes indices i = record { bytes = bytes; byteStart = i .«byte_start»; indices = indices; indexStart = i .«index_start» }
-
-abbrev pub inputsOf : Inputs → List Input
-inputsOf inputs = take (inputs .count) (inputs .slots)
-
-abbrev pub isBadInput : List ℕ → List ℕ → Input → Bool
-isBadInput bytes indices i = isBad (i .description) (lentTo bytes indices i)
-
-abbrev pub inputKept : List ℕ → List ℕ → Input → Kept
-inputKept bytes indices i = keptIn (i .description) (lentTo bytes indices i)
-
-abbrev pub encodingOf : Kept → Encoding
-encodingOf k = k .description .encoding
-
--- "an input not a bit vector"
-abbrev pub isNoBitVector : Kept → Bool
-isNoBitVector k = hasNoText (encodingOf k)
 
 -- "a piece beyond its width"
 abbrev pub isBeyond : List Kept → Extract → Bool
@@ -108,24 +84,6 @@ isUnfit d count ks =
     || not (eqb count (d .«input_count»))
     || any isNoBitVector ks
     || any (isBeyond ks) (piecesOf d)
-
--- "15: an input empty or not starting at index 0"
-abbrev pub isLate : List ℕ → Bool
-isLate [] = true
-isLate (zero ∷ l) = false
-isLate (suc i ∷ l) = true
-
-abbrev pub startsLate : Kept → Bool
-startsLate k = isLate (k .indices)
-
-abbrev pub indicesFall : Kept → Bool
-indicesFall k = falls (k .indices)
-
-abbrev pub entryIsBad : Indexed → Bool
-entryIsBad e = hasBadMark (e .encoding) (e .bytes)
-
-abbrev pub markIsBad : Kept → Bool
-markIsBad k = any entryIsBad (entriesIn k)
 
 -- "10 at a picked level, others untried as in the Rust": in every entry of the piece's input
 abbrev pub pickIsBad : Extract → Indexed → Bool
@@ -141,7 +99,7 @@ lentOut bytes indices = record { bytes = bytes; byteStart = 0; indices = indices
 -- "Each number is tried over all inputs before the next"
 unfoldable pub deriveRefusals : DerivedBitVecSignal → Inputs → List ℕ → List ℕ → Lent → List Test
 deriveRefusals d inputs bytes indices out =
-    let ks = map (inputKept bytes indices) (inputsOf inputs) in
+    let ks = keptAll bytes indices inputs in
     2 ⇐ any (isBadInput bytes indices) (inputsOf inputs)
     ∷ 14 ⇐ isUnfit d (inputs .count) ks
     ∷ 15 ⇐ any startsLate ks
@@ -162,8 +120,16 @@ derivedBy out (refused n) = record { answer = refused n; bytes = out .bytes; ind
 derivedBy out (given k) =
     record { answer = given (k .description); bytes = overlay (out .bytes) 0 (k .bytes); indices = overlay (out .indices) 0 (k .indices) }
 
+-- the derived list of what Derive is given
+abbrev pub derivedFrom : DerivedBitVecSignal → Inputs → List ℕ → List ℕ → List Step
+derivedFrom d inputs bytes indices = derivedList (piecesOf d) (keptAll bytes indices inputs)
+
+-- an answer and the output slices as they are then
+abbrev pub leftBy : Made → List ℕ → List ℕ → Derived
+leftBy made bytes indices = record { answer = madeOf made; bytes = bytes; indices = indices }
+
 unfoldable pub derive : DerivedBitVecSignal → Inputs → List ℕ → List ℕ → List ℕ → List ℕ → Derived
 derive d inputs bytes indices outBytes outIndices =
     let out = lentOut outBytes outIndices in
-    let ks = map (inputKept bytes indices) (inputsOf inputs) in
+    let ks = keptAll bytes indices inputs in
     derivedBy out (tried (deriveRefusals d inputs bytes indices out) (given (derivedKept d ks)))

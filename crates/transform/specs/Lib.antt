@@ -1,5 +1,3 @@
-pub mod Steps
 pub mod Derive
-pub mod Tests
-pub mod Stepping
-pub mod Room
+pub mod Refusals
+pub mod Picking

@@ -1,28 +1,4 @@
-// Derived records, after wellen's src/signal/transform.rs.
-use fst::Description;
-
+// Derived records, after the second half of wellen's src/signal/transform.rs.
 pub mod derive;
-pub mod steps;
-pub mod tests;
-
-// An input record by its description and where it starts in the two slices that all inputs share.
-pub struct Input {
-    pub description: Description,
-    pub byte_start: usize,
-    pub index_start: usize,
-}
-
-// The input records, in the order of the derivation's input names.
-pub struct Inputs {
-    pub count: u32,
-    pub slots: [Input; 8],
-}
-
-// What an input can be refused for by itself.
-pub enum InputTest {
-    BadRecord,
-    NoBitVector,
-    Late,
-    Falling,
-    BadMark,
-}
+pub mod picking;
+pub mod refusals;

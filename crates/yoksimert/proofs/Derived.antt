@@ -8,9 +8,10 @@ use Rattle.fst.specs.declared.Description.{Description}
 use Rattle.fst.specs.Refusal.{Reply}
 use Rattle.fst.specs.Record.{isBad, widthStands}
 use Rattle.derivation.specs.declared.DerivedBitVecSignal.{DerivedBitVecSignal}
-use Rattle.transform.specs.declared.Input.{Input}
-use Rattle.transform.specs.declared.Inputs.{Inputs}
-use Rattle.transform.specs.Derive.{isBadInput, Derived, derive}
+use Rattle.steps.specs.declared.Input.{Input}
+use Rattle.steps.specs.declared.Inputs.{Inputs}
+use Rattle.steps.specs.Inputs.{isBadInput}
+use Rattle.transform.specs.Derive.{Derived, derive}
 use Rattle.yoksimert.specs.declared.Decoded.{Decoded}
 use Rattle.yoksimert.specs.declared.Decoded.the-variants.{Unknown}
 use Rattle.yoksimert.specs.declared.FlatMade.{FlatMade}

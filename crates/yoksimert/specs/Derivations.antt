@@ -7,8 +7,8 @@ use Rattle.fst.specs.declared.Encoding.the-variants.{BitVector}
 use Rattle.fst.specs.declared.Description.{Description}
 use Rattle.fst.specs.Refusal.{Outcome}
 use Rattle.derivation.specs.declared.DerivedBitVecSignal.{DerivedBitVecSignal}
-use Rattle.transform.specs.declared.Input.{Input}
-use Rattle.transform.specs.declared.Inputs.{Inputs}
+use Rattle.steps.specs.declared.Input.{Input}
+use Rattle.steps.specs.declared.Inputs.{Inputs}
 use Rattle.transform.specs.Derive.{Derived}
 use Rattle.yoksimert.specs.declared.Decoded.{Decoded}
 use Rattle.yoksimert.specs.declared.Decoded.the-variants.{Known, Unknown}

@@ -17,8 +17,8 @@ use derivation::DerivedBitVecSignal;
 use derivation::Joined;
 use fst::Description;
 use fst::Encoding;
-use transform::Input;
-use transform::Inputs;
+use steps::Input;
+use steps::Inputs;
 use transform::derive::derive;
 use value::States;
 

@@ -1,11 +1,11 @@
 -- `transform::derive::derive` meets its contract.
 -- Assumes nothing.
-use mathlib.Core.Path.{sym, ap, _∙_}
-use denote.Ref.{now}
-use Rattle.transform.specs.Tests.{verdictReply}
-use Rattle.transform.proofs.InputTestsInOrder.{derivable}
-use Rattle.transform.proofs.SteppingDerive.{refused-first}
 use borrow.Author.Needs.{needs}
+use denote.Ref.{now}
+use mathlib.Core.Path.{_∙_, ap, sym}
+use Rattle.transform.specs.Refusals.{verdictReply}
+use Rattle.transform.proofs.ByRoom.{refused-first}
+use Rattle.transform.proofs.RefusalsInOrder.{derivable}
 use Rattle.transform.proofs.derive.derive.Statement.{statement}
 use Rattle.transform.proofs.derive.derive.Tie as tie
 

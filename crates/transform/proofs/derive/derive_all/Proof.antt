@@ -1,33 +1,38 @@
 -- `transform::derive::derive_all` meets its contract.
 -- Assumes nothing.
-use mathlib.Core.Path.{_≡_, _∙_}
-use denote.Ref.{now}
-use Rattle.transform.specs.Derive.{inputsOf, largestAmong}
-use Rattle.transform.specs.Tests.{keptAll}
-use Rattle.transform.specs.Stepping.{Walkable}
-use Rattle.derivation.proofs.Walks.{sized}
-use Rattle.transform.proofs.InputTests.{slotted}
-use Rattle.transform.proofs.SteppingDerive.{no-room, roomy, all-stored}
-use Rattle.transform.proofs.SteppingSources.{few-inputs, largest-is}
 use borrow.Author.Needs.{needs}
+use denote.Ref.{now}
+use mathlib.Core.Path.{_∙_, refl}
+use Rattle.steps.specs.Inputs.{inputsOf}
+use Rattle.steps.proofs.InputTests.{slotted}
+use Rattle.transform.specs.Picking.{Walkable}
+use Rattle.transform.proofs.ByRoom.{all-stored, no-room, roomy}
+use Rattle.transform.proofs.Given.{few-inputs, largest-is}
 use Rattle.transform.proofs.derive.derive_all.Statement.{statement}
 use Rattle.transform.proofs.derive.derive_all.Tie as tie
+use Rattle.derivation.proofs.Walks.{sized}
 
 -- what is known once the largest set is
 module _ (g : tie.After-largest-states) where
   abbrev start : tie.Start
   start = g .before .before .before .before .before
 
-  largest : g .largest-states .result ≡ largestAmong (keptAll (now (start .args .bytes)) (now (start .args .indices)) (start .args .inputs))
-  largest = g .largest-states .ensures ∙ largest-is (now (start .args .bytes)) (now (start .args .indices)) (inputsOf (start .args .inputs))
-
   walkable : Walkable (start .args .derivation) (start .args .inputs) (now (start .args .bytes)) (now (start .args .indices)) (g .largest-states .result)
-  walkable = record { derivable = start .pre; largest = largest }
+  walkable =
+      record {
+        derivable = start .pre;
+        largest = g .largest-states .ensures ∙ largest-is (now (start .args .bytes)) (now (start .args .indices)) (inputsOf (start .args .inputs));
+      }
 
 largest-states-requires : tie.Need-largest-states-requires
 largest-states-requires c κs =
     let s = c .before .before .before .before in
-    few-inputs (s .args .derivation) (s .args .inputs) (now (s .args .bytes)) (now (s .args .indices)) (s .pre) (slotted (s .args .inputs) _ (s .good .1 .0)) (sized (s .args .derivation) _ (s .good .0))
+    few-inputs
+    (record {
+      walkable = record { derivable = s .pre; largest = refl };
+      slots = slotted (s .args .inputs) _ (s .good .1 .0);
+      size = sized (s .args .derivation) _ (s .good .0);
+    })
 
 steps-fit-requires : tie.Need-steps-fit-requires
 steps-fit-requires c κs = walkable c
@@ -41,9 +46,8 @@ write-steps-requires c κs =
     let t = z .before in
     let f = t .before in
     let g = f .before in
-    let s = start g in
-    let a = s .args in
-    (walkable g, rw (z .entry-size .ensures) (roomy (a .derivation) (a .inputs) (now (a .bytes)) (now (a .indices)) (now (a .out-bytes)) (now (a .out-indices)) (s .pre) (g .largest-states .result) (largest g) _ (f .steps-fit .ensures) (t .if1 .taken) .0))
+    let a = start g .args in
+    (walkable g, rw (z .entry-size .ensures) (roomy (walkable g) (now (a .out-bytes)) (now (a .out-indices)) (f .steps-fit .ensures) (t .if1 .taken) .0))
 
 record-of-requires : tie.Need-record-of-requires
 record-of-requires c κs = search needs
@@ -61,19 +65,16 @@ returns c =
     let t = z .before in
     let f = t .before in
     let g = f .before in
-    let s = start g in
-    let a = s .args in
-    let y = w .write-steps .ensures .1 (z .entry-size .ensures) (roomy (a .derivation) (a .inputs) (now (a .bytes)) (now (a .indices)) (now (a .out-bytes)) (now (a .out-indices)) (s .pre) (g .largest-states .result) (largest g) _ (f .steps-fit .ensures) (t .if1 .taken) .1) in
+    let a = start g .args in
     rw (c .record-of .ensures)
-    (all-stored (a .derivation) (a .inputs) (now (a .bytes)) (now (a .indices)) (now (a .out-bytes)) (now (a .out-indices)) (s .pre) (g .largest-states .result) (largest g) _ (f .steps-fit .ensures) (t .if1 .taken) _ (w .write-steps .ensures .0) _ _ (y .entries) (y .times))
+    (all-stored (walkable g) (now (a .out-bytes)) (now (a .out-indices)) (f .steps-fit .ensures) (t .if1 .taken) (rw (z .entry-size .ensures) at (w .write-steps .ensures)))
 
 returns-2 : tie.Need-returns-2
 returns-2 c =
     let f = c .before in
     let g = f .before in
-    let s = start g in
-    let a = s .args in
-    no-room (a .derivation) (a .inputs) (now (a .bytes)) (now (a .indices)) (now (a .out-bytes)) (now (a .out-indices)) (s .pre) (g .largest-states .result) (largest g) _ (f .steps-fit .ensures) (c .if1 .left)
+    let a = start g .args in
+    no-room (walkable g) (now (a .out-bytes)) (now (a .out-indices)) (f .steps-fit .ensures) (c .if1 .left)
 
 pub derive-all-spec : {M : Type 1} → statement M
 derive-all-spec =

@@ -1,14 +1,14 @@
 -- `transform::derive::largest_states` meets its contract: what is held is the largest set of the inputs passed.
 -- Assumes nothing.
-use mathlib.Core.Path.{_≡_, ap, _∙_}
-use Prim.Native.Nat.{ℕ, _-_, _≤_}
-use native.Mathlib.Omega.{arith}
+use Prim.Native.Nat.{_-_, _≤_, ℕ}
 use borrow.Author.Needs.{needs}
 use lib.ListN.{drop}
-use Rattle.transform.specs.Derive.{inputsOf}
-use Rattle.transform.specs.Stepping.{largestOver}
-use Rattle.transform.proofs.InputTests.{slotted}
-use Rattle.transform.proofs.Stepping.{over-none, over-more}
+use mathlib.Core.Path.{_∙_, _≡_, ap}
+use native.Mathlib.Omega.{arith}
+use Rattle.steps.specs.Inputs.{inputsOf}
+use Rattle.steps.proofs.InputTests.{slotted}
+use Rattle.transform.specs.Picking.{largestOver}
+use Rattle.transform.proofs.Sets.{over-more, over-none}
 use Rattle.transform.proofs.derive.largest_states.Statement.{statement}
 use Rattle.transform.proofs.derive.largest_states.Tie as tie
 

@@ -1,36 +1,29 @@
 -- `transform::derive::steps_fit` meets its contract.
 -- Assumes nothing.
-use mathlib.Core.Path.{_≡_, refl}
-use Prim.Native.Nat.{ℕ, _≤_}
-use native.Mathlib.Omega.{arith}
+use Prim.Native.Nat.{_≤_, ℕ}
 use borrow.Author.Needs.{needs}
 use denote.Ref.{now}
-use lib.ListN.{length, length-replicate}
+use lib.ListN.{length-replicate}
+use mathlib.Core.Path.{_≡_, refl}
+use native.Mathlib.Omega.{arith}
 use Rattle.layout.specs.Entry.{entrySize}
 use Rattle.fst.proofs.Rooms.{size-small}
-use Rattle.derivation.proofs.Pieces.{Sized}
-use Rattle.derivation.proofs.Walks.{sized}
-use Rattle.transform.proofs.InputTests.{slotted}
-use Rattle.transform.proofs.SteppingSources.{few-inputs, narrow}
-use Rattle.transform.proofs.Totals.{few-each, steps-bound, fits-counted, fits-together}
+use Rattle.derivation.specs.Piece.{piecesOf}
+use Rattle.steps.proofs.InputTests.{slotted}
+use Rattle.steps.proofs.Totals.{few-each, fits-counted, fits-together, steps-bound}
+use Rattle.transform.specs.Derive.{sameStep, yielded}
+use Rattle.transform.proofs.Given.{Ready, few-inputs, narrow, stand}
 use Rattle.transform.proofs.derive.steps_fit.Statement.{statement}
 use Rattle.transform.proofs.derive.steps_fit.Tie as tie
+use Rattle.derivation.proofs.Walks.{sized}
 
 -- what is known all along
 module _ (s : tie.Start) where
-  slots : length (s .args .inputs .slots) ≡ 8
-  slots = slotted (s .args .inputs) _ (s .good .1 .0)
-
-  size : Sized (s .args .derivation)
-  size = sized (s .args .derivation) _ (s .good .0)
+  ready : Ready (s .args .derivation) (s .args .inputs) (now (s .args .bytes)) (now (s .args .indices)) (s .args .max-states)
+  ready = record { walkable = s .pre; slots = slotted (s .args .inputs) _ (s .good .1 .0); size = sized (s .args .derivation) _ (s .good .0) }
 
   small : (n : ℕ) → n ≡ entrySize (s .args .derivation .width) (s .args .max-states) → n ≤ 2049
-  small n e =
-      omega (
-        arith,
-        size-small (s .args .derivation .width) (s .args .max-states)
-            (narrow (s .args .derivation) (s .args .inputs) (now (s .args .bytes)) (now (s .args .indices)) (s .pre .derivable) slots size),
-      )
+  small n e = omega (arith, size-small (s .args .derivation .width) (s .args .max-states) (narrow ready))
 
 abbrev start : tie.After-entry-size → tie.Start
 start e = e .before .before .before
@@ -39,12 +32,7 @@ entry-size-requires : tie.Need-entry-size-requires
 entry-size-requires c κs = search needs
 
 total-count-requires : tie.Need-total-count-requires
-total-count-requires c κs =
-    let s = start c in
-    let a = s .args in (
-      few-inputs (a .derivation) (a .inputs) (now (a .bytes)) (now (a .indices)) (s .pre .derivable) (slots s) (size s),
-      few-each (now (a .bytes)) (now (a .indices)) (a .derivation) (a .inputs) (s .pre .derivable) (slots s) (size s),
-    )
+total-count-requires c κs = let r = ready (start c) in (few-inputs r, few-each (stand r))
 
 has-room-requires : tie.Need-has-room-requires
 has-room-requires c κs = omega (arith, small (start (c .before)) _ (c .before .entry-size .ensures))
@@ -54,9 +42,8 @@ returns c =
     let h = c .before in
     let t = h .before in
     let s = start (t .before) in
-    let a = s .args in
-    fits-together _ _ (a .out-bytes) (a .out-indices) _ _ (t .before .entry-size .ensures) _ (h .has-room .ensures) _ (t .total-count .ensures)
-    (steps-bound (now (a .bytes)) (now (a .indices)) (a .derivation) (a .inputs) (s .pre .derivable) (slots s) (size s)) (c .if1 .taken)
+    fits-together _ _ (s .args .out-bytes) (s .args .out-indices) _ _ (t .before .entry-size .ensures) (h .has-room .ensures) _ (t .total-count .ensures)
+    (steps-bound (stand (ready s)) (yielded (piecesOf (s .args .derivation))) sameStep) (c .if1 .taken)
 
 slice-aggregate-write-steps : tie.Need-slice-aggregate-write-steps
 slice-aggregate-write-steps c = search needs
@@ -77,7 +64,7 @@ returns-2 c =
     let n = c .before .before .before in
     let e = n .before .before .before .before .before .before in
     let a = start e .args in
-    fits-counted _ _ (a .out-bytes) (a .out-indices) _ _ (e .entry-size .ensures) _ (c .has-room2 .ensures) (n .write-steps .ensures .0)
+    fits-counted _ _ (a .out-bytes) (a .out-indices) _ _ (e .entry-size .ensures) (c .has-room2 .ensures) (n .write-steps .ensures .counted)
 
 pub steps-fit-spec : {M : Type 1} → statement M
 steps-fit-spec =

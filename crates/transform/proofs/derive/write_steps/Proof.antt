@@ -1,39 +1,39 @@
 -- `transform::derive::write_steps` meets its contract: the steps passed are stored, and with those to come they make the derived list.
 -- Assumes nothing.
-use mathlib.Core.Path.{_≡_, refl, sym, ap, ap₂, _∙_, subst}
-use mathlib.Core.List.{List, map}
-use Prim.Native.Nat.{ℕ, _-_, _≤_}
-use native.Mathlib.Omega.{arith}
+use Prim.Native.Nat.{_-_, _≤_, ℕ}
 use borrow.Author.Needs.{needs}
 use denote.Ref.{now}
-use lib.ListN.{length, take, length-replicate}
+use lib.ListN.{length, length-replicate, set, take}
 use lib.Seq.{length-take-le}
-use Rattle.value.specs.declared.States.{States}
-use Rattle.value.specs.Slice.{overlay}
+use mathlib.Core.List.{List, map}
+use mathlib.Core.Path.{_∙_, _≡_, ap, refl, subst, sym}
+use native.Mathlib.Omega.{arith}
 use Rattle.value.specs.Level.{textOf}
+use Rattle.value.specs.Slice.{overlay}
 use Rattle.layout.specs.Entry.{entrySize}
 use Rattle.fst.specs.Record.{Kept}
-use Rattle.runs.specs.Runs.{Step, indexOf, entriesOf}
-use Rattle.derivation.specs.Piece.{extractOf, piecesOf}
-use Rattle.transform.specs.Derive.{derivedList}
-use Rattle.transform.specs.Tests.{keptAll}
 use Rattle.signal.specs.declared.NextIndex.the-variants.{At}
-use Rattle.transform.specs.Stepping.{inputsIn, cursorsOf, pickedNow, Walkable, Indexable, Pickable, Roomy}
-use Rattle.transform.specs.declared.Inputs.{Inputs}
-use Rattle.derivation.proofs.Walks.{sized}
-use Rattle.derivation.proofs.Pieces.{Sized}
-use Rattle.transform.proofs.InputTests.{slotted}
-use Rattle.transform.proofs.SteppingTracks.{tracks, toCome}
-use Rattle.transform.proofs.SteppingSources.{vectors, indexable, few-pieces, narrow}
-use Rattle.transform.proofs.SteppingTable.{kept-as, walkable-as}
-use Rattle.transform.proofs.SteppingWalk.{M, Walk}
-use Rattle.transform.proofs.SteppingKept.{Taken, Writing, writing-start, writing-done, writing-on, appendable-as, appended-as, pickable-on, walk-as, fewer}
+use Rattle.derivation.specs.Piece.{extractOf, piecesOf}
+use Rattle.steps.specs.Inputs.{keptAll}
+use Rattle.steps.specs.Stepping.{cursorsOf, soonest}
+use Rattle.steps.specs.Storing.{Roomy, Wrote}
+use Rattle.steps.specs.Table.{inputsIn}
+use Rattle.steps.specs.declared.Inputs.{Inputs}
+use Rattle.steps.proofs.InputTests.{slotted}
+use Rattle.steps.proofs.Sources.{indexable}
+use Rattle.steps.proofs.Tables.{kept-as}
+use Rattle.steps.proofs.Tracks.{toCome, tracks}
+use Rattle.transform.specs.Derive.{derivedFrom, derivedList}
+use Rattle.transform.specs.Picking.{Pickable, pickedNow}
+use Rattle.transform.proofs.Deriving.{Writing, Yielded, appendable-on, fewer, pickable-on, writing-done, writing-on, writing-start}
+use Rattle.transform.proofs.Given.{Ready, few-pieces, narrow, vectors, walkable-as, stand}
 use Rattle.transform.proofs.derive.write_steps.Statement.{statement}
 use Rattle.transform.proofs.derive.write_steps.Tie as tie
+use Rattle.derivation.proofs.Walks.{sized}
 
 abbrev Inv-loop : tie.InvT-loop
 Inv-loop derivation bytes indices max-states stride out-bytes₀ out-indices₀ pieces size numbers starts n text₀ begun₀ count₀ out-bytes out-indices text begun count =
-    Writing derivation (inputsIn n numbers starts) bytes indices stride out-bytes₀ out-indices₀ begun count out-bytes out-indices
+    Writing derivation (inputsIn n numbers starts) bytes indices max-states stride out-bytes₀ out-indices₀ begun count out-bytes out-indices
     × (length begun ≡ 8)
     × (pieces ≡ take (derivation .«piece_count») (derivation .bits))
     × (length out-indices ≡ length out-indices₀)
@@ -44,12 +44,8 @@ abbrev μ-loop : tie.MeasureT-loop
     toCome (tracks bytes indices (cursorsOf (inputsIn n numbers starts) begun))
 
 -- what is known all along
-module _ (s : tie.Start Inv-loop μ-loop) where
-  slots : length (s .args .inputs .slots) ≡ 8
-  slots = slotted (s .args .inputs) _ (s .good .1 .0)
-
-  size : Sized (s .args .derivation)
-  size = sized (s .args .derivation) _ (s .good .0)
+ready : (s : tie.Start Inv-loop μ-loop) → Ready (s .args .derivation) (s .args .inputs) (now (s .args .bytes)) (now (s .args .indices)) (s .args .max-states)
+ready s = record { walkable = s .pre .0; slots = slotted (s .args .inputs) _ (s .good .1 .0); size = sized (s .args .derivation) _ (s .good .0) }
 
 -- what is known once the table is made
 module _ (m : tie.After-table-of Inv-loop μ-loop) where
@@ -59,11 +55,11 @@ module _ (m : tie.After-table-of Inv-loop μ-loop) where
   abbrev its : Inputs
   its = inputsIn (begin .args .inputs .count) (m .table-of .result .numbers) (m .table-of .result .starts)
 
-  walkable : Walkable (begin .args .derivation) its (now (begin .args .bytes)) (now (begin .args .indices)) (begin .args .max-states)
-  walkable = walkable-as (begin .args .derivation) (begin .args .inputs) (now (begin .args .bytes)) (now (begin .args .indices)) _ _ (m .table-of .ensures) (begin .args .max-states) (begin .pre .0)
-
   kept : keptAll (now (begin .args .bytes)) (now (begin .args .indices)) its ≡ keptAll (now (begin .args .bytes)) (now (begin .args .indices)) (begin .args .inputs)
-  kept = kept-as (begin .args .derivation) (begin .args .inputs) (now (begin .args .bytes)) (now (begin .args .indices)) _ _ (m .table-of .ensures)
+  kept = kept-as (now (begin .args .bytes)) (now (begin .args .indices)) (m .table-of .ensures)
+
+  ready-as : Ready (begin .args .derivation) its (now (begin .args .bytes)) (now (begin .args .indices)) (begin .args .max-states)
+  ready-as = record { walkable = walkable-as (m .table-of .ensures) (begin .pre .0); slots = refl; size = ready begin .size }
 
   numbered : 24 ≡ length (m .table-of .result .numbers)
   numbered = sym (m .table-of .ensures .long .held .numbered)
@@ -71,18 +67,10 @@ module _ (m : tie.After-table-of Inv-loop μ-loop) where
   started : 24 ≡ length (m .table-of .result .starts)
   started = sym (m .table-of .ensures .long .held .started)
 
-  can-index : Indexable its (now (begin .args .indices))
-  can-index = indexable (begin .args .derivation) its (now (begin .args .bytes)) (now (begin .args .indices)) (walkable .derivable) refl (size begin)
-
-  short : begin .args .derivation .width ≤ 4096
-  short = narrow (begin .args .derivation) its (now (begin .args .bytes)) (now (begin .args .indices)) (walkable .derivable) refl (size begin)
-
-  room : Roomy (derivedList (piecesOf (begin .args .derivation)) (keptAll (now (begin .args .bytes)) (now (begin .args .indices)) its))
-      (entrySize (begin .args .derivation .width) (M (begin .args .derivation) its (now (begin .args .bytes)) (now (begin .args .indices)))) (begin .args .stride) (now (begin .args .out-bytes))
+  room : Roomy (length (derivedFrom (begin .args .derivation) its (now (begin .args .bytes)) (now (begin .args .indices)))) (entrySize (begin .args .derivation .width) (begin .args .max-states)) (begin .args .stride) (now (begin .args .out-bytes))
   room =
-      subst (λ (K : States). Roomy (derivedList (piecesOf (begin .args .derivation)) (keptAll (now (begin .args .bytes)) (now (begin .args .indices)) its)) (entrySize (begin .args .derivation .width) K) (begin .args .stride) (now (begin .args .out-bytes)))
-      (walkable .largest)
-      (subst (λ (ks : List Kept). Roomy (derivedList (piecesOf (begin .args .derivation)) ks) (entrySize (begin .args .derivation .width) (begin .args .max-states)) (begin .args .stride) (now (begin .args .out-bytes))) (sym kept) (begin .pre .1))
+      subst (λ (ks : List Kept). Roomy (length (derivedList (piecesOf (begin .args .derivation)) ks)) (entrySize (begin .args .derivation .width) (begin .args .max-states)) (begin .args .stride) (now (begin .args .out-bytes)))
+      (sym kept) (begin .pre .1)
 
 -- in the loop
 module _ (l : tie.At-loop Inv-loop μ-loop) where
@@ -93,36 +81,24 @@ module _ (l : tie.At-loop Inv-loop μ-loop) where
   start = begin made
 
   wide-text : (text : List ℕ) → length text ≡ length (l .loop .text) → start .args .derivation .width ≤ length text
-  wide-text text e = rw (e ∙ l .loop .inv .4) (short made)
+  wide-text text e = rw (e ∙ l .loop .inv .4) (narrow (ready start))
 
 -- a step is at hand
 module _ (k : tie.After-known-told Inv-loop μ-loop) where
   abbrev l : tie.At-loop Inv-loop μ-loop
   l = k .before .before .before .before .before .before .before
 
-  abbrev index : ℕ
-  index = k .before .next .given .0 .0
-
-  walk : Walk (start l .args .derivation) (its (made l)) (now (start l .args .bytes)) (now (start l .args .indices)) (l .loop .begun) (At index) (l .loop .inv .0 .kept) (l .loop .inv .0 .left)
-  walk =
-      walk-as (start l .args .derivation) (its (made l)) (now (start l .args .bytes)) (now (start l .args .indices)) (l .loop .begun) _ index
-      (l .loop .inv .0 .kept) (l .loop .inv .0 .left) (sym (k .before .before .before .next-index .ensures) ∙ k .before .next .given .1) (l .loop .inv .0 .walk)
+  next : soonest (now (start l .args .indices)) (cursorsOf (its (made l)) (l .loop .begun)) ≡ At (k .before .next .given .0 .0)
+  next = sym (k .before .before .before .next-index .ensures) ∙ k .before .next .given .1
 
 -- the inputs have moved on
 module _ (a : tie.After-advance Inv-loop μ-loop) where
   abbrev k : tie.After-known-told Inv-loop μ-loop
   k = a .before .before .before .before
 
-  abbrev q : List ℕ
-  q = a .advance .last .1 .1 .1 .1 .0
-
   pickable : (ps : List ℕ) → ps ≡ take (start (l k) .args .derivation .«piece_count») (start (l k) .args .derivation .bits)
-      → Pickable (its (made (l k))) (now (start (l k) .args .bytes)) q ps (length (l k .loop .text))
-  pickable ps is =
-      let s = start (l k) in
-      let m = made (l k) in
-      pickable-on (s .args .derivation) (its m) (now (s .args .bytes)) (now (s .args .indices)) (walkable m .derivable) refl (size s) (l k .loop .begun) (index k) _ _ (walk k)
-      ps is _ (wide-text (l k) (l k .loop .text) refl) q (a .advance .ensures .1) (a .advance .ensures .0)
+      → Pickable (its (made (l k))) (now (start (l k) .args .bytes)) (a .advance .last .1 .1 .1 .1 .0) ps (length (l k .loop .text))
+  pickable ps is = pickable-on (ready-as (made (l k))) (l k .loop .inv .0) (next k) (a .advance .ensures) is (wide-text (l k) (l k .loop .text) refl)
 
 -- its characters and its set are known
 module _ (t : tie.After-step-states Inv-loop μ-loop) where
@@ -141,15 +117,13 @@ module _ (t : tie.After-step-states Inv-loop μ-loop) where
   text-long : length text ≡ length (v .loop .text)
   text-long = w .write-pieces .kept .1 .1 .1 .1 .1 .1 .0
 
-  taken : Taken (its (made v)) (now (start v .args .bytes)) (now (start v .args .indices)) (v .loop .begun) (take (start v .args .derivation .«piece_count») (start v .args .derivation .bits)) (index (k a)) (v .loop .text) (q a) (t .step-states .result) text
-  taken =
+  yields : Yielded (its (made v)) (now (start v .args .bytes)) (a .advance .last .1 .1 .1 .1 .0) (take (start v .args .derivation .«piece_count») (start v .args .derivation .bits)) (v .loop .text) (t .step-states .result) text
+  yields =
       record {
-        places = a .advance .ensures .1;
-        on = a .advance .ensures .0;
         set = t .step-states .ensures;
         stored =
             w .write-pieces .ensures
-            ∙ ap (λ (ps : List ℕ). overlay (v .loop .text) 0 (textOf (pickedNow (now (start v .args .bytes)) (cursorsOf (its (made v)) (q a)) (map extractOf ps)))) (v .loop .inv .2);
+            ∙ ap (λ (ps : List ℕ). overlay (v .loop .text) 0 (textOf (pickedNow (now (start v .args .bytes)) (cursorsOf (its (made v)) (a .advance .last .1 .1 .1 .1 .0)) (map extractOf ps)))) (v .loop .inv .2);
       }
 
 cast-pieces : tie.Need-cast-pieces Inv-loop μ-loop
@@ -163,29 +137,21 @@ part-pieces-start c = search needs
 
 part-pieces-end : tie.Need-part-pieces-end Inv-loop μ-loop
 part-pieces-end c =
-    let s = c .before .before .before .before .before .before .before in
-    omega (arith, few-pieces (s .args .derivation) (s .args .inputs) (now (s .args .bytes)) (now (s .args .indices)) (s .pre .0 .derivable) (slots s) (size s), size s .bits)
+    let r = ready (c .before .before .before .before .before .before .before) in
+    omega (arith, few-pieces r, r .size .bits)
 
 entry-size-requires : tie.Need-entry-size-requires Inv-loop μ-loop
 entry-size-requires c κs = search needs
 
 table-of-requires : tie.Need-table-of-requires Inv-loop μ-loop
-table-of-requires c κs =
-    let s = c .before .before .before .before .before .before .before .before .before in
-    vectors (s .args .derivation) (s .args .inputs) (now (s .args .bytes)) (now (s .args .indices)) (s .pre .0 .derivable) (slots s) (size s)
+table-of-requires c κs = vectors (ready (c .before .before .before .before .before .before .before .before .before))
 
 loop-holds : tie.Need-loop-holds Inv-loop μ-loop
 loop-holds c =
     let m = c .before .before in
-    let s = begin m in
-    let a = s .args in
-    let z : a .derivation .«piece_count» - 0 ≡ a .derivation .«piece_count» = omega arith in (
-      writing-start (a .derivation) (its m) (now (a .bytes)) (now (a .indices)) (walkable m .derivable) refl (size s) (a .stride) (now (a .out-bytes)) (now (a .out-indices)) _ refl,
-      refl,
-      ap (λ (n : ℕ). take n (a .derivation .bits)) z,
-      refl,
-      length-replicate {A = ℕ} 4096 0,
-    )
+    let a = begin m .args in
+    let z : a .derivation .«piece_count» - 0 ≡ a .derivation .«piece_count» = omega arith in
+    (writing-start (ready-as m) _ refl, refl, ap (λ (n : ℕ). take n (a .derivation .bits)) z, refl, length-replicate {A = ℕ} 4096 0)
 
 slice-aggregate-next-index : tie.Need-slice-aggregate-next-index Inv-loop μ-loop
 slice-aggregate-next-index c = numbered (made (c .before))
@@ -194,7 +160,7 @@ slice-aggregate-next-index-2 : tie.Need-slice-aggregate-next-index-2 Inv-loop μ
 slice-aggregate-next-index-2 c = started (made (c .before .before))
 
 next-index-requires : tie.Need-next-index-requires Inv-loop μ-loop
-next-index-requires c κs = let l = c .before .before .before in (made l .table-of .ensures .long, can-index (made l), l .loop .inv .1)
+next-index-requires c κs = let l = c .before .before .before in (made l .table-of .ensures .long, indexable (stand (ready-as (made l))), l .loop .inv .1)
 
 enum-known-next : tie.Need-enum-known-next Inv-loop μ-loop
 enum-known-next c = search needs
@@ -203,7 +169,7 @@ enum-told : tie.Need-enum-told Inv-loop μ-loop
 enum-told c = search needs
 
 same-length : tie.Need-same-length Inv-loop μ-loop
-same-length c = c .before .before .before .before .before .before .loop .inv .0 .long
+same-length c = c .before .before .before .before .before .before .loop .inv .0 .storing .long
 
 same-length-2 : tie.Need-same-length-2 Inv-loop μ-loop
 same-length-2 c = c .before .before .before .before .before .before .loop .inv .3
@@ -211,22 +177,9 @@ same-length-2 c = c .before .before .before .before .before .before .loop .inv .
 returns : tie.Need-returns Inv-loop μ-loop
 returns c =
     let l = c .before .before .before .before .before .before in
-    let m = made l in
-    let s = begin m in
-    let a = s .args in
-    let z = writing-done (a .derivation) (its m) (now (a .bytes)) (now (a .indices)) (a .stride) (now (a .out-bytes)) (now (a .out-indices)) (l .loop .begun) (l .loop .count) (l .loop .out-bytes) (l .loop .out-indices) (l .loop .inv .0)
-    (sym (c .before .before .next-index .ensures) ∙ c .enum-told .given .1) in
-    let steps : List Kept → List Step = λ ks. derivedList (piecesOf (a .derivation)) ks in (
-      z .0 ∙ ap (λ (ks : List Kept). length (steps ks)) (kept m),
-      λ f g.
-          let y = z .1 (f ∙ ap (entrySize (a .derivation .width)) (walkable m .largest)) (subst (λ (ks : List Kept). length (steps ks) ≤ length (now (a .out-indices))) (sym (kept m)) g) in
-          record {
-            entries =
-                y .entries
-                ∙ ap₂ (λ (K : States) (ks : List Kept). overlay (now (a .out-bytes)) 0 (entriesOf (a .derivation .width) K (steps ks))) (sym (walkable m .largest)) (kept m);
-            times = y .times ∙ ap (λ (ks : List Kept). overlay (now (a .out-indices)) 0 (map indexOf (steps ks))) (kept m);
-          },
-    )
+    let a = start l .args in
+    subst (λ (ks : List Kept). Wrote (a .derivation .width) (a .max-states) (a .stride) (derivedList (piecesOf (a .derivation)) ks) (now (a .out-bytes)) (now (a .out-indices)) (l .loop .count) (l .loop .out-bytes) (l .loop .out-indices)) (kept (made l))
+    (writing-done (l .loop .inv .0) (sym (c .before .before .next-index .ensures) ∙ c .enum-told .given .1))
 
 slice-aggregate-advance : tie.Need-slice-aggregate-advance Inv-loop μ-loop
 slice-aggregate-advance c = numbered (made (l (c .before)))
@@ -235,7 +188,7 @@ slice-aggregate-advance-2 : tie.Need-slice-aggregate-advance-2 Inv-loop μ-loop
 slice-aggregate-advance-2 c = started (made (l (c .before .before)))
 
 advance-requires : tie.Need-advance-requires Inv-loop μ-loop
-advance-requires c κs = let v = l (c .before .before .before) in (made v .table-of .ensures .long, can-index (made v), v .loop .inv .1)
+advance-requires c κs = let v = l (c .before .before .before) in (made v .table-of .ensures .long, indexable (stand (ready-as (made v))), v .loop .inv .1)
 
 slice-aggregate-write-pieces : tie.Need-slice-aggregate-write-pieces Inv-loop μ-loop
 slice-aggregate-write-pieces c = numbered (made (l (k (c .before))))
@@ -271,12 +224,8 @@ append-step-requires : tie.Need-append-step-requires Inv-loop μ-loop
 append-step-requires c κs =
     let t = c .before .before .before in
     let u = v t in
-    let s = start u in
     let m = made u in
-    let x = s .args in
-    appendable-as (x .derivation) (its m) (now (x .bytes)) (now (x .indices)) (walkable m .derivable) refl (size s) (u .loop .begun) (index (k (a t))) _ _ (walk (k (a t))) (u .loop .text) (q (a t)) (t .step-states .result) (text t) (taken t)
-    (x .stride) (now (x .out-bytes)) (now (x .out-indices)) (room m) (u .loop .count) (u .loop .out-bytes) (u .loop .out-indices) (u .loop .inv .0 .counted) (u .loop .inv .0 .ended) (u .loop .inv .0 .long)
-    (x .max-states) (walkable m .largest) _ (m .before .entry-size .ensures)
+    rw (m .before .entry-size .ensures) (appendable-on (ready-as m) (u .loop .inv .0) (next (k (a t))) (a t .advance .ensures) (yields t) (room m))
 
 put-index-requires : tie.Need-put-index-requires Inv-loop μ-loop
 put-index-requires c κs = search needs
@@ -284,27 +233,16 @@ put-index-requires c κs = search needs
 loop-less : tie.Need-loop-less Inv-loop μ-loop
 loop-less c =
     let t = c .before .before .before .before .before .before .before .before .before .before in
-    let u = v t in
-    let s = start u in
-    let m = made u in
-    let x = s .args in
-    fewer (x .derivation) (its m) (now (x .bytes)) (now (x .indices)) (walkable m .derivable) refl (size s) (u .loop .begun) (index (k (a t))) _ _ (walk (k (a t))) (u .loop .text) (q (a t)) (t .step-states .result) (text t) (taken t)
+    fewer (ready-as (made (v t))) (v t .loop .inv .0) (next (k (a t))) (a t .advance .ensures)
 
 loop-again : tie.Need-loop-again Inv-loop μ-loop
 loop-again c =
     let t = c .before .before .before .before .before .before .before .before .before .before in
     let u = v t in
-    let s = start u in
-    let m = made u in
-    let x = s .args in (
-      writing-on (x .derivation) (its m) (now (x .bytes)) (now (x .indices)) (walkable m .derivable) refl (size s) (u .loop .begun) (index (k (a t))) _ _ (walk (k (a t))) (u .loop .text) (q (a t)) (t .step-states .result) (text t) (taken t)
-          (x .stride) (now (x .out-bytes)) (now (x .out-indices)) (room m) (u .loop .count) (u .loop .out-bytes) (u .loop .out-indices) (u .loop .inv .0 .counted) (u .loop .inv .0 .ended) (u .loop .inv .0 .long)
-          (u .loop .inv .0 .stored) (u .loop .inv .0 .indexed) _ _ _
-          (appended-as (x .derivation) (its m) (now (x .bytes)) (now (x .indices)) (walkable m .derivable) refl (size s) (u .loop .begun) (index (k (a t))) _ _ (walk (k (a t))) (u .loop .text) (q (a t)) (t .step-states .result) (text t) (taken t)
-          (x .stride) (now (x .out-bytes)) (now (x .out-indices)) (room m) (u .loop .count) (u .loop .out-bytes) (u .loop .out-indices) (u .loop .inv .0 .counted) (u .loop .inv .0 .ended) (u .loop .inv .0 .long)
-          (x .max-states) (walkable m .largest) _ (m .before .entry-size .ensures) _ _ (c .before .before .before .before .before .before .append-step .ensures))
-          (c .before .before .put-index .ensures),
-      a t .advance .ensures .1,
+    let m = made u in (
+      writing-on (ready-as m) (u .loop .inv .0) (next (k (a t))) (a t .advance .ensures) (yields t) (room m)
+          (rw (m .before .entry-size .ensures) at (c .before .before .before .before .before .before .append-step .ensures)) (c .before .before .put-index .ensures),
+      a t .advance .ensures .places,
       u .loop .inv .2,
       c .before .before .put-index .kept .1 .1 .1 .0 ∙ u .loop .inv .3,
       text-long t ∙ u .loop .inv .4,

@@ -31,10 +31,10 @@ impl Operation for Derive {
     #[rustfmt::skip]
     const DEFINITIONS: &'static [Module] = &[
         Module::new("Rattle.runs.specs.Runs", "", "endsLike joined entriesOf laidOut"),
-        Module::new("Rattle.transform.specs.declared.Input", "Input", ""),
-        Module::new("Rattle.transform.specs.declared.Inputs", "Inputs", ""),
-        Module::new("Rattle.transform.specs.Steps", "", "smallest moved momentsFrom momentsOf"),
-        Module::new("Rattle.transform.specs.Derive", "Derived", "picked derivedList isUnfit deriveRefusals derive"),
+        Module::new("Rattle.steps.specs.declared.Input", "Input", ""),
+        Module::new("Rattle.steps.specs.declared.Inputs", "Inputs", ""),
+        Module::new("Rattle.steps.specs.Steps", "", "smallest moved momentsFrom momentsOf keptSteps"),
+        Module::new("Rattle.transform.specs.Derive", "Derived", "picked isUnfit deriveRefusals derive"),
     ];
 
     fn alterable(&self) -> (&[u8], &[u32]) {

@@ -1,0 +1,11 @@
+pub mod InputTests
+pub mod Loops
+pub mod Levels
+pub mod Tables
+pub mod Tracks
+pub mod Sources
+pub mod Walk
+pub mod Appending
+pub mod Storing
+pub mod Rooms
+pub mod Totals

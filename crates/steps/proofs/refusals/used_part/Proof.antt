@@ -1,0 +1,60 @@
+-- `steps::refusals::used_part` meets its contract.
+-- Assumes nothing.
+use Prim.Native.Nat.{_*_, _+_, _≤_, ℕ}
+use borrow.Author.Needs.{needs}
+use denote.Ref.{now}
+use lib.ListN.{length}
+use mathlib.Core.Path.{_∙_, ap}
+use native.Mathlib.Nat.{add-sub-cancel-left}
+use native.Mathlib.Omega.{arith}
+use Rattle.value.specs.Slice.{part}
+use Rattle.steps.proofs.refusals.used_part.Statement.{statement}
+use Rattle.steps.proofs.refusals.used_part.Tie as tie
+
+-- the part lies within the bytes
+placed : (c : tie.After-size-of) → c .before .before .before .before .args .input .«byte_start» + c .before .before .before .before .args .input .description .count * c .size-of .result ≤ length (now (c .before .before .before .before .args .bytes))
+placed c = rw (c .size-of .ensures) (c .before .before .before .before .pre)
+
+cast-n : tie.Need-cast-n
+cast-n c = search needs
+
+size-of-requires : tie.Need-size-of-requires
+size-of-requires c κs = search needs
+
+mul-n : tie.Need-mul-n
+mul-n c = omega (arith, placed c)
+
+add-result : tie.Need-add-result
+add-result c = omega (arith, placed c)
+
+sub-result : tie.Need-sub-result
+sub-result c = search needs
+
+part-result-start : tie.Need-part-result-start
+part-result-start c = search needs
+
+part-result-end : tie.Need-part-result-end
+part-result-end c = omega (arith, placed c)
+
+returns : tie.Need-returns
+unfolding part
+returns c =
+    let b = c .before in
+    let a = b .before .before .before .before .args in
+    let s = a .input .«byte_start» in
+    let n = a .input .description .count in
+    ap (λ (k : ℕ). part s k (now (a .bytes))) (add-sub-cancel-left s (n * b .size-of .result))
+    ∙ ap (λ (z : ℕ). part s (n * z) (now (a .bytes))) (b .size-of .ensures)
+
+pub used-part-spec : {M : Type 1} → statement M
+used-part-spec =
+    tie.close
+    (tie.spec
+    cast-n
+    size-of-requires
+    mul-n
+    add-result
+    sub-result
+    part-result-start
+    part-result-end
+    returns)

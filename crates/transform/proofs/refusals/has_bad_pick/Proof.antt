@@ -1,0 +1,63 @@
+-- `transform::refusals::has_bad_pick` meets its contract.
+-- Assumes nothing.
+use borrow.Author.Needs.{needs}
+use denote.Ref.{now}
+use mathlib.Core.Path.{_∙_, _≡_, ap, sym}
+use Rattle.value.specs.Level.{setAt}
+use Rattle.signal.specs.Decode.{markIn}
+use Rattle.signal.proofs.Reading.{some}
+use Rattle.transform.proofs.PieceTests.{pick-few, pick-levels, pick-owned}
+use Rattle.transform.proofs.refusals.has_bad_pick.Statement.{statement}
+use Rattle.transform.proofs.refusals.has_bad_pick.Tie as tie
+
+-- the set is the own one
+own : (b : tie.After-bits) → b .before .states-of .result ≡ setAt (markIn (b .before .before .before .before .args .max-states) (now (b .before .before .before .before .args .entry)))
+own b = b .before .states-of .ensures ∙ ap setAt (b .before .before .mark-in .ensures)
+
+mark-in-requires : tie.Need-mark-in-requires
+mark-in-requires c κs = some (c .before .pre .whole)
+
+states-of-requires : tie.Need-states-of-requires
+states-of-requires c κs = search needs
+
+bits-requires : tie.Need-bits-requires
+bits-requires c κs = search needs
+
+returns : tie.Need-returns
+returns c =
+    let b = c .before in
+    let s = b .before .before .before .before in
+    sym (pick-few (s .args .extract) (s .args .width) (s .args .max-states) (now (s .args .entry)) (s .pre) (b .before .states-of .result) (own b) (rw (b .bits .ensures) at (c .if1 .taken)))
+
+level-part-requires : tie.Need-level-part-requires
+level-part-requires c κs =
+    let b = c .before in
+    let s = b .before .before .before .before in
+    pick-owned (s .args .extract) (s .args .width) (s .args .max-states) (now (s .args .entry)) (s .pre) (b .before .states-of .result) (own b) .within
+
+has-bad-level-requires : tie.Need-has-bad-level-requires
+has-bad-level-requires c κs =
+    let b = c .before .before in
+    let s = b .before .before .before .before in
+    let o = pick-owned (s .args .extract) (s .args .width) (s .args .max-states) (now (s .args .entry)) (s .pre) (b .before .states-of .result) (own b) in
+    (rw (c .level-part .ensures, o .part) (o .levels), s .pre .inside, rw (b .bits .ensures) at (c .before .if1 .left))
+
+returns-2 : tie.Need-returns-2
+returns-2 c =
+    let p = c .before in
+    let b = p .before .before in
+    let s = b .before .before .before .before in
+    c .has-bad-level .ensures
+    ∙ pick-levels (s .args .extract) (s .args .width) (s .args .max-states) (now (s .args .entry)) (s .pre) (b .before .states-of .result) (own b) _ (p .level-part .ensures)
+
+pub has-bad-pick-spec : {M : Type 1} → statement M
+has-bad-pick-spec =
+    tie.close
+    (tie.spec
+    mark-in-requires
+    states-of-requires
+    bits-requires
+    returns
+    level-part-requires
+    has-bad-level-requires
+    returns-2)
