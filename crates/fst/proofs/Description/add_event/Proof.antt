@@ -6,15 +6,6 @@ use borrow.Author.Needs.{needs}
 use Rattle.fst.proofs.Description.add_event.Statement.{statement}
 use Rattle.fst.proofs.Description.add_event.Tie as tie
 
-is-bad-requires : tie.Need-is-bad-requires
-is-bad-requires c κs = search needs
-
-refused-requires : tie.Need-refused-requires
-refused-requires c κs = search needs
-
-same-length : tie.Need-same-length
-same-length c = search needs
-
 returns : tie.Need-returns
 returns c =
     let b = c .before .before in
@@ -27,20 +18,14 @@ keep-event-requires c κs =
     let b = i .before in
     (sym (b .is-bad .ensures) ∙ i .if1 .left, b .before .before .before .before .before .pre)
 
-same-length-2 : tie.Need-same-length-2
-same-length-2 c = search needs
-
-returns-2 : tie.Need-returns-2
-returns-2 c = search needs
-
 pub add-event-spec : {M : Type 1} → statement M
 add-event-spec =
     tie.close
     (tie.spec
-    is-bad-requires
-    refused-requires
-    same-length
+    (λ c κs. search needs)
+    (λ c κs. search needs)
+    (λ c. search needs)
     returns
     keep-event-requires
-    same-length-2
-    returns-2)
+    (λ c. search needs)
+    (λ c. search needs))

@@ -71,32 +71,8 @@ module _ (z : tie.After-lacks-room) where
   places : z .lacks-room .result ≡ false → Roomier (start known .args .self) (here (start known)) 8
   places h = roomier 8 (ap sizeOf (isReal known)) (sym (z .lacks-room .ensures) ∙ h)
 
-is-bad-requires : tie.Need-is-bad-requires
-is-bad-requires c κs = search needs
-
-refused-requires : tie.Need-refused-requires
-refused-requires c κs = search needs
-
-same-length : tie.Need-same-length
-same-length c = search needs
-
-same-length-2 : tie.Need-same-length-2
-same-length-2 c = search needs
-
 returns : tie.Need-returns
 returns c = beside (c .refused .ensures) ∙ gives-2 _ _ _ _ (sym (c .before .before .is-bad .ensures) ∙ c .before .if1 .taken)
-
-enum-told : tie.Need-enum-told
-enum-told c = search needs
-
-refused-requires-2 : tie.Need-refused-requires-2
-refused-requires-2 c κs = search needs
-
-same-length-3 : tie.Need-same-length-3
-same-length-3 c = search needs
-
-same-length-4 : tie.Need-same-length-4
-same-length-4 c = search needs
 
 returns-2 : tie.Need-returns-2
 returns-2 c =
@@ -108,15 +84,6 @@ is-below-last-requires : tie.Need-is-below-last-requires
 is-below-last-requires c κs =
     (standing (sym (c .before .before .before .before .is-bad .ensures) ∙ c .before .before .before .if1 .left)) .room .indices
 
-refused-requires-3 : tie.Need-refused-requires-3
-refused-requires-3 c κs = search needs
-
-same-length-5 : tie.Need-same-length-5
-same-length-5 c = search needs
-
-same-length-6 : tie.Need-same-length-6
-same-length-6 c = search needs
-
 returns-3 : tie.Need-returns-3
 returns-3 c =
     let b = c .before .before in
@@ -127,15 +94,6 @@ repeats-real-requires c κs =
     let b = c .before .before in
     let x = start b in
     ((stands b) .room .count, real-room (stands b) (isReal b) (x .args .index) (x .args .bits))
-
-accepted-requires : tie.Need-accepted-requires
-accepted-requires c κs = search needs
-
-same-length-7 : tie.Need-same-length-7
-same-length-7 c = search needs
-
-same-length-8 : tie.Need-same-length-8
-same-length-8 c = search needs
 
 returns-4 : tie.Need-returns-4
 returns-4 c =
@@ -153,25 +111,10 @@ lacks-room-requires c κs =
     let b = c .before .before .before .before .before .before .before in
     ((stands b) .sound, sym (ap sizeOf (isReal b)))
 
-refused-requires-4 : tie.Need-refused-requires-4
-refused-requires-4 c κs = search needs
-
-same-length-9 : tie.Need-same-length-9
-same-length-9 c = search needs
-
-same-length-10 : tie.Need-same-length-10
-same-length-10 c = search needs
-
 returns-5 : tie.Need-returns-5
 returns-5 c =
     let z = c .before .before in
     beside (c .refused4 .ensures) ∙ kept-full (admitted z) _ (kept z) (sym (z .lacks-room .ensures) ∙ c .before .if4 .taken)
-
-cast-entries : tie.Need-cast-entries
-cast-entries c = search needs
-
-mul-write-real : tie.Need-mul-write-real
-mul-write-real c = search needs
 
 add-write-real : tie.Need-add-write-real
 add-write-real c = let p = places (c .before .before) (c .before .if4 .left) in omega arith
@@ -188,15 +131,6 @@ mul-indices c = let p = places (c .before .before .before .before .before) (c .b
 slice-write-indices : tie.Need-slice-write-indices
 slice-write-indices c = (places (c .before .before .before .before .before) (c .before .before .before .before .if4 .left)) .index
 
-accepted-requires-2 : tie.Need-accepted-requires-2
-accepted-requires-2 c κs = search needs
-
-same-length-11 : tie.Need-same-length-11
-same-length-11 c = search needs
-
-same-length-12 : tie.Need-same-length-12
-same-length-12 c = search needs
-
 returns-6 : tie.Need-returns-6
 returns-6 c =
     let z = c .before .before .before .before .before .before in
@@ -209,40 +143,40 @@ pub add-real-spec : {M : Type 1} → statement M
 add-real-spec =
     tie.close
     (tie.spec
-    is-bad-requires
-    refused-requires
-    same-length
-    same-length-2
+    (λ c κs. search needs)
+    (λ c κs. search needs)
+    (λ c. search needs)
+    (λ c. search needs)
     returns
-    enum-told
-    refused-requires-2
-    same-length-3
-    same-length-4
+    (λ c. search needs)
+    (λ c κs. search needs)
+    (λ c. search needs)
+    (λ c. search needs)
     returns-2
     is-below-last-requires
-    refused-requires-3
-    same-length-5
-    same-length-6
+    (λ c κs. search needs)
+    (λ c. search needs)
+    (λ c. search needs)
     returns-3
     repeats-real-requires
-    accepted-requires
-    same-length-7
-    same-length-8
+    (λ c κs. search needs)
+    (λ c. search needs)
+    (λ c. search needs)
     returns-4
     add-self
     lacks-room-requires
-    refused-requires-4
-    same-length-9
-    same-length-10
+    (λ c κs. search needs)
+    (λ c. search needs)
+    (λ c. search needs)
     returns-5
-    cast-entries
-    mul-write-real
+    (λ c. search needs)
+    (λ c. search needs)
     add-write-real
     write-real-requires
     add-indices
     mul-indices
     slice-write-indices
-    accepted-requires-2
-    same-length-11
-    same-length-12
+    (λ c κs. search needs)
+    (λ c. search needs)
+    (λ c. search needs)
     returns-6)

@@ -31,9 +31,6 @@ module _ (b : tie.After-is-below-last) where
   suited : Suited (start .args .self) (lent (now (start .args .bytes)) (start .args .byte-start) (now (start .args .indices)) (start .args .index-start)) (text (now (start .args .value)))
   suited = string-suited (standing (start .pre .0)) (start .pre .1) (start .args .index) _ long least
 
-refused-requires : tie.Need-refused-requires
-refused-requires c κs = search needs
-
 returns : tie.Need-returns
 returns c =
     let x = c .before .before .before .before .before in
@@ -45,15 +42,6 @@ scan-requires c κs =
     let w = width-known (x .args .max-states) (ap widthStands (sym (x .pre .1)) ∙ (standing (x .pre .0)) .width) in
     omega (arith, c .if1 .left, w .1)
 
-enum-known-answer : tie.Need-enum-known-answer
-enum-known-answer c = search needs
-
-enum-told : tie.Need-enum-told
-enum-told c = search needs
-
-refused-requires-2 : tie.Need-refused-requires-2
-refused-requires-2 c κs = search needs
-
 returns-2 : tie.Need-returns-2
 returns-2 c =
     let x = c .before .before .before .before .before .before .before .before in
@@ -64,12 +52,6 @@ is-below-last-requires : tie.Need-is-below-last-requires
 is-below-last-requires c κs =
     let x = c .before .before .before .before .before .before .before .before .before in
     (standing (x .pre .0)) .room .indices
-
-refused-requires-3 : tie.Need-refused-requires-3
-refused-requires-3 c κs = search needs
-
-same-length : tie.Need-same-length
-same-length c = search needs
 
 returns-3 : tie.Need-returns-3
 returns-3 c =
@@ -88,31 +70,22 @@ add-levels-requires c κs =
           (t .ensures),
     )
 
-same-length-2 : tie.Need-same-length-2
-same-length-2 c = search needs
-
-same-length-3 : tie.Need-same-length-3
-same-length-3 c = search needs
-
-returns-4 : tie.Need-returns-4
-returns-4 c = search needs
-
 pub add-text-spec : {M : Type 1} → statement M
 add-text-spec =
     tie.close
     (tie.spec
-    refused-requires
+    (λ c κs. search needs)
     returns
     scan-requires
-    enum-known-answer
-    enum-told
-    refused-requires-2
+    (λ c. search needs)
+    (λ c. search needs)
+    (λ c κs. search needs)
     returns-2
     is-below-last-requires
-    refused-requires-3
-    same-length
+    (λ c κs. search needs)
+    (λ c. search needs)
     returns-3
     add-levels-requires
-    same-length-2
-    same-length-3
-    returns-4)
+    (λ c. search needs)
+    (λ c. search needs)
+    (λ c. search needs))

@@ -64,12 +64,6 @@ repeats-number-requires c κs =
     let p = c .before .before .before .before .before .pre in
     (same-repeatable (p .0) (p .1), numbered (c .before))
 
-accepted-requires : tie.Need-accepted-requires
-accepted-requires c κs = search needs
-
-same-length : tie.Need-same-length
-same-length c = search needs
-
 returns : tie.Need-returns
 returns c =
     let p = c .before .before .before .before .before .before .before .before .pre in
@@ -81,15 +75,6 @@ lacks-room-requires c κs =
     let p = c .before .before .before .before .before .before .before .before .before .pre in
     (p .0 .admitted .sound, sym (size-here (p .0) (p .1) (p .2)))
 
-refused-requires : tie.Need-refused-requires
-refused-requires c κs = search needs
-
-same-length-2 : tie.Need-same-length-2
-same-length-2 c = search needs
-
-same-length-3 : tie.Need-same-length-3
-same-length-3 c = search needs
-
 returns-2 : tie.Need-returns-2
 returns-2 c =
     let z = c .before .before in
@@ -99,9 +84,6 @@ add-self : tie.Need-add-self
 add-self c =
     let f = (string-standing (c .before .before .before .before .before .before .before .before .before .before .before .before .pre .0)) .room .count in
     omega arith
-
-cast-entries : tie.Need-cast-entries
-cast-entries c = search needs
 
 -- the new entry's place
 place : (c : tie.After-struct-known) →
@@ -144,15 +126,6 @@ mul-indices c = let p = index-in c in omega (arith, few-indices (start (c .befor
 slice-write-indices : tie.Need-slice-write-indices
 slice-write-indices c = index-in c
 
-accepted-requires-2 : tie.Need-accepted-requires-2
-accepted-requires-2 c κs = search needs
-
-same-length-4 : tie.Need-same-length-4
-same-length-4 c = search needs
-
-same-length-5 : tie.Need-same-length-5
-same-length-5 c = search needs
-
 returns-3 : tie.Need-returns-3
 returns-3 c =
     let z = c .before .before .before .before .before .before .before in
@@ -167,23 +140,23 @@ append-levels-spec =
     (tie.spec
     marked-number-requires
     repeats-number-requires
-    accepted-requires
-    same-length
+    (λ c κs. search needs)
+    (λ c. search needs)
     returns
     lacks-room-requires
-    refused-requires
-    same-length-2
-    same-length-3
+    (λ c κs. search needs)
+    (λ c. search needs)
+    (λ c. search needs)
     returns-2
     add-self
-    cast-entries
+    (λ c. search needs)
     mul-at
     add-at
     store-number-requires
     add-indices
     mul-indices
     slice-write-indices
-    accepted-requires-2
-    same-length-4
-    same-length-5
+    (λ c κs. search needs)
+    (λ c. search needs)
+    (λ c. search needs)
     returns-3)

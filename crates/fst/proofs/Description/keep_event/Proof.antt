@@ -40,9 +40,6 @@ module _ (z : tie.After-lacks-room) where
   index-in : z .lacks-room .result ≡ false → start told .args .index-start + start told .args .self .count < length (now (start told .args .indices))
   index-in h = (roomier {d = start told .args .self} {l = here (start told)} 0 (ap sizeOf (start told .pre .1)) (sym (z .lacks-room .ensures) ∙ h)) .index
 
-refused-requires : tie.Need-refused-requires
-refused-requires c κs = search needs
-
 returns : tie.Need-returns
 returns c =
     let x = c .before .before .before .before .before in
@@ -50,12 +47,6 @@ returns c =
 
 is-below-last-requires : tie.Need-is-below-last-requires
 is-below-last-requires c κs = (standing (c .before .before .before .before .before .pre .0)) .room .indices
-
-refused-requires-2 : tie.Need-refused-requires-2
-refused-requires-2 c κs = search needs
-
-same-length : tie.Need-same-length
-same-length c = search needs
 
 returns-2 : tie.Need-returns-2
 returns-2 c =
@@ -72,21 +63,12 @@ lacks-room-requires c κs =
     let p = (start (c .before .before .before)) .pre in
     (p .0, sym (ap sizeOf (p .1)))
 
-refused-requires-3 : tie.Need-refused-requires-3
-refused-requires-3 c κs = search needs
-
-same-length-2 : tie.Need-same-length-2
-same-length-2 c = search needs
-
 returns-3 : tie.Need-returns-3
 returns-3 c =
     let z = c .before .before in
     let x = start (told z) in
     beside (c .refused3 .ensures)
     ∙ kept-full (passes (told z) (z .before .before .before .if2 .left)) [] (event-kept (standing (x .pre .0)) (x .pre .1) _ _) (sym (z .lacks-room .ensures) ∙ c .before .if3 .taken)
-
-cast-indices : tie.Need-cast-indices
-cast-indices c = search needs
 
 add-indices : tie.Need-add-indices
 add-indices c = let h = index-in (c .before .before) (c .before .if3 .left) in omega arith
@@ -96,12 +78,6 @@ mul-indices c = let h = index-in (c .before .before) (c .before .if3 .left) in o
 
 slice-write-indices : tie.Need-slice-write-indices
 slice-write-indices c = index-in (c .before .before) (c .before .if3 .left)
-
-accepted-requires : tie.Need-accepted-requires
-accepted-requires c κs = search needs
-
-same-length-3 : tie.Need-same-length-3
-same-length-3 c = search needs
 
 returns-4 : tie.Need-returns-4
 returns-4 c =
@@ -114,21 +90,21 @@ pub keep-event-spec : {M : Type 1} → statement M
 keep-event-spec =
     tie.close
     (tie.spec
-    refused-requires
+    (λ c κs. search needs)
     returns
     is-below-last-requires
-    refused-requires-2
-    same-length
+    (λ c κs. search needs)
+    (λ c. search needs)
     returns-2
     add-self
     lacks-room-requires
-    refused-requires-3
-    same-length-2
+    (λ c κs. search needs)
+    (λ c. search needs)
     returns-3
-    cast-indices
+    (λ c. search needs)
     add-indices
     mul-indices
     slice-write-indices
-    accepted-requires
-    same-length-3
+    (λ c κs. search needs)
+    (λ c. search needs)
     returns-4)

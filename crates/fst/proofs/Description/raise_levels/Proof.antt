@@ -70,9 +70,6 @@ cast-width c =
     let p = (repeatable (c .before .before .before .pre) refl) .short in
     omega arith
 
-join-requires : tie.Need-join-requires
-join-requires c κs = search needs
-
 repeats-last-requires : tie.Need-repeats-last-requires
 repeats-last-requires c κs = repeatable (c .before .before .before .before .before .pre) (c .before .join .ensures)
 
@@ -82,40 +79,16 @@ next-count-requires c κs = (string-standing (c .before .before .before .before 
 exceeds-requires : tie.Need-exceeds-requires
 exceeds-requires c κs = width-then (c .before .before .before .before .before .before .before .before .before .pre) (c .before .before .before .before .before .join .ensures)
 
-refused-requires : tie.Need-refused-requires
-refused-requires c κs = search needs
-
-same-length : tie.Need-same-length
-same-length c = search needs
-
-same-length-2 : tie.Need-same-length-2
-same-length-2 c = search needs
-
 returns : tie.Need-returns
 returns c =
     let z = c .before .before in
     beside (c .refused .ensures)
     ∙ levels-full ((start z) .pre) (joined z) (told z) (counted z) (sym (z .exceeds .ensures) ∙ c .before .if1 .taken)
 
-new-requires : tie.Need-new-requires
-new-requires c κs = search needs
-
-cast-entries : tie.Need-cast-entries
-cast-entries c = search needs
-
 expand-entries-requires : tie.Need-expand-entries-requires
 expand-entries-requires c κs =
     let z = c .before .before .before in
     widenable ((start z) .pre) (joined z) (told z) (counted z) (sym (z .exceeds .ensures) ∙ c .before .before .if1 .left)
-
-accepted-requires : tie.Need-accepted-requires
-accepted-requires c κs = search needs
-
-same-length-3 : tie.Need-same-length-3
-same-length-3 c = search needs
-
-same-length-4 : tie.Need-same-length-4
-same-length-4 c = search needs
 
 returns-2 : tie.Need-returns-2
 returns-2 c =
@@ -123,9 +96,6 @@ returns-2 c =
     beside (c .accepted .ensures)
     ∙ left-by (now ((start z) .args .indices)) (c .before .before .before .before .before .before .new .ensures) (c .before .before .before .before .expand-entries .ensures)
     ∙ levels-stay ((start z) .pre) (joined z) (told z) (counted z) (sym (z .exceeds .ensures) ∙ c .before .before .before .before .before .before .before .if1 .left) (c .before .if2 .taken)
-
-entry-size-requires : tie.Need-entry-size-requires
-entry-size-requires c κs = search needs
 
 mul-at : tie.Need-mul-at
 mul-at c = omega (arith, place c, few-bytes (start (c .before .before .before .before .before .before .before .before)))
@@ -154,15 +124,6 @@ mul-indices c = let p = index-in c in omega (arith, few-indices (start (c .befor
 slice-write-indices : tie.Need-slice-write-indices
 slice-write-indices c = index-in c
 
-accepted-requires-2 : tie.Need-accepted-requires-2
-accepted-requires-2 c κs = search needs
-
-same-length-5 : tie.Need-same-length-5
-same-length-5 c = search needs
-
-same-length-6 : tie.Need-same-length-6
-same-length-6 c = search needs
-
 returns-3 : tie.Need-returns-3
 returns-3 c =
     let z = c .before .before .before .before .before .before .before .before .before .before .before .before .before in
@@ -181,29 +142,29 @@ raise-levels-spec =
     tie.close
     (tie.spec
     cast-width
-    join-requires
+    (λ c κs. search needs)
     repeats-last-requires
     next-count-requires
     exceeds-requires
-    refused-requires
-    same-length
-    same-length-2
+    (λ c κs. search needs)
+    (λ c. search needs)
+    (λ c. search needs)
     returns
-    new-requires
-    cast-entries
+    (λ c κs. search needs)
+    (λ c. search needs)
     expand-entries-requires
-    accepted-requires
-    same-length-3
-    same-length-4
+    (λ c κs. search needs)
+    (λ c. search needs)
+    (λ c. search needs)
     returns-2
-    entry-size-requires
+    (λ c κs. search needs)
     mul-at
     add-at
     write-entry-requires
     add-indices
     mul-indices
     slice-write-indices
-    accepted-requires-2
-    same-length-5
-    same-length-6
+    (λ c κs. search needs)
+    (λ c. search needs)
+    (λ c. search needs)
     returns-3)

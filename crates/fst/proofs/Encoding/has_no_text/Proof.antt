@@ -5,15 +5,6 @@ use Rattle.fst.specs.Record.{hasNoText}
 use Rattle.fst.proofs.Encoding.has_no_text.Statement.{statement}
 use Rattle.fst.proofs.Encoding.has_no_text.Tie as tie
 
-enum-told : tie.Need-enum-told
-enum-told c = search needs
-
-enum-told-2 : tie.Need-enum-told-2
-enum-told-2 c = search needs
-
-enum-told-3 : tie.Need-enum-told-3
-enum-told-3 c = search needs
-
 returns : tie.Need-returns
 unfolding hasNoText
 returns c = search needs
@@ -28,4 +19,4 @@ returns-3 c = search needs
 
 pub has-no-text-spec : {M : Type 1} → statement M
 has-no-text-spec =
-    tie.close (tie.spec enum-told enum-told-2 enum-told-3 returns returns-2 returns-3)
+    tie.close (tie.spec (λ c. search needs) (λ c. search needs) (λ c. search needs) returns returns-2 returns-3)

@@ -21,21 +21,6 @@ abbrev μ-loop : tie.MeasureT-loop
 loop-holds : tie.Need-loop-holds Inv-loop μ-loop
 loop-holds c = (zero-le, sym (ap (overlay (now (c .args .out)) 0) (part-nil _ _) ∙ overlay-nil _ _), refl)
 
-add-out : tie.Need-add-out Inv-loop μ-loop
-add-out c = omega arith
-
-shared-slice-read-out : tie.Need-shared-slice-read-out Inv-loop μ-loop
-shared-slice-read-out c = omega arith
-
-slice-write-out : tie.Need-slice-write-out Inv-loop μ-loop
-slice-write-out c = omega arith
-
-add-j : tie.Need-add-j Inv-loop μ-loop
-add-j c = omega arith
-
-loop-less : tie.Need-loop-less Inv-loop μ-loop
-loop-less c = omega arith
-
 loop-again : tie.Need-loop-again Inv-loop μ-loop
 loop-again c =
     let a = c .before .before in
@@ -64,11 +49,11 @@ copy-from-spec =
     Inv-loop
     μ-loop
     loop-holds
-    add-out
-    shared-slice-read-out
-    slice-write-out
-    add-j
-    loop-less
+    (λ c. omega arith)
+    (λ c. omega arith)
+    (λ c. omega arith)
+    (λ c. omega arith)
+    (λ c. omega arith)
     loop-again
     same-length
     returns)

@@ -6,15 +6,6 @@ use borrow.Author.Needs.{needs}
 use Rattle.fst.proofs.change.is_below_last.Statement.{statement}
 use Rattle.fst.proofs.change.is_below_last.Tie as tie
 
-last-index-requires : tie.Need-last-index-requires
-last-index-requires c κs = search needs
-
-enum-known-kept : tie.Need-enum-known-kept
-enum-known-kept c = search needs
-
-enum-told : tie.Need-enum-told
-enum-told c = search needs
-
 returns : tie.Need-returns
 returns c = below-none _ _ _ (sym (c .before .before .last-index .ensures) ∙ c .enum-told .given .1)
 
@@ -22,4 +13,4 @@ returns-2 : tie.Need-returns-2
 returns-2 c = below-some _ _ _ _ (sym (c .before .before .before .last-index .ensures) ∙ c .before .kept .given .1)
 
 pub is-below-last-spec : {M : Type 1} → statement M
-is-below-last-spec = tie.close (tie.spec last-index-requires enum-known-kept enum-told returns returns-2)
+is-below-last-spec = tie.close (tie.spec (λ c κs. search needs) (λ c. search needs) (λ c. search needs) returns returns-2)

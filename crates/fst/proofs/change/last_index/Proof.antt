@@ -6,18 +6,6 @@ use borrow.Author.Needs.{needs}
 use Rattle.fst.proofs.change.last_index.Statement.{statement}
 use Rattle.fst.proofs.change.last_index.Tie as tie
 
-sub-last : tie.Need-sub-last
-sub-last c = search needs
-
-add-last : tie.Need-add-last
-add-last c = search needs
-
-mul-last : tie.Need-mul-last
-mul-last c = search needs
-
-shared-slice-read-last : tie.Need-shared-slice-read-last
-shared-slice-read-last c = search needs
-
 returns : tie.Need-returns
 returns c = last-some _ _ _ (λ e. omega arith)
 
@@ -26,4 +14,4 @@ returns-2 c = last-none _ _ (omega arith)
 
 pub last-index-spec : {M : Type 1} → statement M
 last-index-spec =
-    tie.close (tie.spec sub-last add-last mul-last shared-slice-read-last returns returns-2)
+    tie.close (tie.spec (λ c. search needs) (λ c. search needs) (λ c. search needs) (λ c. search needs) returns returns-2)

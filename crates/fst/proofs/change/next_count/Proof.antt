@@ -4,14 +4,8 @@ use borrow.Author.Needs.{needs}
 use Rattle.fst.proofs.change.next_count.Statement.{statement}
 use Rattle.fst.proofs.change.next_count.Tie as tie
 
-add-result : tie.Need-add-result
-add-result c = search needs
-
-returns : tie.Need-returns
-returns c = search needs
-
 returns-2 : tie.Need-returns-2
 returns-2 c = rw (c .if1 .left)
 
 pub next-count-spec : {M : Type 1} → statement M
-next-count-spec = tie.close (tie.spec add-result returns returns-2)
+next-count-spec = tie.close (tie.spec (λ c. search needs) (λ c. search needs) returns-2)

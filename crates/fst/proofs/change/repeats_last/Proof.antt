@@ -27,23 +27,11 @@ place c =
 returns : tie.Need-returns
 returns c = none-repeated _ _ _ _ (omega arith)
 
-cast-bits : tie.Need-cast-bits
-cast-bits c = search needs
-
-entry-size-requires : tie.Need-entry-size-requires
-entry-size-requires c κs = search needs
-
-sub-at : tie.Need-sub-at
-sub-at c = search needs
-
 mul-at : tie.Need-mul-at
 mul-at c = let p = place c in omega arith
 
 add-at : tie.Need-add-at
 add-at c = let p = place c in omega arith
-
-entry-size-requires-2 : tie.Need-entry-size-requires-2
-entry-size-requires-2 c κs = search needs
 
 entry-equals-requires : tie.Need-entry-equals-requires
 entry-equals-requires c κs =
@@ -104,12 +92,12 @@ repeats-last-spec =
     tie.close
     (tie.spec
     returns
-    cast-bits
-    entry-size-requires
-    sub-at
+    (λ c. search needs)
+    (λ c κs. search needs)
+    (λ c. search needs)
     mul-at
     add-at
-    entry-size-requires-2
+    (λ c κs. search needs)
     entry-equals-requires
     widened-equals-requires
     returns-2

@@ -28,9 +28,6 @@ place c =
     let x = c .before .before .before in
     rw (x .pre .1 .sized) (last-place (x .args .count) _ (x .args .byte-start) _ (c .if1 .left) (x .pre .0 .fits))
 
-sub-at : tie.Need-sub-at
-sub-at c = search needs
-
 mul-at : tie.Need-mul-at
 mul-at c = let p = place c in omega arith
 
@@ -81,7 +78,7 @@ repeats-number-spec =
     tie.close
     (tie.spec
     returns
-    sub-at
+    (λ c. search needs)
     mul-at
     add-at
     entry-equals-requires

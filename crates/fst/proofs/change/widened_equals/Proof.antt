@@ -17,24 +17,12 @@ use borrow.Author.Needs.{needs}
 use Rattle.fst.proofs.change.widened_equals.Statement.{statement}
 use Rattle.fst.proofs.change.widened_equals.Tie as tie
 
-cast-bits : tie.Need-cast-bits
-cast-bits c = search needs
-
-entry-size-requires : tie.Need-entry-size-requires
-entry-size-requires c κs = search needs
-
-slice-aggregate-copy-from : tie.Need-slice-aggregate-copy-from
-slice-aggregate-copy-from c = search needs
-
 copy-from-requires : tie.Need-copy-from-requires
 copy-from-requires c κs =
     let x = c .before .before .before .before in (
       omega (arith, c .before .entry-size .ensures, x .pre .fits, one-mul (entrySize (length (now (x .args .value))) (x .args .max-states))),
       omega (arith, c .before .entry-size .ensures, size-small (length (now (x .args .value))) (x .args .max-states) (x .pre .short)),
     )
-
-slice-aggregate-expand-entries : tie.Need-slice-aggregate-expand-entries
-slice-aggregate-expand-entries c = search needs
 
 expand-entries-requires : tie.Need-expand-entries-requires
 expand-entries-requires c κs =
@@ -47,9 +35,6 @@ expand-entries-requires c κs =
       room =
           omega (arith, c .before .before .copy-from .kept .1 .1 .1 .0, one-mul (entrySize (length (now (x .args .value))) (x .args .joint)), size-small (length (now (x .args .value))) (x .args .joint) (x .pre .short));
     }
-
-slice-aggregate-entry-equals : tie.Need-slice-aggregate-entry-equals
-slice-aggregate-entry-equals c = search needs
 
 entry-equals-requires : tie.Need-entry-equals-requires
 entry-equals-requires c κs =
@@ -82,12 +67,12 @@ pub widened-equals-spec : {M : Type 1} → statement M
 widened-equals-spec =
     tie.close
     (tie.spec
-    cast-bits
-    entry-size-requires
-    slice-aggregate-copy-from
+    (λ c. search needs)
+    (λ c κs. search needs)
+    (λ c. search needs)
     copy-from-requires
-    slice-aggregate-expand-entries
+    (λ c. search needs)
     expand-entries-requires
-    slice-aggregate-entry-equals
+    (λ c. search needs)
     entry-equals-requires
     returns)

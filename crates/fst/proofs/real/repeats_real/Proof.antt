@@ -10,18 +10,6 @@ use Rattle.fst.proofs.real.repeats_real.Tie as tie
 returns : tie.Need-returns
 returns c = none-repeated _ _ _ _ (c .if1 .taken)
 
-sub-real-equals : tie.Need-sub-real-equals
-sub-real-equals c = search needs
-
-mul-real-equals : tie.Need-mul-real-equals
-mul-real-equals c = search needs
-
-add-real-equals : tie.Need-add-real-equals
-add-real-equals c = search needs
-
-real-equals-requires : tie.Need-real-equals-requires
-real-equals-requires c κs = search needs
-
 returns-2 : tie.Need-returns-2
 returns-2 c =
     let x = c .before .before .before .args in
@@ -32,8 +20,8 @@ repeats-real-spec =
     tie.close
     (tie.spec
     returns
-    sub-real-equals
-    mul-real-equals
-    add-real-equals
-    real-equals-requires
+    (λ c. search needs)
+    (λ c. search needs)
+    (λ c. search needs)
+    (λ c κs. search needs)
     returns-2)

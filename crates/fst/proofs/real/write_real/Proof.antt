@@ -29,18 +29,6 @@ loop-holds c = (zero-le, sym (overlay-nil _ _), sym (div-one _), refl)
 cast-out : tie.Need-cast-out Inv-loop μ-loop
 cast-out c = omega (arith, and-mask (c .before .loop .rest) 8)
 
-add-out : tie.Need-add-out Inv-loop μ-loop
-add-out c = omega arith
-
-slice-write-out : tie.Need-slice-write-out Inv-loop μ-loop
-slice-write-out c = omega arith
-
-add-j : tie.Need-add-j Inv-loop μ-loop
-add-j c = omega arith
-
-loop-less : tie.Need-loop-less Inv-loop μ-loop
-loop-less c = omega arith
-
 loop-again : tie.Need-loop-again Inv-loop μ-loop
 loop-again c =
     let a = c .before in
@@ -72,10 +60,10 @@ write-real-spec =
     μ-loop
     loop-holds
     cast-out
-    add-out
-    slice-write-out
-    add-j
-    loop-less
+    (λ c. omega arith)
+    (λ c. omega arith)
+    (λ c. omega arith)
+    (λ c. omega arith)
     loop-again
     same-length
     returns)

@@ -22,9 +22,6 @@ told h =
     h .has-room .ensures
     ∙ ap (λ (k : ℕ). leb (a .count) maximum && leb (a .byte-start + a .count * k) (length (now (a .bytes)))) (h .before .size .ensures)
 
-size-requires : tie.Need-size-requires
-size-requires c κs = search needs
-
 has-room-requires : tie.Need-has-room-requires
 has-room-requires c κs =
     let x = c .before .before .before in
@@ -33,12 +30,9 @@ has-room-requires c κs =
 returns : tie.Need-returns
 returns c = too-many _ _ (lent _ _ _ _) (told (c .before)) (c .if1 .taken)
 
-lacks-indices-requires : tie.Need-lacks-indices-requires
-lacks-indices-requires c κs = search needs
-
 returns-2 : tie.Need-returns-2
 returns-2 c = c .lacks-indices .ensures ∙ exceeds-by _ _ (lent _ _ _ _) (told (c .before .before)) (c .before .if1 .left)
 
 pub exceeds-spec : {M : Type 1} → statement M
 exceeds-spec =
-    tie.close (tie.spec size-requires has-room-requires returns lacks-indices-requires returns-2)
+    tie.close (tie.spec (λ c κs. search needs) has-room-requires returns (λ c κs. search needs) returns-2)

@@ -11,16 +11,10 @@ use Rattle.fst.proofs.record.is_bad.Tie as tie
 abbrev here : tie.Start → Lent
 here x = lent (now (x .args .bytes)) (x .args .byte-start) (now (x .args .indices)) (x .args .index-start)
 
-is-bad-bytes-requires : tie.Need-is-bad-bytes-requires
-is-bad-bytes-requires c κs = search needs
-
 returns : tie.Need-returns
 returns c =
     let x = c .before .before .before .before in
     bad-bytes (x .args .description) (here x) (sym (c .before .is-bad-bytes .ensures) ∙ c .if1 .taken)
-
-lacks-indices-requires : tie.Need-lacks-indices-requires
-lacks-indices-requires c κs = search needs
 
 returns-2 : tie.Need-returns-2
 returns-2 c =
@@ -28,4 +22,4 @@ returns-2 c =
     c .lacks-indices .ensures ∙ sym (by-indices (x .args .description) (here x) (sym (c .before .before .is-bad-bytes .ensures) ∙ c .before .if1 .left))
 
 pub is-bad-spec : {M : Type 1} → statement M
-is-bad-spec = tie.close (tie.spec is-bad-bytes-requires returns lacks-indices-requires returns-2)
+is-bad-spec = tie.close (tie.spec (λ c κs. search needs) returns (λ c κs. search needs) returns-2)

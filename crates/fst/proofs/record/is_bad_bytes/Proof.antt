@@ -9,24 +9,6 @@ use borrow.Author.Needs.{needs}
 use Rattle.fst.proofs.record.is_bad_bytes.Statement.{statement}
 use Rattle.fst.proofs.record.is_bad_bytes.Tie as tie
 
-enum-told : tie.Need-enum-told
-enum-told c = search needs
-
-has-room-requires : tie.Need-has-room-requires
-has-room-requires c κs = search needs
-
-enum-told-2 : tie.Need-enum-told-2
-enum-told-2 c = search needs
-
-has-room-requires-2 : tie.Need-has-room-requires-2
-has-room-requires-2 c κs = search needs
-
-enum-known-encoding : tie.Need-enum-known-encoding
-enum-known-encoding c = search needs
-
-entry-size-requires : tie.Need-entry-size-requires
-entry-size-requires c κs = search needs
-
 is-bad-levels-requires : tie.Need-is-bad-levels-requires
 is-bad-levels-requires c κs = λ h. omega (arith, size-small _ (c .before .before .encoding .given .0 .1 .0) h, c .entry-size .ensures)
 
@@ -53,12 +35,12 @@ pub is-bad-bytes-spec : {M : Type 1} → statement M
 is-bad-bytes-spec =
     tie.close
     (tie.spec
-    enum-told
-    has-room-requires
-    enum-told-2
-    has-room-requires-2
-    enum-known-encoding
-    entry-size-requires
+    (λ c. search needs)
+    (λ c κs. search needs)
+    (λ c. search needs)
+    (λ c κs. search needs)
+    (λ c. search needs)
+    (λ c κs. search needs)
     is-bad-levels-requires
     returns
     returns-2

@@ -33,9 +33,6 @@ returns c =
     let x = start (c .before) in
     bad-bytes (x .args .description) (here x) (sym (bytes (c .before)) ∙ c .if1 .taken)
 
-lacks-indices-requires : tie.Need-lacks-indices-requires
-lacks-indices-requires c κs = search needs
-
 returns-2 : tie.Need-returns-2
 returns-2 c =
     let b = c .before .before in
@@ -44,4 +41,4 @@ returns-2 c =
 
 pub is-bad-vector-spec : {M : Type 1} → statement M
 is-bad-vector-spec =
-    tie.close (tie.spec is-bad-levels-requires returns lacks-indices-requires returns-2)
+    tie.close (tie.spec is-bad-levels-requires returns (λ c κs. search needs) returns-2)

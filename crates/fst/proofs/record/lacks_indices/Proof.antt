@@ -12,13 +12,10 @@ returns c =
     let a = c .before .args in
     past-indices (a .index-start) (a .count) (length (now (a .indices))) (c .if1 .taken)
 
-sub-result : tie.Need-sub-result
-sub-result c = search needs
-
 returns-2 : tie.Need-returns-2
 returns-2 c =
     let a = c .before .args in
     few-indices (a .index-start) (a .count) (length (now (a .indices))) (c .if1 .left)
 
 pub lacks-indices-spec : {M : Type 1} → statement M
-lacks-indices-spec = tie.close (tie.spec returns sub-result returns-2)
+lacks-indices-spec = tie.close (tie.spec returns (λ c. search needs) returns-2)

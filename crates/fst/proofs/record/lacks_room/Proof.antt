@@ -27,9 +27,6 @@ few-bytes x = omega arith
 returns : tie.Need-returns
 returns c = most (standing (c .before .pre .0)) (c .if1 .taken)
 
-cast-entries : tie.Need-cast-entries
-cast-entries c = search needs
-
 mul-if2 : tie.Need-mul-if2
 mul-if2 c = record { fits = omega (arith, within (c .before), few-bytes (c .before)) }
 
@@ -60,4 +57,4 @@ returns-3 c =
 pub lacks-room-spec : {M : Type 1} → statement M
 lacks-room-spec =
     tie.close
-    (tie.spec returns cast-entries mul-if2 add-if2 sub-if2 returns-2 sub-result returns-3)
+    (tie.spec returns (λ c. search needs) mul-if2 add-if2 sub-if2 returns-2 sub-result returns-3)
