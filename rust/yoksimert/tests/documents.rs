@@ -224,31 +224,23 @@ fn declared() -> Declared {
     Declared { texts, edits }
 }
 
-const KEYWORDS: [&str; 16] = [
-    "pub",
-    "abbrev",
-    "unfoldable",
-    "record",
-    "data",
-    "fn",
-    "struct",
-    "enum",
-    "const",
-    "extern",
-    "\"C\"",
-    "export",
-    "program",
-    "type",
-    "static",
-    "unsafe",
-];
+/// Words before the name of a type, a function or a constant, and before the name in a signature of the logic.
+const DECLARING: [&str; 6] = ["fn", "struct", "enum", "const", "record", "data"];
+const MODIFIERS: [&str; 3] = ["pub", "abbrev", "unfoldable"];
 
-/// Whether a line of a text declares a name: the first word that is no keyword.
+/// Whether a line of a text declares a name.
 fn declares(text: &str, name: &str) -> bool {
     text.lines().any(|line| {
-        let words = line.split(|c: char| c.is_whitespace() || "({[<:,".contains(c));
-        let mut words = words.filter(|word| !word.is_empty() && !KEYWORDS.contains(word));
-        words.next() == Some(name)
+        let words = line.split(|c: char| c.is_whitespace() || "({[<:".contains(c));
+        let words: Vec<_> = words.filter(|word| !word.is_empty()).collect();
+        let declared = |pair: &[&str]| DECLARING.contains(&pair[0]) && pair[1] == name;
+        let signed = line.split_once(" :").is_some_and(|(before, _)| {
+            let mut before = before
+                .split_whitespace()
+                .skip_while(|word| MODIFIERS.contains(word));
+            before.next() == Some(name) && before.next().is_none()
+        });
+        signed || words.windows(2).any(declared)
     })
 }
 
