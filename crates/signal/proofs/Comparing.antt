@@ -31,6 +31,7 @@ use Rattle.fst.specs.declared.Description.{Description}
 use Rattle.fst.specs.declared.Refusal.{Refusal}
 use Rattle.fst.specs.Refusal.{Reply, refused, given, Test, _⇐_, tried, number}
 use Rattle.fst.specs.Record.{Lent, isBad}
+use Rattle.fst.proofs.Records.{Standing, standing}
 use Rattle.fst.proofs.Refusals.{number-some}
 use Rattle.signal.specs.declared.EqualAnswer.{EqualAnswer}
 use Rattle.signal.specs.declared.EqualAnswer.the-variants as answer
@@ -41,7 +42,7 @@ use Rattle.signal.specs.Decode.{Indexed, entryAt, markIn, setIn, levelPa
 use Rattle.signal.specs.Parts.{ownStates, Whole, badNumber, Valid, pairOf}
 use Rattle.signal.proofs.Decoding.{mark-by, codes-length}
 use Rattle.signal.proofs.Reading.{Owned, owned, bad-told}
-use Rattle.signal.proofs.Entries.{Has, entryNumber, rest, rest-more, rest-end}
+use Rattle.signal.proofs.Entries.{HasIndexed, entryNumber, rest, rest-more, rest-end}
 
 -- ---- a real's bits
 
@@ -316,28 +317,28 @@ module _ (d : Description) (l : Lent) (e : Description) (m : Lent) where
 
 -- two records that are not 2, where the pairs before entry k agree
 pub record Walked (d : Description) (l : Lent) (e : Description) (m : Lent) (k : ℕ) : Type 0 where
-  pub first : isBad d l ≡ false
-  pub second : isBad e m ≡ false
+  pub first : Standing d l
+  pub second : Standing e m
   pub left : compareRecords d l e m ≡ walked (rest d l k) (rest e m k)
 
 pub walk-starts : (d : Description) (l : Lent) (e : Description) (m : Lent) → isBad d l ≡ false → isBad e m ≡ false → Walked d l e m 0
 unfolding compareRecords tried rest
-walk-starts d l e m h g = record { first = h; second = g; left = rw (h, g) }
+walk-starts d l e m h g = record { first = standing h; second = standing g; left = rw (h, g) }
 
 module _ {d : Description} {l : Lent} {e : Description} {m : Lent} {k : ℕ} (w : Walked d l e m k) where
-  has-first : k < d .count → Has d l k
-  has-first p = record { sound = w .first; below = p }
+  has-first : k < d .count → HasIndexed d l k
+  has-first p = record { stands = w .first; below = p }
 
-  has-second : k < e .count → Has e m k
-  has-second p = record { sound = w .second; below = p }
+  has-second : k < e .count → HasIndexed e m k
+  has-second p = record { stands = w .second; below = p }
 
   -- the pair of entries k, as it was compared
   pub step : k < d .count → k < e .count → (r : EqualAnswer) {x y : List ℕ} {i j : ℕ}
-      → x ≡ entryAt d (l .byteStart) (l .bytes) k → i ≡ getD (l .indices) (l .indexStart + k) 0
-      → y ≡ entryAt e (m .byteStart) (m .bytes) k → j ≡ getD (m .indices) (m .indexStart + k) 0
+      → x ≡ entryAt (d .encoding) (l .byteStart) (l .bytes) k → i ≡ getD (l .indices) (l .indexStart + k) 0
+      → y ≡ entryAt (e .encoding) (m .byteStart) (m .bytes) k → j ≡ getD (m .indices) (m .indexStart + k) 0
       → equalOf r ≡ pairOf (d .encoding) x i (e .encoding) y j → compareRecords d l e m ≡ follow (equalOf r) (walked (rest d l (k + 1)) (rest e m (k + 1)))
   step p q r a u b v t =
-      let z : equalOf r ≡ pairOf (d .encoding) (entryAt d (l .byteStart) (l .bytes) k) (getD (l .indices) (l .indexStart + k) 0) (e .encoding) (entryAt e (m .byteStart) (m .bytes) k) (getD (m .indices) (m .indexStart + k) 0) = rw (← a, ← u, ← b, ← v) t in
+      let z : equalOf r ≡ pairOf (d .encoding) (entryAt (d .encoding) (l .byteStart) (l .bytes) k) (getD (l .indices) (l .indexStart + k) 0) (e .encoding) (entryAt (e .encoding) (m .byteStart) (m .bytes) k) (getD (m .indices) (m .indexStart + k) 0) = rw (← a, ← u, ← b, ← v) t in
       w .left
       ∙ ap₂ walked (rest-more (has-first p)) (rest-more (has-second q))
       ∙ walked-step (entryNumber d l k) (entryNumber e m k) (rest d l (k + 1)) (rest e m (k + 1))
@@ -345,12 +346,12 @@ module _ {d : Description} {l : Lent} {e : Description} {m : Lent} {k : ℕ} (w 
 
   pub first-longer : k < d .count → e .count ≤ k → given false ≡ compareRecords d l e m
   unfolding walked
-  first-longer p q = sym (w .left ∙ ap₂ walked (rest-more (has-first p)) (rest-end e m (w .second) k q))
+  first-longer p q = sym (w .left ∙ ap₂ walked (rest-more (has-first p)) (rest-end (w .second) k q))
 
   pub second-longer : d .count ≤ k → k < e .count → given false ≡ compareRecords d l e m
   unfolding walked
-  second-longer p q = sym (w .left ∙ ap₂ walked (rest-end d l (w .first) k p) (rest-more (has-second q)))
+  second-longer p q = sym (w .left ∙ ap₂ walked (rest-end (w .first) k p) (rest-more (has-second q)))
 
   pub both-end : d .count ≤ k → e .count ≤ k → given true ≡ compareRecords d l e m
   unfolding walked
-  both-end p q = sym (w .left ∙ ap₂ walked (rest-end d l (w .first) k p) (rest-end e m (w .second) k q))
+  both-end p q = sym (w .left ∙ ap₂ walked (rest-end (w .first) k p) (rest-end (w .second) k q))

@@ -14,8 +14,8 @@ use Rattle.value.specs.Level.{placeIn}
 use Rattle.value.proofs.Tests.{by-le}
 use Rattle.fst.specs.Refusal.{refused, given, tried}
 use Rattle.fst.specs.Record.{maximum}
-use Rattle.signal.specs.declared.NextIndex.{NextIndex}
-use Rattle.signal.specs.declared.NextIndex.the-variants.{Absent, At}
+use Rattle.fst.specs.declared.NextIndex.{NextIndex}
+use Rattle.fst.specs.declared.NextIndex.the-variants.{Absent, At}
 use Rattle.signal.specs.declared.DataOffset.{DataOffset}
 use Rattle.signal.specs.Offset.{falls, greatest, runOf, elementsOf, headOf, none, at, placeOf, place, lookUp}
 use Rattle.signal.specs.Search.{Reached}

@@ -1,7 +1,7 @@
 -- A record that was laid out is read back: each entry by its own set and its string; Compare says yes exactly for equal lists of index and
 -- value, and of two runs of one width exactly where their histories are equal.
 -- Assumes nothing.
-use mathlib.Core.Path.{_≡_, refl, sym, ap, ap₂, _∙_}
+use mathlib.Core.Path.{_≡_, refl, sym, ap, ap₂, _∙_, subst}
 use mathlib.Core.Bool.{Bool, true, false, cond, _&&_}
 use mathlib.Core.List.{List, [], _∷_, map}
 use mathlib.Core.Logic.{_↔_}
@@ -22,9 +22,9 @@ use Rattle.fst.specs.declared.Encoding.the-variants.{BitVector}
 use Rattle.fst.specs.declared.Description.{Description}
 use Rattle.fst.specs.Refusal.{refused, given, _⇐_, tried, Outcome}
 use Rattle.layout.specs.Entry.{entrySize}
-use Rattle.fst.specs.Record.{Lent, Kept, usedSize, keptIn, isBad, isBadBytes}
+use Rattle.fst.specs.Record.{Lent, Kept, usedSize, keptIn, keptOf, isBad, isBadBytes}
 use Rattle.runs.specs.All.{All}
-use Rattle.runs.specs.Runs.{Pair, Step, indexOf, entriesOf, laidOut, stepOf, largestOf, historyLaidOut, byValue, Call, Run, freshKept, after, fed, historyOf}
+use Rattle.runs.specs.Runs.{Pair, Step, indexOf, entriesOf, laidOut, stepOf, largestOf, historyLaidOut, byValue, Call, Run, freshHeld, after, fed, historyOf}
 use Rattle.runs.proofs.All.{all-at}
 use Rattle.runs.proofs.Laid.{entryFor, Sound}
 use Rattle.runs.proofs.Laid as laid
@@ -138,39 +138,40 @@ module _ (w : ℕ) (pos : 1 ≤ w) where
 
   -- entry k of a list laid out
   laid-entry : (M : States) (l : List Step) (k : ℕ) (d : Step) → k < length l
-      → entryAt ((laidOut w M l) .description) 0 ((laidOut w M l) .bytes) k ≡ entryFor w M (getD l k d)
+      → entryAt (BitVector w M) 0 ((laidOut w M l) .bytes) k ≡ entryFor w M (getD l k d)
   unfolding entryAt laidOut
   laid-entry M l k d h =
       ap (λ (n : ℕ). part n (entrySize w M) (entriesOf w M l)) (zero-add (k * entrySize w M)) ∙ laid.entry-at w (laws w pos) M l k d h
 
   -- reading entry k of a list laid out gives the own set and the string of step k
   pub read-back : (M : States) (l : List Step) → All (Sound w M) l → (k : ℕ) (d : Step) → k < length l
-      → Tells w M (entryAt ((laidOut w M l) .description) 0 ((laidOut w M l) .bytes) k) (getD l k d)
+      → Tells w M (entryAt (BitVector w M) 0 ((laidOut w M l) .bytes) k) (getD l k d)
   read-back M l e k d h = rw (laid-entry M l k d h) (entry-tells M (getD l k d) (all-at (Sound w M) l e k d h))
 
   -- and so does Text, wherever the record stands in its slice
-  pub text-laid : (M : States) (l : List Step) → All (Sound w M) l → (k : ℕ) (d : Step) → k < length l → (bytes : List ℕ) (start : ℕ) (out : List ℕ)
-      → let r = laidOut w M l in
-      part start (usedSize (r .description)) bytes ≡ r .bytes → isBadBytes (r .description) start bytes ≡ false → w ≤ length out
-      → _≡_ {A = Outcome (List ℕ)} (readText (r .description) bytes start k out) (record { refused = 0; left = overlay out 0 ((getD l k d) .string) })
+  pub text-laid : (M : States) (l : List Step) → All (Sound w M) l → (k : ℕ) (s : Step) → k < length l
+      → (d : Description) → d .encoding ≡ BitVector w M → d .count ≡ length l → (bytes : List ℕ) (start : ℕ) (out : List ℕ)
+      → part start (usedSize d) bytes ≡ (laidOut w M l) .bytes → isBadBytes d start bytes ≡ false → w ≤ length out
+      → _≡_ {A = Outcome (List ℕ)} (readText d bytes start k out) (record { refused = 0; left = overlay out 0 ((getD l k s) .string) })
   unfolding laidOut textStored tried
-  text-laid M l e k d h bytes start out q b n =
-      let r = (laidOut w M l) .description in
-      let t = rw (← q, entry-within r bytes start k h) at (read-back M l e k d h) in
-      sym (text-on r bytes start k out b w M refl h)
-      ∙ rw (t .mark, t .code, le-ltb (length out) w n, t .text)
+  text-laid M l e k s h d v c bytes start out q b n =
+      let p : k < d .count = rw c h in
+      let z : entryAt (BitVector w M) 0 ((laidOut w M l) .bytes) k ≡ entryAt (d .encoding) start bytes k = rw (← q, ← v) (entry-within d bytes start k p) in
+      let t = rw z at (read-back M l e k s h) in
+      sym (text-on (record { sound = b; below = p }) v refl out) ∙ rw (t .mark, t .code, le-ltb (length out) w n, t .text)
 
   -- entry k of a run's record tells pair k of its history
-  pub read-back-run : (xs : List Call) → Run byValue (freshKept w) xs → (k : ℕ) (p : Pair)
-      → let r = after byValue (freshKept w) xs in
-      let h = historyOf (fed byValue (freshKept w) xs) in
-      k < length h → Tells w (largestOf (map stepOf h)) (entryAt (r .description) 0 (r .bytes) k) (stepOf (getD h k p))
-  unfolding historyLaidOut
+  pub read-back-run : (xs : List Call) → Run byValue (freshHeld w) xs → (k : ℕ) (p : Pair)
+      → let r = keptOf (after byValue (freshHeld w) xs) in
+      let h = historyOf (fed byValue (freshHeld w) xs) in
+      k < length h → Tells w (largestOf (map stepOf h)) (entryAt (r .encoding) 0 (r .bytes) k) (stepOf (getD h k p))
+  unfolding historyLaidOut laidOut
   read-back-run xs r k p n =
-      let h = historyOf (fed byValue (freshKept w) xs) in
+      let h = historyOf (fed byValue (freshHeld w) xs) in
       let M = largestOf (map stepOf h) in
-      rw (run-is-laid-out w pos xs r, ← List·getD-map stepOf h k p)
-      (read-back M (map stepOf h) (steps-sound w M h (runs.spelt w (laws w pos) xs r) (omega arith)) k (stepOf p) (rw length-map n))
+      subst (λ (q : Kept). Tells w M (entryAt (q .encoding) 0 (q .bytes) k) (stepOf (getD h k p))) (sym (run-is-laid-out w pos xs r))
+      (rw (← List·getD-map stepOf h k p)
+      (read-back M (map stepOf h) (steps-sound w M h (runs.spelt w (laws w pos) xs r) (omega arith)) k (stepOf p) (rw length-map n)))
 
   -- ---- Compare
 
@@ -220,13 +221,13 @@ module _ (w : ℕ) (pos : 1 ≤ w) where
       (steps-sound w (largestOf (map stepOf h)) h a (omega arith)) (steps-sound w (largestOf (map stepOf g)) g b (omega arith))
 
   -- of two runs of one width Compare says yes exactly where their histories are equal, and else no
-  pub compare-runs : (xs ys : List Call) → Run byValue (freshKept w) xs → Run byValue (freshKept w) ys → (d e : Description) (l m : Lent) → isBad d l ≡ false → isBad e m ≡ false
-      → keptIn d l ≡ after byValue (freshKept w) xs → keptIn e m ≡ after byValue (freshKept w) ys
-      → (compareRecords d l e m ≡ given true) ↔ (historyOf (fed byValue (freshKept w) xs) ≡ historyOf (fed byValue (freshKept w) ys))
+  pub compare-runs : (xs ys : List Call) → Run byValue (freshHeld w) xs → Run byValue (freshHeld w) ys → (d e : Description) (l m : Lent) → isBad d l ≡ false → isBad e m ≡ false
+      → keptIn d l ≡ keptOf (after byValue (freshHeld w) xs) → keptIn e m ≡ keptOf (after byValue (freshHeld w) ys)
+      → (compareRecords d l e m ≡ given true) ↔ (historyOf (fed byValue (freshHeld w) xs) ≡ historyOf (fed byValue (freshHeld w) ys))
   unfolding compareRecords tried
   compare-runs xs ys r q d e l m a b s t =
-      let h = historyOf (fed byValue (freshKept w) xs) in
-      let g = historyOf (fed byValue (freshKept w) ys) in
+      let h = historyOf (fed byValue (freshHeld w) xs) in
+      let g = historyOf (fed byValue (freshHeld w) ys) in
       let z : compareRecords d l e m ≡ given (sameSteps (map stepOf h) (map stepOf g)) =
       rw (a, b)
       (ap₂ (λ (x y : Kept). walked (entriesIn x) (entriesIn y)) (s ∙ run-is-laid-out w pos xs r) (t ∙ run-is-laid-out w pos ys q)

@@ -124,7 +124,8 @@ unfolding partIn
 part-vector q o = rw (q, o .sound)
 
 -- an entry within a record's used part
-pub entry-within : (d : Description) (bytes : List ℕ) (start k : ℕ) → k < d .count → entryAt d 0 (part start (usedSize d) bytes) k ≡ entryAt d start bytes k
+pub entry-within : (d : Description) (bytes : List ℕ) (start k : ℕ) → k < d .count
+    → entryAt (d .encoding) 0 (part start (usedSize d) bytes) k ≡ entryAt (d .encoding) start bytes k
 unfolding entryAt
 entry-within d bytes start k h =
     let z = sizeOf (d .encoding) in
@@ -161,24 +162,28 @@ module _ (d : Description) (bytes : List ℕ) (start k : ℕ) where
   unfolding readEntry tried
   read-past h p = rw (h, le-leb (d .count) k p)
 
-  module _ (h : isBadBytes d start bytes ≡ false) (p : k < d .count) where
-    pub read-on : readEntry d bytes start k ≡ readOn (d .encoding) (entryAt d start bytes k)
-    unfolding readEntry tried readOn
-    read-on = rw (h, lt-leb (d .count) k p)
+-- a record whose bytes are not 2, and that has an entry k
+pub record HasEntry (d : Description) (bytes : List ℕ) (start k : ℕ) : Type 0 where
+  pub sound : isBadBytes d start bytes ≡ false
+  pub below : k < d .count
 
-    pub inside : Inside d start bytes k
-    inside =
-        let s = stands d start bytes h in
-        let z = sizeOf (d .encoding) in
-        let a : suc k * z ≤ d .count * z = mul-le-mul-right z p in
-        let b : suc k * z ≡ k * z + z = suc-mul k z in
-        omega (arith, s .room)
+module _ {d : Description} {bytes : List ℕ} {start k : ℕ} (h : HasEntry d bytes start k) where
+  pub read-on : readEntry d bytes start k ≡ readOn (d .encoding) (entryAt (d .encoding) start bytes k)
+  unfolding readEntry tried readOn
+  read-on = rw (h .sound, lt-leb (d .count) k (h .below))
 
-    pub whole : Whole (d .encoding) (entryAt d start bytes k)
-    unfolding entryAt
-    whole =
-        let i = inside in
-        record { width = stands d start bytes h .width; long = part-length bytes _ _ (omega arith) }
+  pub inside : Inside (d .encoding) start bytes k
+  inside =
+      let z = sizeOf (d .encoding) in
+      let a : suc k * z ≤ d .count * z = mul-le-mul-right z (h .below) in
+      let b : suc k * z ≡ k * z + z = suc-mul k z in
+      omega (arith, stands d start bytes (h .sound) .room)
+
+  pub whole : Whole (d .encoding) (entryAt (d .encoding) start bytes k)
+  unfolding entryAt
+  whole =
+      let i = inside in
+      record { width = stands d start bytes (h .sound) .width; long = part-length bytes _ _ (omega arith) }
 
 -- ---- Text
 
@@ -206,9 +211,10 @@ module _ (d : Description) (bytes : List ℕ) (start k : ℕ) (out : List ℕ) w
     unfolding readText tried hasNoText
     text-past w M e p = rw (h, e, le-leb (d .count) k p)
 
-    pub text-on : (w : ℕ) (M : States) → d .encoding ≡ BitVector w M → k < d .count → textStored w M (entryAt d start bytes k) out ≡ readText d bytes start k out
-    unfolding readText tried hasNoText textStored
-    text-on w M e p = rw (h, e, lt-leb (d .count) k p)
+pub text-on : {d : Description} {bytes : List ℕ} {start k : ℕ} → HasEntry d bytes start k → {w : ℕ} {M : States} → d .encoding ≡ BitVector w M
+    → {v : List ℕ} → v ≡ entryAt (d .encoding) start bytes k → (out : List ℕ) → textStored w M v out ≡ readText d bytes start k out
+unfolding readText tried hasNoText textStored
+text-on {d} {k} h e q out = rw (q, h .sound, e, lt-leb (d .count) k (h .below))
 
 pub stored-mark : (w : ℕ) (M : States) (v out : List ℕ) → ownStates M v ≡ own.Bad → _≡_ {A = Left} (record { refused = 9; left = out }) (textStored w M v out)
 unfolding textStored tried

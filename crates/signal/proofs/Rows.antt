@@ -18,8 +18,8 @@ use Rattle.layout.specs.Entry.{entrySize}
 use Rattle.fst.specs.Record.{Kept, keptIn, widthStands, fitsBytes, fits, isBadBytes, isBad}
 use Rattle.fst.proofs.Rows.{around, lentBy, kept}
 use Rattle.signal.specs.declared.Kind.the-variants as kind
-use Rattle.signal.specs.declared.NextIndex.{NextIndex}
-use Rattle.signal.specs.declared.NextIndex.the-variants.{Absent, At}
+use Rattle.fst.specs.declared.NextIndex.{NextIndex}
+use Rattle.fst.specs.declared.NextIndex.the-variants.{Absent, At}
 use Rattle.signal.specs.Decode.{entryAt, entriesFrom, markIn, setIn, levelPart, levelsIn, hasBadMark}
 use Rattle.signal.specs.Read.{Entry, readEntry, hasNoText, readText}
 use Rattle.signal.specs.Compare.{sameReal, sameValue, walked, compareRecords}
@@ -69,10 +69,9 @@ pub record Shows : Type 0 where
 
 Reads : Shows → Type 0
 Reads s =
-    let k = s .of in
-    let bytes = (around 5 5 k) .bytes in
-    (readEntry (k .description) bytes 2 (s .entry) ≡ s .read)
-    × _≡_ {A = Outcome (List ℕ)} (readText (k .description) bytes 2 (s .entry) (chars "....")) (record { refused = s .refused; left = chars (s .text) })
+    let r = around 5 5 (s .of) in
+    (readEntry (r .description) (r .bytes) 2 (s .entry) ≡ s .read)
+    × _≡_ {A = Outcome (List ℕ)} (readText (r .description) (r .bytes) 2 (s .entry) (chars "....")) (record { refused = s .refused; left = chars (s .text) })
 
 AllRead : List Shows → Type 0
 AllRead [] = Unit
@@ -113,7 +112,10 @@ shows-hold = (
 -- ---- Compare
 
 compared : Kept → Kept → Reply Bool
-compared a b = compareRecords (a .description) (lentBy (around 9 9 a)) (b .description) (lentBy (around 9 9 b))
+compared a b =
+    let r = around 9 9 a in
+    let q = around 9 9 b in
+    compareRecords (r .description) (lentBy r) (q .description) (lentBy q)
 
 -- a real record of one entry, by its bits
 real : ℕ → Kept

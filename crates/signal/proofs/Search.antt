@@ -13,7 +13,7 @@ use lib.ListN.{length, getD, drop, length-drop, drop-of-length-le}
 use lib.Seq.{getD-drop, drop-cons, drop-drop}
 use Rattle.value.specs.Level.{placeIn}
 use Rattle.value.proofs.Tests.{or-left, or-right, by-le}
-use Rattle.signal.specs.declared.NextIndex.the-variants.{Absent, At}
+use Rattle.fst.specs.declared.NextIndex.the-variants.{Absent, At}
 use Rattle.signal.specs.Offset.{falls, greatest, runOf, headOf}
 use Rattle.signal.specs.Search.{Reached, Last}
 

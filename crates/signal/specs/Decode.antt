@@ -12,13 +12,12 @@ use Rattle.value.specs.Slice.{part}
 use Rattle.value.specs.Level.{markOf, bitsOf, lenOf, setAt, hasNoCode, textOf}
 use Rattle.fst.specs.declared.Encoding.{Encoding}
 use Rattle.fst.specs.declared.Encoding.the-variants.{Event, Real, BitVector}
-use Rattle.fst.specs.declared.Description.{Description}
 use Rattle.layout.specs.Entry.{entrySize}
 use Rattle.fst.specs.Record.{Kept, sizeOf}
 
 -- the bytes of entry k of a record that starts at a place
-unfoldable pub entryAt : Description → ℕ → List ℕ → ℕ → List ℕ
-entryAt d start bytes k = part (start + k * sizeOf (d .encoding)) (sizeOf (d .encoding)) bytes
+unfoldable pub entryAt : Encoding → ℕ → List ℕ → ℕ → List ℕ
+entryAt e start bytes k = part (start + k * sizeOf e) (sizeOf e) bytes
 
 -- an entry by its time index, its record's encoding and its bytes
 pub record Indexed : Type 0 where
@@ -26,11 +25,14 @@ pub record Indexed : Type 0 where
   pub encoding : Encoding
   pub bytes : List ℕ
 
+-- entry k of a record, with a time index
+abbrev pub indexedBy : Kept → ℕ → ℕ → Indexed
+indexedBy r k i = record { index = i; encoding = r .encoding; bytes = entryAt (r .encoding) 0 (r .bytes) k }
+
 -- a record's entries in order, from number k on
 unfoldable pub entriesFrom : ℕ → Kept → List ℕ → List Indexed
 entriesFrom k r [] = []
-entriesFrom k r (i ∷ indices) =
-    record { index = i; encoding = r .description .encoding; bytes = entryAt (r .description) 0 (r .bytes) k } ∷ entriesFrom (suc k) r indices
+entriesFrom k r (i ∷ indices) = indexedBy r k i ∷ entriesFrom (suc k) r indices
 
 abbrev pub entriesIn : Kept → List Indexed
 entriesIn r = entriesFrom 0 r (r .indices)

@@ -8,8 +8,8 @@ use lib.ListN.{length, drop}
 use Rattle.value.specs.Level.{placeIn}
 use Rattle.fst.specs.Refusal.{Reply, refused, given, _⇐_, tried, number}
 use Rattle.fst.specs.Record.{maximum}
-use Rattle.signal.specs.declared.NextIndex.{NextIndex}
-use Rattle.signal.specs.declared.NextIndex.the-variants as next
+use Rattle.fst.specs.declared.NextIndex.{NextIndex}
+use Rattle.fst.specs.declared.NextIndex.the-variants as next
 use Rattle.signal.specs.declared.DataOffset.{DataOffset}
 use Rattle.signal.specs.declared.OffsetAnswer.{OffsetAnswer}
 use Rattle.signal.specs.declared.OffsetAnswer.the-variants as answer

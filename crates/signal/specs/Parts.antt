@@ -13,7 +13,6 @@ use Rattle.value.specs.Level.{markOf, lenOf, setAt, hasNoCode}
 use Rattle.fst.specs.declared.Encoding.{Encoding}
 use Rattle.fst.specs.declared.Encoding.the-variants.{BitVector}
 use Rattle.fst.specs.declared.Refusal.the-variants.{BadMark}
-use Rattle.fst.specs.declared.Description.{Description}
 use Rattle.fst.specs.Refusal.{Reply, given, _⇐_, tried, Outcome, outcome}
 use Rattle.fst.specs.Record.{sizeOf, widthStands}
 use Rattle.signal.specs.declared.OwnStates.{OwnStates}
@@ -48,8 +47,8 @@ pub record Whole (e : Encoding) (v : List ℕ) : Type 0 where
   pub long : length v ≡ sizeOf e
 
 -- entry k lies within the bytes
-abbrev pub Inside : Description → ℕ → List ℕ → ℕ → Type 0
-Inside d start bytes k = start + (k * sizeOf (d .encoding) + sizeOf (d .encoding)) ≤ length bytes
+abbrev pub Inside : Encoding → ℕ → List ℕ → ℕ → Type 0
+Inside e start bytes k = start + (k * sizeOf e + sizeOf e) ≤ length bytes
 
 -- ---- Read and Text, once 2, 3 and 8 are tried
 

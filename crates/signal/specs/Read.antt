@@ -36,7 +36,7 @@ entryIn e v = record { kind = kindOf e; set = setIn e v; part = levelPart e v }
 
 unfoldable pub readEntry : Description → List ℕ → ℕ → ℕ → Reply Entry
 readEntry d bytes start k =
-    let v = entryAt d start bytes k in
+    let v = entryAt (d .encoding) start bytes k in
     tried
     (2 ⇐ isBadBytes d start bytes
     ∷ 8 ⇐ leb (d .count) k
@@ -57,7 +57,7 @@ replyOf (answer.Refused r) p = refused (number r)
 -- "As reading; a real or event is 3, tried after 2. 10: .. 7: the lent text slice is shorter than the width. .. bytes past the width unaltered"
 unfoldable pub readText : Description → List ℕ → ℕ → ℕ → List ℕ → Outcome (List ℕ)
 readText d bytes start k out =
-    let v = entryAt d start bytes k in
+    let v = entryAt (d .encoding) start bytes k in
     outcome out
     (tried
     (2 ⇐ isBadBytes d start bytes

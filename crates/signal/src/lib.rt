@@ -1,4 +1,5 @@
 // Reading records, after wellen's src/signal/mod.rs.
+use fst::NextIndex;
 use fst::Refusal;
 use value::States;
 
@@ -30,11 +31,6 @@ pub enum EqualAnswer {
     Equal,
     Unequal,
     Refused(Refusal),
-}
-
-pub enum NextIndex {
-    Absent,
-    At(u32),
 }
 
 // The entries that carry the greatest time index not above the sought one.

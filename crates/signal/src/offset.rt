@@ -8,8 +8,8 @@ ghost use Rattle.value.specs.Level.{placeIn};
 ghost use Rattle.signal.specs.Offset.{falls, runOf, headOf, placeOf, lookUp, offsetOf};
 ghost use Rattle.signal.specs.Search.{Reached, Last};
 use crate::DataOffset;
-use crate::NextIndex;
 use crate::OffsetAnswer;
+use fst::NextIndex;
 use fst::Refusal;
 
 const MAX_ENTRIES: usize = 1048576;

@@ -41,8 +41,8 @@ pub fn entry_at<'a>(
     byte_start: usize,
     entry: u32,
 ) -> &'a [u8]
-    requires { ⌜ Inside description «byte_start» (now bytes) entry ⌝ }
-    ensures { λ r. ⌜ now r ≡ entryAt description «byte_start» (now (bytes .entry)) entry ⌝ }
+    requires { ⌜ Inside (description .encoding) «byte_start» (now bytes) entry ⌝ }
+    ensures { λ r. ⌜ now r ≡ entryAt (description .encoding) «byte_start» (now (bytes .entry)) entry ⌝ }
 {
     let encoding = description.encoding;
     let size = encoding.size();

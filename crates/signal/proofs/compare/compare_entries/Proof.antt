@@ -9,7 +9,9 @@ use borrow.Author.Needs.{needs}
 use borrow.Author.Tests.{ltb-true, ltb-false}
 use Rattle.fst.specs.Record.{Lent, lent}
 use Rattle.signal.specs.Compare.{walked, compareRecords, equalOf}
-use Rattle.signal.proofs.Entries.{Has, has-inside, has-whole, has-index, has-few, rest}
+use Rattle.fst.proofs.Records.{standing}
+use Rattle.signal.proofs.Reading.{inside, whole}
+use Rattle.signal.proofs.Entries.{HasIndexed, has-entry, has-index, has-few, rest}
 use Rattle.signal.proofs.Comparing.{follow, Walked, walk-starts, step, goes-on, ends, first-longer, second-longer, both-end}
 use Rattle.signal.proofs.compare.compare_entries.Statement.{statement}
 use Rattle.signal.proofs.compare.compare_entries.Tie as tie
@@ -37,11 +39,11 @@ lentB s = lent (now (s .args .b-bytes)) (s .args .b-byte-start) (now (s .args .b
 abbrev turn : tie.Then2 Inv-loop μ-loop → tie.At-loop Inv-loop μ-loop
 turn e = e .before .before .before .before
 
-in-a : (e : tie.Then2 Inv-loop μ-loop) → Has (start (turn e) .args .a) (lentA (start (turn e))) (turn e .loop .k)
-in-a e = record { sound = start (turn e) .pre .0; below = e .before .before .if1 .taken }
+in-a : (e : tie.Then2 Inv-loop μ-loop) → HasIndexed (start (turn e) .args .a) (lentA (start (turn e))) (turn e .loop .k)
+in-a e = record { stands = standing (start (turn e) .pre .0); below = e .before .before .if1 .taken }
 
-in-b : (e : tie.Then2 Inv-loop μ-loop) → Has (start (turn e) .args .b) (lentB (start (turn e))) (turn e .loop .k)
-in-b e = record { sound = start (turn e) .pre .1; below = ltb-true _ _ (e .if2 .taken) }
+in-b : (e : tie.Then2 Inv-loop μ-loop) → HasIndexed (start (turn e) .args .b) (lentB (start (turn e))) (turn e .loop .k)
+in-b e = record { stands = standing (start (turn e) .pre .1); below = ltb-true _ _ (e .if2 .taken) }
 
 loop-holds : tie.Need-loop-holds Inv-loop μ-loop
 loop-holds c =
@@ -49,13 +51,13 @@ loop-holds c =
     (omega arith, omega arith, walk-starts _ _ _ _ (s .pre .0) (s .pre .1))
 
 entry-at-requires : tie.Need-entry-at-requires Inv-loop μ-loop
-entry-at-requires e κs = has-inside (in-a e)
+entry-at-requires e κs = inside (has-entry (in-a e))
 
 index-at-requires : tie.Need-index-at-requires Inv-loop μ-loop
 index-at-requires c κs = has-index (in-a (c .before))
 
 entry-at-requires-2 : tie.Need-entry-at-requires-2 Inv-loop μ-loop
-entry-at-requires-2 c κs = has-inside (in-b (c .before .before))
+entry-at-requires-2 c κs = inside (has-entry (in-b (c .before .before)))
 
 index-at-requires-2 : tie.Need-index-at-requires-2 Inv-loop μ-loop
 index-at-requires-2 c κs = has-index (in-b (c .before .before .before))
@@ -63,7 +65,7 @@ index-at-requires-2 c κs = has-index (in-b (c .before .before .before))
 compare-pair-requires : tie.Need-compare-pair-requires Inv-loop μ-loop
 compare-pair-requires c κs =
     let e = c .before .before .before .before in
-    (rw (c .before .before .before .entry-at .ensures) (has-whole (in-a e)), rw (c .before .entry-at2 .ensures) (has-whole (in-b e)))
+    (rw (c .before .before .before .entry-at .ensures) (whole (has-entry (in-a e))), rw (c .before .entry-at2 .ensures) (whole (has-entry (in-b e))))
 
 add-k : tie.Need-add-k Inv-loop μ-loop
 add-k c = omega (arith, has-few (in-a (c .before .before .before .before .before)))
@@ -92,7 +94,7 @@ loop-again c =
     let e = m .before .before .before .before .before in (
       omega (arith, in-a e .below),
       omega (arith, in-b e .below),
-      record { first = in-a e .sound; second = in-b e .sound; left = paired m ∙ goes-on _ _ (c .enum-told .given .1) },
+      record { first = in-a e .stands; second = in-b e .stands; left = paired m ∙ goes-on _ _ (c .enum-told .given .1) },
     )
 
 returns : tie.Need-returns Inv-loop μ-loop

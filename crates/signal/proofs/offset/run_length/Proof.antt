@@ -6,7 +6,7 @@ use borrow.Author.Needs.{needs}
 use Prim.Native.Nat.{_≤_, _<_, _+_, _-_}
 use native.Mathlib.Omega.{arith}
 use lib.ListN.{length, drop}
-use Rattle.signal.specs.declared.NextIndex.the-variants.{At}
+use Rattle.fst.specs.declared.NextIndex.the-variants.{At}
 use Rattle.signal.specs.Offset.{runOf, headOf}
 use Rattle.signal.proofs.Search.{head-is, run-ends, run-differs, run-more}
 use Rattle.signal.proofs.offset.run_length.Statement.{statement}

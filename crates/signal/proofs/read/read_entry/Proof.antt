@@ -6,7 +6,7 @@ use Rattle.signal.specs.Decode.{entryAt}
 use Rattle.signal.specs.Read.{replyOf, partOf}
 use Rattle.signal.specs.declared.EntryAnswer.{EntryAnswer}
 use denote.Ref.{now}
-use Rattle.signal.proofs.Reading.{read-bad, read-past, read-on, inside, whole, answer-on, readOn}
+use Rattle.signal.proofs.Reading.{HasEntry, read-bad, read-past, read-on, inside, whole, answer-on, readOn}
 use borrow.Author.Needs.{needs}
 use Rattle.signal.proofs.read.read_entry.Statement.{statement}
 use Rattle.signal.proofs.read.read_entry.Tie as tie
@@ -25,27 +25,21 @@ returns-2 c =
     let a = b .before .before .args in
     sym (read-past (a .description) (now (a .bytes)) (a .byte-start) (a .entry) (sym (b .is-bad-bytes .ensures) ∙ c .before .before .if1 .left) (c .if2 .taken))
 
+-- the entry is there
+has : (c : tie.Else2) → let a = c .before .before .before .before .before .args in HasEntry (a .description) (now (a .bytes)) (a .byte-start) (a .entry)
+has c = record { sound = sym (c .before .before .before .is-bad-bytes .ensures) ∙ c .before .before .if1 .left; below = c .if2 .left }
+
 entry-at-requires : tie.Need-entry-at-requires
-entry-at-requires c κs =
-    let b = c .before .before .before in
-    let a = b .before .before .args in
-    inside (a .description) (now (a .bytes)) (a .byte-start) (a .entry) (sym (b .is-bad-bytes .ensures) ∙ c .before .before .if1 .left) (c .if2 .left)
+entry-at-requires c κs = inside (has c)
 
 entry-answer-requires : tie.Need-entry-answer-requires
-entry-answer-requires c κs =
-    let b = c .before .before .before .before in
-    let a = b .before .before .args in
-    rw (c .entry-at .ensures) (whole (a .description) (now (a .bytes)) (a .byte-start) (a .entry) (sym (b .is-bad-bytes .ensures) ∙ c .before .before .before .if1 .left) (c .before .if2 .left))
+entry-answer-requires c κs = rw (c .entry-at .ensures) (whole (has (c .before)))
 
 returns-3 : tie.Need-returns-3
 returns-3 c =
-    let b = c .before .before .before .before .before in
-    let a = b .before .before .args in
-    let e = a .description .encoding in
-    let v = entryAt (a .description) (a .byte-start) (now (a .bytes)) (a .entry) in
-    let q : c .entry-answer .result ≡ answerIn e v = c .entry-answer .ensures ∙ ap (answerIn e) (c .before .entry-at .ensures) in
-    rw (read-on (a .description) (now (a .bytes)) (a .byte-start) (a .entry) (sym (b .is-bad-bytes .ensures) ∙ c .before .before .before .before .if1 .left) (c .before .before .if2 .left))
-    (ap (λ (r : EntryAnswer). replyOf r (partOf (readOn e v))) q ∙ answer-on e v)
+    let h = has (c .before .before) in
+    let q = c .entry-answer .ensures ∙ ap (answerIn _) (c .before .entry-at .ensures) in
+    rw (read-on h, q) (answer-on _ _)
 
 pub read-entry-spec : {M : Type 1} → statement M
 read-entry-spec =

@@ -3,7 +3,7 @@
 use mathlib.Core.Path.{sym, ap, _∙_}
 use Rattle.signal.specs.Parts.{textStored}
 use denote.Ref.{now}
-use Rattle.signal.proofs.Reading.{vector, inside, whole, no-text, text-bad, text-none, text-past, text-on}
+use Rattle.signal.proofs.Reading.{HasEntry, vector, inside, whole, no-text, text-bad, text-none, text-past, text-on}
 use Prim.Native.Nat.{ℕ}
 use mathlib.Core.List.{List}
 use borrow.Author.Needs.{needs}
@@ -34,19 +34,21 @@ returns-3 c =
     let a = b .before .before .before .args in
     text-past (a .description) (now (a .bytes)) (a .byte-start) (a .entry) (now (a .out)) (sym (b .is-bad-bytes .ensures) ∙ k .before .before .if1 .left) _ _ (k .encoding .given .1) (c .if2 .taken)
 
-entry-at-requires : tie.Need-entry-at-requires
-entry-at-requires c κs =
+-- the entry is there
+has : (c : tie.Else2)
+    → let a = c .before .before .before .before .before .before .before .before .before .args in
+    HasEntry (a .description) (now (a .bytes)) (a .byte-start) (a .entry)
+has c =
     let k = c .before .before .before in
-    let b = k .before .before .before in
-    let a = b .before .before .before .args in
-    inside (a .description) (now (a .bytes)) (a .byte-start) (a .entry) (sym (b .is-bad-bytes .ensures) ∙ k .before .before .if1 .left) (c .if2 .left)
+    record { sound = sym (k .before .before .before .is-bad-bytes .ensures) ∙ k .before .before .if1 .left; below = c .if2 .left }
+
+entry-at-requires : tie.Need-entry-at-requires
+entry-at-requires c κs = inside (has c)
 
 store-text-requires : tie.Need-store-text-requires
 store-text-requires c κs =
-    let k = c .before .before .before .before .before in
-    let b = k .before .before .before in
-    let a = b .before .before .before .args in
-    rw (c .before .entry-at .ensures) (vector (k .encoding .given .1) (whole (a .description) (now (a .bytes)) (a .byte-start) (a .entry) (sym (b .is-bad-bytes .ensures) ∙ k .before .before .if1 .left) (c .before .before .if2 .left)))
+    let e = c .before .before in
+    rw (c .before .entry-at .ensures) (vector (e .before .before .before .encoding .given .1) (whole (has e)))
 
 same-length : tie.Need-same-length
 same-length c = search needs
@@ -54,13 +56,8 @@ same-length c = search needs
 returns-4 : tie.Need-returns-4
 returns-4 c =
     let s = c .before .before in
-    let k = s .before .before .before .before .before .before in
-    let b = k .before .before .before in
-    let a = b .before .before .before .args in
-    let w = k .encoding .given .0 .0 in
-    let M = k .encoding .given .0 .1 .0 in
-    s .store-text .ensures ∙ ap (λ (v : List ℕ). textStored w M v (now (a .out))) (s .before .before .entry-at .ensures)
-    ∙ text-on (a .description) (now (a .bytes)) (a .byte-start) (a .entry) (now (a .out)) (sym (b .is-bad-bytes .ensures) ∙ k .before .before .if1 .left) w M (k .encoding .given .1) (s .before .before .before .if2 .left)
+    let e = s .before .before .before in
+    s .store-text .ensures ∙ text-on (has e) (e .before .before .before .encoding .given .1) (s .before .before .entry-at .ensures) _
 
 pub read-text-spec : {M : Type 1} → statement M
 read-text-spec =
