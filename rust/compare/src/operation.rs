@@ -18,7 +18,7 @@ pub trait Operation: Clone + PartialEq + Debug + 'static {
     const NAMES: &'static [&'static str];
     /// The refusals, in the order in which they are tried.
     const NUMBERS: &'static [u8];
-    /// The modules of `specs/` with the definitions that are the operation's own.
+    /// The modules with the definitions that no operation listed before goes through.
     const DEFINITIONS: &'static [Module];
 
     fn name(&self) -> &'static str {

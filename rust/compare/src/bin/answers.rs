@@ -1,9 +1,10 @@
-//! `answers write --seed S --count N FILE` stores answers, `answers replay FILE` puts the oracle to them, and `answers equations FILE OUT`
-//! writes them as equations that the Rattle checker computes over the definitions.
+//! `answers write --seed S --count N FILE` stores answers, `answers replay FILE` puts the oracle to them, and `answers equations CRATES OUT`
+//! writes those of the crate `answers` as equations that the Rattle checker computes over the crates' definitions.
 
+use std::path::Path;
 use std::process::ExitCode;
 
-const USAGE: &str = "usage: answers write --seed S --count N FILE | answers replay FILE | answers equations FILE OUT";
+const USAGE: &str = "usage: answers write --seed S --count N FILE | answers replay FILE | answers equations CRATES OUT";
 
 /// Longer lines hold wide records, which the checker computes slowly.
 const LONGEST: usize = 4_200;
@@ -13,7 +14,7 @@ fn main() -> ExitCode {
     let result = match arguments.split_first() {
         Some((verb, rest)) if verb == "write" => write(rest),
         Some((verb, [file])) if verb == "replay" => replay(file),
-        Some((verb, [file, out])) if verb == "equations" => equations(file, out),
+        Some((verb, [crates, out])) if verb == "equations" => equations(crates, out),
         _ => Err(USAGE.to_string()),
     };
     match result {
@@ -77,10 +78,12 @@ fn replay(file: &str) -> Result<String, String> {
     Ok(format!("{answers} answers replayed, all as stored"))
 }
 
-fn equations(file: &str, out: &str) -> Result<String, String> {
-    let text = std::fs::read_to_string(file).map_err(|error| format!("{file}: {error}"))?;
+fn equations(crates: &str, out: &str) -> Result<String, String> {
+    let file = format!("{crates}/answers/stdin");
+    let text = std::fs::read_to_string(&file).map_err(|error| format!("{file}: {error}"))?;
     compare::stored::replay(&text).map_err(|error| format!("{file}, {error}"))?;
-    let (module, equations) = compare::stored::equations::module(&text, LONGEST)?;
+    let (module, equations) =
+        compare::stored::equations::module(&text, LONGEST, Path::new(crates))?;
     std::fs::write(out, module).map_err(|error| format!("{out}: {error}"))?;
     Ok(format!("{equations} answers written as equations"))
 }

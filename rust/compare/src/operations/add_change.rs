@@ -26,12 +26,7 @@ impl Operation for AddChange {
 
     const NAMES: &'static [&'static str] = &["add"];
     const NUMBERS: &'static [u8] = &[2, 3, 4, 5, 6, 7];
-    #[rustfmt::skip]
-    const DEFINITIONS: &'static [Module] = &[Module::new(
-        "Rattle.fst.specs.Change",
-        "text real Recorder",
-        "isOtherKind isOtherLength isForeign isBelowLast repeats appended changed refusals stored addChange",
-    )];
+    const DEFINITIONS: &'static [Module] = &[Module::new("Rattle.fst.specs.Change", "text real")];
 
     fn alterable(&self) -> (&[u8], &[u32]) {
         (&self.record.bytes, &self.record.indices)
@@ -128,7 +123,12 @@ impl Operation for AddChange {
         );
         let lent = terms::lent(&self.record);
         let call = format!("addChange {lent} {} {change}", self.index);
-        Some(terms::leaves("Recorder", &call, outcome, &recorder))
+        Some(terms::leaves(
+            "(Recorder Description)",
+            &call,
+            outcome,
+            &recorder,
+        ))
     }
 }
 

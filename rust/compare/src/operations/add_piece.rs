@@ -22,15 +22,16 @@ impl Operation for AddPiece {
 
     const NAMES: &'static [&'static str] = &["left", "right"];
     const NUMBERS: &'static [u8] = &[14, 12, 13];
-    #[rustfmt::skip]
     const DEFINITIONS: &'static [Module] = &[
-        Module::new("Rattle.derivation.specs.declared.DerivedBitVecSignal", "DerivedBitVecSignal", ""),
-        Module::new("Rattle.derivation.specs.declared.Side.the-variants", "Left Right", ""),
         Module::new(
-            "Rattle.derivation.specs.Piece",
-            "",
-            "packedOf extractOf isBadPiece isBadDerivation adjoin merging pieceAdded nameAdded derivationWith isBadRange isOverfull addPiece",
+            "Rattle.derivation.specs.declared.DerivedBitVecSignal",
+            "DerivedBitVecSignal",
         ),
+        Module::new(
+            "Rattle.derivation.specs.declared.Side.the-variants",
+            "Left Right",
+        ),
+        Module::new("Rattle.derivation.specs.Piece", ""),
     ];
 
     fn name(&self) -> &'static str {

@@ -26,12 +26,8 @@ impl Operation for Compare {
     const NAMES: &'static [&'static str] = &["compare"];
     const NUMBERS: &'static [u8] = &[2, 9, 10];
     const DEFINITIONS: &'static [Module] = &[
-        Module::new("lib.Ieee", "", "eq ofBits ofFields odd"),
-        Module::new(
-            "Rattle.signal.specs.Compare",
-            "",
-            "sameReal sameValue walked compareRecords",
-        ),
+        Module::library("lib.Ieee", "", "eq ofBits ofFields odd"),
+        Module::new("Rattle.signal.specs.Compare", ""),
     ];
 
     fn by_oracle(&self, _: Slices) -> Result<bool, Refusal> {

@@ -20,7 +20,7 @@ impl Operation for Fresh {
 
     const NAMES: &'static [&'static str] = &["fresh"];
     const NUMBERS: &'static [u8] = &[1];
-    const DEFINITIONS: &'static [Module] = &[Module::new("Rattle.fst.specs.Record", "", "fresh")];
+    const DEFINITIONS: &'static [Module] = &[];
 
     fn by_oracle(&self, _: Slices) -> Result<Description, Refusal> {
         oracle::fresh(self.width)

@@ -27,13 +27,8 @@ impl Operation for LookUp {
         Module::new(
             "Rattle.signal.specs.declared.NextIndex.the-variants",
             "Absent At",
-            "",
         ),
-        Module::new(
-            "Rattle.signal.specs.Offset",
-            "none at",
-            "falls greatest runOf placeOf place lookUp",
-        ),
+        Module::new("Rattle.signal.specs.Offset", "none at"),
     ];
 
     fn by_oracle(&self, _: Slices) -> Result<Option<Offset>, Refusal> {

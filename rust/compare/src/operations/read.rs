@@ -28,12 +28,8 @@ impl Operation for Read {
     const NAMES: &'static [&'static str] = &["read"];
     const NUMBERS: &'static [u8] = &[2, 8, 9];
     const DEFINITIONS: &'static [Module] = &[
-        Module::new(
-            "Rattle.signal.specs.declared.Kind.the-variants as kind",
-            "",
-            "",
-        ),
-        Module::new("Rattle.signal.specs.Read", "Entry", "readEntry"),
+        Module::new("Rattle.signal.specs.declared.Kind.the-variants as kind", ""),
+        Module::new("Rattle.signal.specs.Read", "Entry"),
     ];
 
     fn by_oracle(&self, _: Slices) -> Result<Entry, Refusal> {

@@ -24,11 +24,7 @@ impl Operation for Text {
 
     const NAMES: &'static [&'static str] = &["text"];
     const NUMBERS: &'static [u8] = &[2, 3, 8, 9, 10, 7];
-    const DEFINITIONS: &'static [Module] = &[Module::new(
-        "Rattle.signal.specs.Read",
-        "",
-        "hasNoText readText",
-    )];
+    const DEFINITIONS: &'static [Module] = &[];
 
     fn alterable(&self) -> (&[u8], &[u32]) {
         (&self.out, &[])

@@ -1,18 +1,25 @@
 //! Stored answers as equations between the definitions of `specs/` and what was stored, for the Rattle checker to compute.
 
 use crate::operations::OPERATIONS;
+use std::fs;
+use std::path::Path;
 
-/// A module of definitions. The names have spaces between them.
+/// A module that equations import. Names have spaces between them.
 pub struct Module {
     path: &'static str,
     /// What equations name of it.
     named: &'static str,
-    /// The definitions of it that the checker is told to compute.
+    /// What of a library the checker is told to compute; of a file in `specs/` that is every definition that can be.
     computed: &'static str,
 }
 
 impl Module {
-    pub const fn new(path: &'static str, named: &'static str, computed: &'static str) -> Self {
+    /// A module of a crate's `specs/`, or of what its code declares.
+    pub const fn new(path: &'static str, named: &'static str) -> Self {
+        Self::library(path, named, "")
+    }
+
+    pub const fn library(path: &'static str, named: &'static str, computed: &'static str) -> Self {
         Self {
             path,
             named,
@@ -20,9 +27,25 @@ impl Module {
         }
     }
 
-    fn import(&self) -> String {
-        let names = self.named.split(' ').chain(self.computed.split(' '));
-        let names: Vec<&str> = names.filter(|name| !name.is_empty()).collect();
+    fn computed(&self, crates: &Path) -> Result<Vec<String>, String> {
+        let text = match self.path.strip_prefix("Rattle·") {
+            Some(path) if !path.contains(".declared.") => {
+                let file = crates.join(path.replace('.', "/")).with_extension("antt");
+                fs::read_to_string(&file).map_err(|error| format!("{}: {error}", file.display()))?
+            }
+            _ => String::new(),
+        };
+        let declared = text.lines().filter_map(|line| {
+            let (name, _) = line.strip_prefix("unfoldable pub ")?.split_once(" : ")?;
+            Some(name)
+        });
+        let computed = self.computed.split_whitespace().chain(declared);
+        Ok(computed.map(str::to_string).collect())
+    }
+
+    fn import(&self, computed: &[String]) -> String {
+        let named = self.named.split_whitespace();
+        let names: Vec<&str> = named.chain(computed.iter().map(String::as_str)).collect();
         match names[..] {
             [] => format!("use {}\n", self.path),
             _ => format!("use {}.{{{}}}\n", self.path, names.join(", ")),
@@ -31,39 +54,49 @@ impl Module {
 }
 
 /// What more than one operation goes through.
-#[rustfmt::skip]
 const SHARED: &[Module] = &[
-    Module::new("mathlib.Core.Path", "_≡_ refl", ""),
-    Module::new("mathlib.Core.Bool", "true false", ""),
-    Module::new("Prim.Native.Nat", "ℕ", ""),
-    Module::new("mathlib.Core.List", "List [] _∷_", ""),
-    Module::new("Rattle.value.specs.declared.States.the-variants", "Two Four Nine", ""),
-    Module::new("Rattle.value.specs.Digits", "", "number digits"),
-    Module::new("Rattle.value.specs.Slice", "", "part overlay same any sum"),
-    Module::new("Rattle.value.specs.Level", "", "placeIn codeOf letterOf fold setOf joinAll"),
-    Module::new("Rattle.layout.specs.Entry", "", "entrySize entryOf markByte unmarked levelBytes widenEntry widenAll"),
-    Module::new("Rattle.fst.specs.declared.Encoding.the-variants", "Event Real BitVector", ""),
-    Module::new("Rattle.fst.specs.declared.Description", "Description", ""),
-    Module::new("Rattle.fst.specs.Refusal", "Reply refused given Outcome", "tried"),
-    Module::new("Rattle.fst.specs.Record", "", "keptIn widthStands fitsBytes fits isBadBytes isBad"),
-    Module::new("Rattle.signal.specs.Decode", "", "entryAt entriesFrom markIn setIn levelPart levelsIn hasBadMark"),
+    Module::new("mathlib.Core.Path", "_≡_ refl"),
+    Module::new("mathlib.Core.Bool", "true false"),
+    Module::new("Prim.Native.Nat", "ℕ"),
+    Module::new("mathlib.Core.List", "List [] _∷_"),
+    Module::new(
+        "Rattle.value.specs.declared.States.the-variants",
+        "Two Four Nine",
+    ),
+    Module::new("Rattle.value.specs.Digits", ""),
+    Module::new("Rattle.value.specs.Slice", ""),
+    Module::new("Rattle.value.specs.Level", ""),
+    Module::new("Rattle.layout.specs.Entry", ""),
+    Module::new(
+        "Rattle.fst.specs.declared.Encoding.the-variants",
+        "Event Real BitVector",
+    ),
+    Module::new("Rattle.fst.specs.declared.Description", "Description"),
+    Module::new("Rattle.fst.specs.Refusal", "Reply refused given Outcome"),
+    Module::new("Rattle.fst.specs.Record", "Recorder"),
+    Module::new("Rattle.signal.specs.Decode", ""),
 ];
 
-fn modules() -> impl Iterator<Item = &'static Module> {
+/// The imports of all equations, and the names of what is computed.
+fn preamble(crates: &Path) -> Result<(String, String), String> {
     let own = OPERATIONS
         .iter()
         .flat_map(|operation| operation.definitions);
-    SHARED.iter().chain(own)
+    let (mut imports, mut all) = (String::new(), Vec::new());
+    for module in SHARED.iter().chain(own) {
+        let computed = module.computed(crates)?;
+        imports += &module.import(&computed);
+        all.extend(computed);
+    }
+    Ok((imports, all.join(" ")))
 }
 
-/// A module with an equation for each stored answer that takes at most so many characters there.
-pub fn module(text: &str, longest: usize) -> Result<(String, usize), String> {
+/// A module with an equation for each stored answer that takes at most so many characters there, over the definitions of
+/// these crates.
+pub fn module(text: &str, longest: usize, crates: &Path) -> Result<(String, usize), String> {
+    let (imports, computed) = preamble(crates)?;
     let mut out =
-        String::from("-- The definitions compute the stored answers.\n-- Assumes nothing.\n");
-    out.extend(modules().map(Module::import));
-    let computed = modules().map(|module| module.computed);
-    let computed: Vec<&str> = computed.filter(|names| !names.is_empty()).collect();
-    let computed = computed.join(" ");
+        format!("-- The definitions compute the stored answers.\n-- Assumes nothing.\n{imports}");
     let mut equations = 0;
     for (number, line) in text.lines().enumerate() {
         if line.starts_with('#') || line.len() > longest {

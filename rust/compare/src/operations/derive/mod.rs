@@ -28,13 +28,12 @@ impl Operation for Derive {
 
     const NAMES: &'static [&'static str] = &["derive"];
     const NUMBERS: &'static [u8] = &[2, 14, 15, 11, 9, 10, 7];
-    #[rustfmt::skip]
     const DEFINITIONS: &'static [Module] = &[
-        Module::new("Rattle.runs.specs.Runs", "", "endsLike joined entriesOf laidOut"),
-        Module::new("Rattle.steps.specs.declared.Input", "Input", ""),
-        Module::new("Rattle.steps.specs.declared.Inputs", "Inputs", ""),
-        Module::new("Rattle.steps.specs.Steps", "", "smallest moved momentsFrom momentsOf keptSteps"),
-        Module::new("Rattle.transform.specs.Derive", "Derived", "picked isUnfit deriveRefusals derive"),
+        Module::new("Rattle.runs.specs.Runs", ""),
+        Module::new("Rattle.steps.specs.declared.Input", "Input"),
+        Module::new("Rattle.steps.specs.declared.Inputs", "Inputs"),
+        Module::new("Rattle.steps.specs.Steps", ""),
+        Module::new("Rattle.transform.specs.Derive", "Derived"),
     ];
 
     fn alterable(&self) -> (&[u8], &[u32]) {
