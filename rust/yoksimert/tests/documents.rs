@@ -195,79 +195,72 @@ fn the_format_names_every_file_of_definitions() {
     assert_eq!(named.collect::<BTreeSet<_>>(), definitions());
 }
 
-/// What a crate declares: the texts of its files by their names without the ending, those of `src/` under no name.
+/// What the crates declare, by crate and file without the ending, that of `src/` under no file; and their edits.
 struct Declared {
-    texts: BTreeMap<(String, String), String>,
+    names: BTreeMap<(String, String), BTreeSet<String>>,
     edits: BTreeSet<(String, String)>,
 }
 
 fn declared() -> Declared {
-    let (mut texts, mut edits) = (BTreeMap::<_, String>::new(), BTreeSet::new());
+    let (mut names, mut edits) = (BTreeMap::<_, BTreeSet<_>>::new(), BTreeSet::new());
     for name in crates() {
         for path in files(&format!("crates/{name}")) {
             let (stem, ending) = path.rsplit_once('.').unwrap_or((&path, ""));
             let stem = stem.rsplit('/').next().unwrap_or_default().to_string();
-            match ending {
-                "rt" => texts
-                    .entry((name.clone(), String::new()))
-                    .or_default()
-                    .push_str(&file(&path)),
-                "antt" => texts
-                    .entry((name.clone(), stem))
-                    .or_default()
-                    .push_str(&file(&path)),
-                "edit" => _ = edits.insert((name.clone(), stem)),
-                _ => (),
-            }
+            let place = match ending {
+                "rt" => (name.clone(), String::new()),
+                "antt" => (name.clone(), stem),
+                "edit" => {
+                    edits.insert((name.clone(), stem));
+                    continue;
+                }
+                _ => continue,
+            };
+            let of_file = names.entry(place).or_default();
+            of_file.extend(file(&path).lines().flat_map(declared_in));
         }
     }
-    Declared { texts, edits }
+    Declared { names, edits }
 }
 
 /// Words before the name of a type, a function or a constant, and before the name in a signature of the logic.
 const DECLARING: [&str; 6] = ["fn", "struct", "enum", "const", "record", "data"];
 const MODIFIERS: [&str; 3] = ["pub", "abbrev", "unfoldable"];
 
-/// Whether a line of a text declares a name.
-fn declares(text: &str, name: &str) -> bool {
-    text.lines().any(|line| {
-        let words = line.split(|c: char| c.is_whitespace() || "({[<:".contains(c));
-        let words: Vec<_> = words.filter(|word| !word.is_empty()).collect();
-        let declared = |pair: &[&str]| DECLARING.contains(&pair[0]) && pair[1] == name;
-        let signed = line.split_once(" :").is_some_and(|(before, _)| {
-            let mut before = before
-                .split_whitespace()
-                .skip_while(|word| MODIFIERS.contains(word));
-            before.next() == Some(name) && before.next().is_none()
-        });
-        signed || words.windows(2).any(declared)
-    })
+/// The names that a line declares.
+fn declared_in(line: &str) -> Vec<String> {
+    let words = line.split(|c: char| c.is_whitespace() || "({[<:".contains(c));
+    let words: Vec<_> = words.filter(|word| !word.is_empty()).collect();
+    let pairs = words.windows(2);
+    let declared = pairs.filter(|pair| DECLARING.contains(&pair[0]));
+    let mut names: Vec<_> = declared.map(|pair| pair[1].to_string()).collect();
+    if let Some((before, _)) = line.split_once(" :") {
+        let words = before.split_whitespace();
+        let words: Vec<_> = words.skip_while(|word| MODIFIERS.contains(word)).collect();
+        names.extend((words.len() == 1).then(|| words[0].to_string()));
+    }
+    names
 }
 
 impl Declared {
     fn in_file(&self, name: &str, file: &str, word: &str) -> bool {
-        let text = self.texts.get(&(name.to_string(), file.to_string()));
-        text.is_some_and(|text| declares(text, word))
+        let names = self.names.get(&(name.to_string(), file.to_string()));
+        names.is_some_and(|names| names.contains(word))
     }
 
     /// In the code of a crate, or an edit of it.
     fn in_crate(&self, name: &str, word: &str) -> bool {
         let edit = (name.to_string(), word.to_string());
         let is_there = |part: &str| self.in_file(name, "", part);
-        let path = word.split_once("::");
-        self.edits.contains(&edit)
-            || path.map_or_else(
-                || is_there(word),
-                |(of, part)| is_there(of) && is_there(part),
-            )
+        self.edits.contains(&edit) || word.split("::").all(is_there)
     }
 
     /// Where a name is declared.
     fn places(&self, word: &str) -> Vec<String> {
         let last = word.rsplit("::").next().unwrap_or_default();
-        let texts = self.texts.iter().filter(|(_, text)| declares(text, last));
+        let files = self.names.iter().filter(|(_, names)| names.contains(last));
         let edits = self.edits.iter().filter(|(_, edit)| edit == word);
-        let places = texts.map(|((of, file), _)| format!("{of}/{file}"));
+        let places = files.map(|((of, file), _)| format!("{of}/{file}"));
         places
             .chain(edits.map(|(of, _)| format!("{of}/must-fail")))
             .collect()
@@ -292,10 +285,10 @@ fn place(word: &str, declared: &Declared, wrong: &mut Vec<String>) -> Place {
     let parts: Vec<_> = word.split('/').collect();
     let code = |name: &str| (name.to_string(), String::new());
     match parts.as_slice() {
-        [name] if declared.texts.contains_key(&code(name)) => Some(code(name)),
+        [name] if declared.names.contains_key(&code(name)) => Some(code(name)),
         [name, .., file] if file.starts_with(char::is_uppercase) => {
             let place = (name.to_string(), file.to_string());
-            if !declared.texts.contains_key(&place) {
+            if !declared.names.contains_key(&place) {
                 wrong.push(format!("no file {word}"));
             }
             Some(place)
