@@ -25,7 +25,7 @@ impl Operation for LookUp {
     const NUMBERS: &'static [u8] = &[2, 11];
     const DEFINITIONS: &'static [Module] = &[
         Module::new(
-            "Rattle.signal.specs.declared.NextIndex.the-variants",
+            "Rattle.fst.specs.declared.NextIndex.the-variants",
             "Absent At",
         ),
         Module::new("Rattle.signal.specs.Offset", "none at"),
