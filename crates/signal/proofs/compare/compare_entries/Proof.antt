@@ -70,9 +70,6 @@ compare-pair-requires c κs =
 add-k : tie.Need-add-k Inv-loop μ-loop
 add-k c = omega (arith, has-few (in-a (c .before .before .before .before .before)))
 
-enum-told : tie.Need-enum-told Inv-loop μ-loop
-enum-told c = search needs
-
 loop-less : tie.Need-loop-less Inv-loop μ-loop
 loop-less c = omega (arith, in-a (c .before .before .before .before .before .before .before) .below)
 
@@ -131,7 +128,7 @@ compare-entries-spec =
     index-at-requires-2
     compare-pair-requires
     add-k
-    enum-told
+    (λ c. search needs)
     loop-less
     loop-again
     returns

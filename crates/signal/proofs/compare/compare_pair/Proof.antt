@@ -20,33 +20,15 @@ second c =
     let t = c .before .before in
     valid (t .before .before .before .before .before .before .pre .1) (sym (ap numberOf (c .enum-told2 .given .1)) ∙ t .try-entry2 .ensures)
 
-try-entry-requires : tie.Need-try-entry-requires
-try-entry-requires c κs = search needs
-
-enum-known-refusal : tie.Need-enum-known-refusal
-enum-known-refusal c = search needs
-
 returns : tie.Need-returns
 returns c =
     let t = c .before .before .before in
     first-refused _ _ _ _ _ _ (c .before .refusal .given .0 .0) (sym (ap numberOf (c .before .refusal .given .1)) ∙ t .try-entry .ensures)
 
-enum-told : tie.Need-enum-told
-enum-told c = search needs
-
-try-entry-requires-2 : tie.Need-try-entry-requires-2
-try-entry-requires-2 c κs = search needs
-
-enum-known-refusal-2 : tie.Need-enum-known-refusal-2
-enum-known-refusal-2 c = search needs
-
 returns-2 : tie.Need-returns-2
 returns-2 c =
     let t = c .before .before .before in
     second-refused (first (t .before)) _ _ _ _ (c .before .refusal2 .given .0 .0) (sym (ap numberOf (c .before .refusal2 .given .1)) ∙ t .try-entry2 .ensures)
-
-enum-told-2 : tie.Need-enum-told-2
-enum-told-2 c = search needs
 
 returns-3 : tie.Need-returns-3
 returns-3 c =
@@ -74,14 +56,14 @@ pub compare-pair-spec : {M : Type 1} → statement M
 compare-pair-spec =
     tie.close
     (tie.spec
-    try-entry-requires
-    enum-known-refusal
+    (λ c κs. search needs)
+    (λ c. search needs)
     returns
-    enum-told
-    try-entry-requires-2
-    enum-known-refusal-2
+    (λ c. search needs)
+    (λ c κs. search needs)
+    (λ c. search needs)
     returns-2
-    enum-told-2
+    (λ c. search needs)
     returns-3
     same-value-requires
     returns-4

@@ -6,14 +6,8 @@ use Rattle.signal.proofs.Comparing.{first-record, second-record}
 use Rattle.signal.proofs.compare.compare_records.Statement.{statement}
 use Rattle.signal.proofs.compare.compare_records.Tie as tie
 
-is-bad-requires : tie.Need-is-bad-requires
-is-bad-requires c κs = search needs
-
 returns : tie.Need-returns
 returns c = first-record _ _ _ _ (sym (c .before .is-bad .ensures) ∙ c .if1 .taken)
-
-is-bad-requires-2 : tie.Need-is-bad-requires-2
-is-bad-requires-2 c κs = search needs
 
 returns-2 : tie.Need-returns-2
 returns-2 c =
@@ -27,9 +21,6 @@ compare-entries-requires c κs = (
   sym (c .before .is-bad2 .ensures) ∙ c .if2 .left,
 )
 
-returns-3 : tie.Need-returns-3
-returns-3 c = search needs
-
 pub compare-records-spec : {M : Type 1} → statement M
 compare-records-spec =
-    tie.close (tie.spec is-bad-requires returns is-bad-requires-2 returns-2 compare-entries-requires returns-3)
+    tie.close (tie.spec (λ c κs. search needs) returns (λ c κs. search needs) returns-2 compare-entries-requires (λ c. search needs))

@@ -22,18 +22,6 @@ loop-holds : tie.Need-loop-holds Inv-loop μ-loop
 unfolding same
 loop-holds c = (omega arith, refl)
 
-shared-slice-read-union : tie.Need-shared-slice-read-union Inv-loop μ-loop
-shared-slice-read-union c = omega arith
-
-shared-slice-read-union-2 : tie.Need-shared-slice-read-union-2 Inv-loop μ-loop
-shared-slice-read-union-2 c = omega arith
-
-add-i : tie.Need-add-i Inv-loop μ-loop
-add-i c = omega arith
-
-loop-less : tie.Need-loop-less Inv-loop μ-loop
-loop-less c = omega arith
-
 loop-again : tie.Need-loop-again Inv-loop μ-loop
 loop-again c =
     let l = c .before .before .before in
@@ -53,9 +41,9 @@ equal-bytes-spec =
     Inv-loop
     μ-loop
     loop-holds
-    shared-slice-read-union
-    shared-slice-read-union-2
-    add-i
-    loop-less
+    (λ c. omega arith)
+    (λ c. omega arith)
+    (λ c. omega arith)
+    (λ c. omega arith)
     loop-again
     returns)

@@ -23,18 +23,6 @@ loop-holds c =
     let v = now (c .before .args .value) in
     (omega arith, bits-start v (c .before .pre), omega arith)
 
-sub-i : tie.Need-sub-i Inv-loop μ-loop
-sub-i c = omega arith
-
-shared-slice-read-wide : tie.Need-shared-slice-read-wide Inv-loop μ-loop
-shared-slice-read-wide c = omega arith
-
-wide-requires : tie.Need-wide-requires Inv-loop μ-loop
-wide-requires c κs = search needs
-
-loop-less : tie.Need-loop-less Inv-loop μ-loop
-loop-less c = omega arith
-
 loop-again : tie.Need-loop-again Inv-loop μ-loop
 loop-again c =
     let l = c .before .before .before in
@@ -56,9 +44,9 @@ real-bits-spec =
     Inv-loop
     μ-loop
     loop-holds
-    sub-i
-    shared-slice-read-wide
-    wide-requires
-    loop-less
+    (λ c. omega arith)
+    (λ c. omega arith)
+    (λ c κs. search needs)
+    (λ c. omega arith)
     loop-again
     returns)

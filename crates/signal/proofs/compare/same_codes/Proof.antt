@@ -34,12 +34,6 @@ returns c =
     let a = l .before .before .before .args in
     alike-not (codesAt (a .width) (a .states) (now (a .levels))) (codesAt (a .width) (a .others) (now (a .other-levels))) (l .loop .i) _ _ (c .before .before .code-at .ensures) (c .before .code-at2 .ensures) (c .if1 .taken)
 
-add-i : tie.Need-add-i Inv-loop μ-loop
-add-i c = omega arith
-
-loop-less : tie.Need-loop-less Inv-loop μ-loop
-loop-less c = omega arith
-
 loop-again : tie.Need-loop-again Inv-loop μ-loop
 loop-again c =
     let l = c .before .before .before .before in
@@ -63,7 +57,7 @@ same-codes-spec =
     code-at-requires
     code-at-requires-2
     returns
-    add-i
-    loop-less
+    (λ c. omega arith)
+    (λ c. omega arith)
     loop-again
     returns-2)

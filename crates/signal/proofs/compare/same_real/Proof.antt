@@ -14,13 +14,10 @@ real-bits-requires c κs = c .before .before .pre .0
 real-bits-requires-2 : tie.Need-real-bits-requires-2
 real-bits-requires-2 c κs = c .before .before .before .pre .1
 
-same-bits-requires : tie.Need-same-bits-requires
-same-bits-requires c κs = search needs
-
 returns : tie.Need-returns
 unfolding sameReal
 returns c = c .same-bits .ensures ∙ ap₂ (λ (x y : ℕ). eq (ofBits binary64 x) (ofBits binary64 y)) (c .before .before .real-bits .ensures) (c .before .real-bits2 .ensures)
 
 pub same-real-spec : {M : Type 1} → statement M
 same-real-spec =
-    tie.close (tie.spec real-bits-requires real-bits-requires-2 same-bits-requires returns)
+    tie.close (tie.spec real-bits-requires real-bits-requires-2 (λ c κs. search needs) returns)

@@ -42,20 +42,8 @@ marks : (c : tie.Then1)
     markOf (m .before .before .states-in .result) ≡ markOf (m .states-in2 .result)
 marks c = sym (c .before .before .mark3 .ensures) ∙ c .if1 .taken ∙ c .before .mark4 .ensures
 
-mark-requires : tie.Need-mark-requires
-mark-requires c κs = search needs
-
-cast-states-in : tie.Need-cast-states-in
-cast-states-in c = search needs
-
 states-in-requires : tie.Need-states-in-requires
 states-in-requires c κs = some (c .before .before .before .pre .0 .whole)
-
-mark-requires-2 : tie.Need-mark-requires-2
-mark-requires-2 c κs = search needs
-
-cast-states-in-2 : tie.Need-cast-states-in-2
-cast-states-in-2 c = search needs
 
 states-in-requires-2 : tie.Need-states-in-requires-2
 states-in-requires-2 c κs = some (c .before .before .before .before .before .pre .1 .whole)
@@ -65,12 +53,6 @@ level-part-requires c κs = own-a c .within
 
 level-part-requires-2 : tie.Need-level-part-requires-2
 level-part-requires-2 c κs = own-b (c .before) .within
-
-mark-requires-3 : tie.Need-mark-requires-3
-mark-requires-3 c κs = search needs
-
-mark-requires-4 : tie.Need-mark-requires-4
-mark-requires-4 c κs = search needs
 
 equal-bytes-requires : tie.Need-equal-bytes-requires
 equal-bytes-requires c κs =
@@ -97,16 +79,16 @@ pub same-text-spec : {M : Type 1} → statement M
 same-text-spec =
     tie.close
     (tie.spec
-    mark-requires
-    cast-states-in
+    (λ c κs. search needs)
+    (λ c. search needs)
     states-in-requires
-    mark-requires-2
-    cast-states-in-2
+    (λ c κs. search needs)
+    (λ c. search needs)
     states-in-requires-2
     level-part-requires
     level-part-requires-2
-    mark-requires-3
-    mark-requires-4
+    (λ c κs. search needs)
+    (λ c κs. search needs)
     equal-bytes-requires
     returns
     same-codes-requires

@@ -9,32 +9,11 @@ use borrow.Author.Needs.{needs}
 use Rattle.signal.proofs.compare.same_value.Statement.{statement}
 use Rattle.signal.proofs.compare.same_value.Tie as tie
 
-enum-told : tie.Need-enum-told
-enum-told c = search needs
-
-enum-told-2 : tie.Need-enum-told-2
-enum-told-2 c = search needs
-
 returns : tie.Need-returns
 returns c = unlike-event _ _ _ (c .before .enum-told .given .1) (c .match2 .keys2)
 
-enum-told-3 : tie.Need-enum-told-3
-enum-told-3 c = search needs
-
-enum-told-4 : tie.Need-enum-told-4
-enum-told-4 c = search needs
-
 returns-2 : tie.Need-returns-2
 returns-2 c = unlike-real _ _ _ (c .before .enum-told3 .given .1) (c .match3 .keys2)
-
-same-real-requires : tie.Need-same-real-requires
-same-real-requires c κs = search needs
-
-enum-known-a : tie.Need-enum-known-a
-enum-known-a c = search needs
-
-enum-known-b : tie.Need-enum-known-b
-enum-known-b c = search needs
 
 returns-3 : tie.Need-returns-3
 returns-3 c = unlike-vector _ _ _ (c .before .before .a .given .1) (c .match4 .keys2)
@@ -74,15 +53,15 @@ pub same-value-spec : {M : Type 1} → statement M
 same-value-spec =
     tie.close
     (tie.spec
-    enum-told
-    enum-told-2
+    (λ c. search needs)
+    (λ c. search needs)
     returns
-    enum-told-3
-    enum-told-4
+    (λ c. search needs)
+    (λ c. search needs)
     returns-2
-    same-real-requires
-    enum-known-a
-    enum-known-b
+    (λ c κs. search needs)
+    (λ c. search needs)
+    (λ c. search needs)
     returns-3
     returns-4
     same-text-requires

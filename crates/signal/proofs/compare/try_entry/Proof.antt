@@ -17,9 +17,6 @@ own-part c =
     let k = b .before .before in
     owned (vector (k .encoding .given .1) (k .before .before .before .pre)) (sym (b .own-states .ensures) ∙ c .before .states .given .1)
 
-enum-known-encoding : tie.Need-enum-known-encoding
-enum-known-encoding c = search needs
-
 returns : tie.Need-returns
 returns c =
     let a = c .before .before .args in
@@ -27,12 +24,6 @@ returns c =
 
 own-states-requires : tie.Need-own-states-requires
 own-states-requires c κs = some (vector (c .before .encoding .given .1) (c .before .before .before .before .pre))
-
-enum-known-states : tie.Need-enum-known-states
-enum-known-states c = search needs
-
-enum-told : tie.Need-enum-told
-enum-told c = search needs
 
 returns-2 : tie.Need-returns-2
 returns-2 c =
@@ -61,11 +52,11 @@ pub try-entry-spec : {M : Type 1} → statement M
 try-entry-spec =
     tie.close
     (tie.spec
-    enum-known-encoding
+    (λ c. search needs)
     returns
     own-states-requires
-    enum-known-states
-    enum-told
+    (λ c. search needs)
+    (λ c. search needs)
     returns-2
     level-part-requires
     has-bad-code-requires

@@ -7,12 +7,6 @@ use Rattle.signal.proofs.Decoding.{level-in, level-code}
 use Rattle.signal.proofs.decode.code_at.Statement.{statement}
 use Rattle.signal.proofs.decode.code_at.Tie as tie
 
-sub-get-bit : tie.Need-sub-get-bit
-sub-get-bit c = search needs
-
-sub-get-bit-2 : tie.Need-sub-get-bit-2
-sub-get-bit-2 c = search needs
-
 get-bit-requires : tie.Need-get-bit-requires
 get-bit-requires c κs = let s = c .before in level-in (s .args .width) (s .args .states) (now (s .args .levels)) (s .pre .0) (s .args .i) (s .pre .1)
 
@@ -22,4 +16,4 @@ returns c =
     c .get-bit .ensures ∙ level-code (s .args .width) (s .args .states) (now (s .args .levels)) (s .pre .0) (s .args .i) (s .pre .1)
 
 pub code-at-spec : {M : Type 1} → statement M
-code-at-spec = tie.close (tie.spec sub-get-bit sub-get-bit-2 get-bit-requires returns)
+code-at-spec = tie.close (tie.spec (λ c. search needs) (λ c. search needs) get-bit-requires returns)

@@ -24,18 +24,6 @@ loop-holds : tie.Need-loop-holds Inv-loop μ-loop
 unfolding any
 loop-holds c = (omega arith, refl)
 
-shared-slice-read-bad-bits : tie.Need-shared-slice-read-bad-bits Inv-loop μ-loop
-shared-slice-read-bad-bits c = omega arith
-
-bad-bits-requires : tie.Need-bad-bits-requires Inv-loop μ-loop
-bad-bits-requires c κs = search needs
-
-add-i : tie.Need-add-i Inv-loop μ-loop
-add-i c = omega arith
-
-loop-less : tie.Need-loop-less Inv-loop μ-loop
-loop-less c = omega arith
-
 loop-again : tie.Need-loop-again Inv-loop μ-loop
 loop-again c =
     let l = c .before .before .before in
@@ -53,9 +41,9 @@ has-bad-byte-spec =
     Inv-loop
     μ-loop
     loop-holds
-    shared-slice-read-bad-bits
-    bad-bits-requires
-    add-i
-    loop-less
+    (λ c. omega arith)
+    (λ c κs. search needs)
+    (λ c. omega arith)
+    (λ c. omega arith)
     loop-again
     returns)

@@ -18,16 +18,10 @@ use Rattle.signal.proofs.CodesOfBytes.{nine-bits, bad-whole}
 use Rattle.signal.proofs.decode.has_bad_code.Statement.{statement}
 use Rattle.signal.proofs.decode.has_bad_code.Tie as tie
 
-bits-requires : tie.Need-bits-requires
-bits-requires c κs = search needs
-
 returns : tie.Need-returns
 returns c =
     let a = c .before .before .before .args in
     few-bits (a .width) (a .states) (now (a .levels)) (rw (c .before .bits .ensures) at (c .if1 .taken))
-
-cast-first : tie.Need-cast-first
-cast-first c = search needs
 
 -- the set is Nine
 nine : (c : tie.Else1) → let a = c .before .before .before .args in a .states ≡ Nine
@@ -59,12 +53,6 @@ sub-has-bad-byte c = within (c .before .before)
 part-has-bad-byte-start : tie.Need-part-has-bad-byte-start
 part-has-bad-byte-start c = within (c .before .before)
 
-part-has-bad-byte-end : tie.Need-part-has-bad-byte-end
-part-has-bad-byte-end c = search needs
-
-has-bad-byte-requires : tie.Need-has-bad-byte-requires
-has-bad-byte-requires c κs = search needs
-
 returns-3 : tie.Need-returns-3
 returns-3 c =
     let f = c .before .before in
@@ -81,13 +69,13 @@ pub has-bad-code-spec : {M : Type 1} → statement M
 has-bad-code-spec =
     tie.close
     (tie.spec
-    bits-requires
+    (λ c κs. search needs)
     returns
-    cast-first
+    (λ c. search needs)
     has-bad-first-requires
     returns-2
     sub-has-bad-byte
     part-has-bad-byte-start
-    part-has-bad-byte-end
-    has-bad-byte-requires
+    (λ c. search needs)
+    (λ c κs. search needs)
     returns-3)

@@ -19,9 +19,6 @@ returns c =
     let a = c .before .args in
     sym (ap (λ (n : ℕ). hasNoCode (digits 16 n (number 256 (take n (now (a .levels)))))) (c .if1 .taken))
 
-shared-slice-read-result : tie.Need-shared-slice-read-result
-shared-slice-read-result c = search needs
-
 returns-2 : tie.Need-returns-2
 returns-2 c =
     let s = c .before .before in
@@ -30,4 +27,4 @@ returns-2 c =
     bad-one v (omega arith) ∙ ap (λ (n : ℕ). hasNoCode (digits 16 n (number 256 (take n v)))) e
 
 pub has-bad-first-spec : {M : Type 1} → statement M
-has-bad-first-spec = tie.close (tie.spec returns shared-slice-read-result returns-2)
+has-bad-first-spec = tie.close (tie.spec returns (λ c. search needs) returns-2)

@@ -10,21 +10,6 @@ use lib.Seq.{take-all}
 use Rattle.signal.proofs.decode.level_part.Statement.{statement}
 use Rattle.signal.proofs.decode.level_part.Tie as tie
 
-bytes-required-requires : tie.Need-bytes-required-requires
-bytes-required-requires c κs = search needs
-
-sub-from : tie.Need-sub-from
-sub-from c = search needs
-
-sub-result : tie.Need-sub-result
-sub-result c = search needs
-
-part-result-start : tie.Need-part-result-start
-part-result-start c = search needs
-
-part-result-end : tie.Need-part-result-end
-part-result-end c = search needs
-
 returns : tie.Need-returns
 returns c =
     let b = c .before in
@@ -36,9 +21,9 @@ pub level-part-spec : {M : Type 1} → statement M
 level-part-spec =
     tie.close
     (tie.spec
-    bytes-required-requires
-    sub-from
-    sub-result
-    part-result-start
-    part-result-end
+    (λ c κs. search needs)
+    (λ c. search needs)
+    (λ c. search needs)
+    (λ c. search needs)
+    (λ c. search needs)
     returns)

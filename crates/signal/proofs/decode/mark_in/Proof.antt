@@ -8,21 +8,6 @@ use Rattle.signal.specs.Decode.{markIn}
 use Rattle.signal.proofs.decode.mark_in.Statement.{statement}
 use Rattle.signal.proofs.decode.mark_in.Tie as tie
 
-enum-told : tie.Need-enum-told
-enum-told c = search needs
-
-enum-told-2 : tie.Need-enum-told-2
-enum-told-2 c = search needs
-
-shared-slice-read-result : tie.Need-shared-slice-read-result
-shared-slice-read-result c = search needs
-
-enum-told-3 : tie.Need-enum-told-3
-enum-told-3 c = search needs
-
-shared-slice-read-result-2 : tie.Need-shared-slice-read-result-2
-shared-slice-read-result-2 c = search needs
-
 returns : tie.Need-returns
 unfolding markIn
 returns c = sym (ap (λ (M : States). markIn M (now (c .before .before .args .entry))) (c .enum-told .given .1))
@@ -39,11 +24,11 @@ pub mark-in-spec : {M : Type 1} → statement M
 mark-in-spec =
     tie.close
     (tie.spec
-    enum-told
-    enum-told-2
-    shared-slice-read-result
-    enum-told-3
-    shared-slice-read-result-2
+    (λ c. search needs)
+    (λ c. search needs)
+    (λ c. search needs)
+    (λ c. search needs)
+    (λ c. search needs)
     returns
     returns-2
     returns-3)

@@ -9,9 +9,6 @@ use Rattle.signal.proofs.decode.own_mark.Tie as tie
 returns : tie.Need-returns
 returns c = mark-none _ _ (c .if1 .taken)
 
-shared-slice-read-result : tie.Need-shared-slice-read-result
-shared-slice-read-result c = search needs
-
 cast-result : tie.Need-cast-result
 cast-result c = omega (arith, c .shared-slice-known .given 0)
 
@@ -19,4 +16,4 @@ returns-2 : tie.Need-returns-2
 returns-2 c = mark-some _ _ (c .before .if1 .left)
 
 pub own-mark-spec : {M : Type 1} → statement M
-own-mark-spec = tie.close (tie.spec returns shared-slice-read-result cast-result returns-2)
+own-mark-spec = tie.close (tie.spec returns (λ c. search needs) cast-result returns-2)

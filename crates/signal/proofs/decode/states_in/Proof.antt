@@ -6,14 +6,8 @@ use Rattle.value.specs.Level.{setAt}
 use Rattle.signal.proofs.decode.states_in.Statement.{statement}
 use Rattle.signal.proofs.decode.states_in.Tie as tie
 
-own-mark-requires : tie.Need-own-mark-requires
-own-mark-requires c κs = search needs
-
-states-at-requires : tie.Need-states-at-requires
-states-at-requires c κs = search needs
-
 returns : tie.Need-returns
 returns c = c .states-at .ensures ∙ ap setAt (c .before .own-mark .ensures)
 
 pub states-in-spec : {M : Type 1} → statement M
-states-in-spec = tie.close (tie.spec own-mark-requires states-at-requires returns)
+states-in-spec = tie.close (tie.spec (λ c κs. search needs) (λ c κs. search needs) returns)

@@ -16,9 +16,6 @@ Inv-loop states levels out₀ at per-byte i₀ k₀ out i k = Stored states leve
 abbrev μ-loop : tie.MeasureT-loop
 μ-loop states levels out₀ at per-byte i₀ k₀ out i k = length levels - k
 
-bits-in-a-byte-requires : tie.Need-bits-in-a-byte-requires Inv-loop μ-loop
-bits-in-a-byte-requires c κs = search needs
-
 cast-per-byte : tie.Need-cast-per-byte Inv-loop μ-loop
 cast-per-byte c = omega (arith, c .bits-in-a-byte .ensures, per-some (c .before .before .before .args .states))
 
@@ -36,9 +33,6 @@ room c =
     let s = start (c .before) in
     stored-room (s .args .states) (now (s .args .levels)) (now (s .args .out)) (s .args .at) (s .pre) (c .before .loop .inv) (c .loop-test .taken)
 
-shared-slice-read-write-byte : tie.Need-shared-slice-read-write-byte Inv-loop μ-loop
-shared-slice-read-write-byte c = omega arith
-
 write-byte-requires : tie.Need-write-byte-requires Inv-loop μ-loop
 write-byte-requires c κs = omega (arith, room (c .before .before), c .before .before .before .loop .inv .long)
 
@@ -46,12 +40,6 @@ add-i : tie.Need-add-i Inv-loop μ-loop
 add-i c =
     let i = c .before .before .before .before .before in
     omega (arith, room i, i .before .before .bits-in-a-byte .ensures)
-
-add-k : tie.Need-add-k Inv-loop μ-loop
-add-k c = omega arith
-
-loop-less : tie.Need-loop-less Inv-loop μ-loop
-loop-less c = omega arith
 
 loop-again : tie.Need-loop-again Inv-loop μ-loop
 loop-again c =
@@ -77,14 +65,14 @@ write-bytes-spec =
     (tie.spec
     Inv-loop
     μ-loop
-    bits-in-a-byte-requires
+    (λ c κs. search needs)
     cast-per-byte
     loop-holds
-    shared-slice-read-write-byte
+    (λ c. omega arith)
     write-byte-requires
     add-i
-    add-k
-    loop-less
+    (λ c. omega arith)
+    (λ c. omega arith)
     loop-again
     same-length
     returns)

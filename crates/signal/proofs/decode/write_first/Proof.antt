@@ -29,12 +29,6 @@ shared-slice-read-write-levels c =
     let s = c .before .before .before .before in
     omega (arith, first-one (s .args .states) (s .args .count) (s .pre .0) (c .before .if1 .left), s .pre .1)
 
-write-levels-requires : tie.Need-write-levels-requires
-write-levels-requires c κs = search needs
-
-same-length : tie.Need-same-length
-same-length c = search needs
-
 returns-2 : tie.Need-returns-2
 returns-2 c =
     let w = c .before .before in
@@ -50,4 +44,4 @@ returns-2 c =
 pub write-first-spec : {M : Type 1} → statement M
 write-first-spec =
     tie.close
-    (tie.spec returns shared-slice-read-write-levels write-levels-requires same-length returns-2)
+    (tie.spec returns shared-slice-read-write-levels (λ c κs. search needs) (λ c. search needs) returns-2)

@@ -26,9 +26,6 @@ Inv-loop states byte count out₀ at bits i₀ out i =
 abbrev μ-loop : tie.MeasureT-loop
 μ-loop states byte count out₀ at bits i₀ out i = count - i
 
-bits-requires : tie.Need-bits-requires Inv-loop μ-loop
-bits-requires c κs = search needs
-
 loop-holds : tie.Need-loop-holds Inv-loop μ-loop
 loop-holds c = (omega arith, sym (overlay-nil _ _), refl)
 
@@ -42,12 +39,6 @@ small c =
     let s = start (c .before) in
     shift-small (s .args .states) (s .args .count) (c .before .loop .i) _ (c .before .before .bits .ensures) (c .loop-test .taken) (s .pre .0)
 
-sub-level : tie.Need-sub-level Inv-loop μ-loop
-sub-level c = omega arith
-
-sub-level-2 : tie.Need-sub-level-2 Inv-loop μ-loop
-sub-level-2 c = omega arith
-
 mul-level : tie.Need-mul-level Inv-loop μ-loop
 mul-level c = omega (arith, small c)
 
@@ -56,27 +47,6 @@ cast-level c = omega (arith, small c)
 
 shr-level : tie.Need-shr-level Inv-loop μ-loop
 shr-level c = small c
-
-mask-requires : tie.Need-mask-requires Inv-loop μ-loop
-mask-requires c κs = search needs
-
-num-to-bit-char-requires : tie.Need-num-to-bit-char-requires Inv-loop μ-loop
-num-to-bit-char-requires c κs = search needs
-
-cast-out : tie.Need-cast-out Inv-loop μ-loop
-cast-out c = omega arith
-
-add-out : tie.Need-add-out Inv-loop μ-loop
-add-out c = omega arith
-
-slice-write-out : tie.Need-slice-write-out Inv-loop μ-loop
-slice-write-out c = omega arith
-
-add-i : tie.Need-add-i Inv-loop μ-loop
-add-i c = omega arith
-
-loop-less : tie.Need-loop-less Inv-loop μ-loop
-loop-less c = omega arith
 
 loop-again : tie.Need-loop-again Inv-loop μ-loop
 loop-again c =
@@ -110,20 +80,20 @@ write-levels-spec =
     (tie.spec
     Inv-loop
     μ-loop
-    bits-requires
+    (λ c κs. search needs)
     loop-holds
-    sub-level
-    sub-level-2
+    (λ c. omega arith)
+    (λ c. omega arith)
     mul-level
     cast-level
     shr-level
-    mask-requires
-    num-to-bit-char-requires
-    cast-out
-    add-out
-    slice-write-out
-    add-i
-    loop-less
+    (λ c κs. search needs)
+    (λ c κs. search needs)
+    (λ c. omega arith)
+    (λ c. omega arith)
+    (λ c. omega arith)
+    (λ c. omega arith)
+    (λ c. omega arith)
     loop-again
     same-length
     returns)

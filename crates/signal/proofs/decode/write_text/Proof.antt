@@ -11,9 +11,6 @@ use Rattle.signal.proofs.CodesOfBytes.{per-some, Split, split-told, tex
 use Rattle.signal.proofs.decode.write_text.Statement.{statement}
 use Rattle.signal.proofs.decode.write_text.Tie as tie
 
-bits-in-a-byte-requires : tie.Need-bits-in-a-byte-requires
-bits-in-a-byte-requires c κs = search needs
-
 rem-count : tie.Need-rem-count
 rem-count c = rw (c .bits-in-a-byte .ensures) (per-some (c .before .before .before .args .states) .0)
 
@@ -44,9 +41,6 @@ sub-write-bytes c = behind (c .before .before) .within
 part-write-bytes-start : tie.Need-part-write-bytes-start
 part-write-bytes-start c = behind (c .before .before) .within
 
-part-write-bytes-end : tie.Need-part-write-bytes-end
-part-write-bytes-end c = search needs
-
 cast-write-bytes : tie.Need-cast-write-bytes
 cast-write-bytes c =
     let w = c .before .before .before .before in
@@ -58,9 +52,6 @@ write-bytes-requires c κs =
     let s = w .before .before .before .before .before in
     let a = s .args in
     text-room (a .width) (a .states) (now (a .levels)) (behind w) (now (a .out)) _ (s .pre .1) _ (w .write-first .ensures .0) (w .write-first .ensures .1)
-
-same-length : tie.Need-same-length
-same-length c = search needs
 
 returns : tie.Need-returns
 returns c =
@@ -76,13 +67,13 @@ pub write-text-spec : {M : Type 1} → statement M
 write-text-spec =
     tie.close
     (tie.spec
-    bits-in-a-byte-requires
+    (λ c κs. search needs)
     rem-count
     write-first-requires
     sub-write-bytes
     part-write-bytes-start
-    part-write-bytes-end
+    (λ c. search needs)
     cast-write-bytes
     write-bytes-requires
-    same-length
+    (λ c. search needs)
     returns)

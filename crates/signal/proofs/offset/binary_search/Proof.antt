@@ -25,9 +25,6 @@ mul-not-above c = omega (arith, c .before .loop .inv .within)
 shared-slice-read-not-above : tie.Need-shared-slice-read-not-above Inv-loop μ-loop
 shared-slice-read-not-above c = omega (arith, c .before .before .loop .inv .within)
 
-not-above-requires : tie.Need-not-above-requires Inv-loop μ-loop
-not-above-requires c κs = search needs
-
 -- the half that the last place is in
 half : (c : tie.After-not-above Inv-loop μ-loop) →
     let at-loop = c .before .before .before in
@@ -42,12 +39,6 @@ mul-place c = omega (arith, half c .within)
 
 add-place : tie.Need-add-place Inv-loop μ-loop
 add-place c = omega (arith, half c .within)
-
-sub-size : tie.Need-sub-size Inv-loop μ-loop
-sub-size c = omega arith
-
-loop-less : tie.Need-loop-less Inv-loop μ-loop
-loop-less c = omega arith
 
 loop-again : tie.Need-loop-again Inv-loop μ-loop
 loop-again c = half c
@@ -65,10 +56,10 @@ binary-search-spec =
     add-not-above
     mul-not-above
     shared-slice-read-not-above
-    not-above-requires
+    (λ c κs. search needs)
     mul-place
     add-place
-    sub-size
-    loop-less
+    (λ c. omega arith)
+    (λ c. omega arith)
     loop-again
     returns)

@@ -20,30 +20,6 @@ abbrev μ-loop : tie.MeasureT-loop
 loop-holds : tie.Need-loop-holds Inv-loop μ-loop
 loop-holds c = (omega arith, refl)
 
-add-loop : tie.Need-add-loop Inv-loop μ-loop
-add-loop c = omega arith
-
-add-fell : tie.Need-add-fell Inv-loop μ-loop
-add-fell c = omega arith
-
-mul-fell : tie.Need-mul-fell Inv-loop μ-loop
-mul-fell c = omega arith
-
-shared-slice-read-fell : tie.Need-shared-slice-read-fell Inv-loop μ-loop
-shared-slice-read-fell c = omega arith
-
-mul-fell-2 : tie.Need-mul-fell-2 Inv-loop μ-loop
-mul-fell-2 c = omega arith
-
-shared-slice-read-fell-2 : tie.Need-shared-slice-read-fell-2 Inv-loop μ-loop
-shared-slice-read-fell-2 c = omega arith
-
-add-i : tie.Need-add-i Inv-loop μ-loop
-add-i c = omega arith
-
-loop-less : tie.Need-loop-less Inv-loop μ-loop
-loop-less c = omega arith
-
 loop-again : tie.Need-loop-again Inv-loop μ-loop
 loop-again c =
     let at-loop = c .before .before .before in
@@ -71,13 +47,13 @@ falls-spec =
     Inv-loop
     μ-loop
     loop-holds
-    add-loop
-    add-fell
-    mul-fell
-    shared-slice-read-fell
-    mul-fell-2
-    shared-slice-read-fell-2
-    add-i
-    loop-less
+    (λ c. omega arith)
+    (λ c. omega arith)
+    (λ c. omega arith)
+    (λ c. omega arith)
+    (λ c. omega arith)
+    (λ c. omega arith)
+    (λ c. omega arith)
+    (λ c. omega arith)
     loop-again
     returns)

@@ -10,18 +10,6 @@ use Rattle.signal.proofs.Offsets.{place-found}
 use Rattle.signal.proofs.offset.find_offset_from_time_table_idx.Statement.{statement}
 use Rattle.signal.proofs.offset.find_offset_from_time_table_idx.Tie as tie
 
-binary-search-requires : tie.Need-binary-search-requires
-binary-search-requires c κs = search needs
-
-mul-index : tie.Need-mul-index
-mul-index c = search needs
-
-shared-slice-read-index : tie.Need-shared-slice-read-index
-shared-slice-read-index c = search needs
-
-find-start-requires : tie.Need-find-start-requires
-find-start-requires c κs = search needs
-
 -- the run starts in the list
 within : (c : tie.After-find-start) → c .find-start .result ≤ length (c .before .before .before .before .args .indices .now)
 within c =
@@ -43,12 +31,6 @@ add-get c =
     let run = run-within (getD l (at-search .binary-search .result) 0) (drop start l) in
     omega (arith, c .run-length .ensures, within at-start, run, length-drop start l)
 
-get-requires : tie.Need-get-requires
-get-requires c κs = search needs
-
-cast-t11 : tie.Need-cast-t11
-cast-t11 c = search needs
-
 returns : tie.Need-returns
 returns c =
     let at-start = c .before .before in
@@ -66,12 +48,12 @@ pub find-offset-from-time-table-idx-spec : {M : Type 1} → statement M
 find-offset-from-time-table-idx-spec =
     tie.close
     (tie.spec
-    binary-search-requires
-    mul-index
-    shared-slice-read-index
-    find-start-requires
+    (λ c κs. search needs)
+    (λ c. search needs)
+    (λ c. search needs)
+    (λ c κs. search needs)
     run-length-requires
     add-get
-    get-requires
-    cast-t11
+    (λ c κs. search needs)
+    (λ c. search needs)
     returns)

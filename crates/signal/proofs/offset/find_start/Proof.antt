@@ -11,21 +11,6 @@ use Rattle.signal.proofs.Search.{rising, start-is, start-first, start-b
 use Rattle.signal.proofs.offset.find_start.Statement.{statement}
 use Rattle.signal.proofs.offset.find_start.Tie as tie
 
-mul-index : tie.Need-mul-index
-mul-index c = search needs
-
-shared-slice-read-index : tie.Need-shared-slice-read-index
-shared-slice-read-index c = search needs
-
-sub-if2 : tie.Need-sub-if2
-sub-if2 c = search needs
-
-mul-if2 : tie.Need-mul-if2
-mul-if2 c = search needs
-
-shared-slice-read-if2 : tie.Need-shared-slice-read-if2
-shared-slice-read-if2 c = search needs
-
 -- another index stands in front of the place
 other : (c : tie.Joined1) →
     let a = c .before .before .before .args in
@@ -36,9 +21,6 @@ returns : tie.Need-returns
 returns c =
     let at-start = c .before .before .before in
     start-is (at-start .args .indices .now) (at-start .args .place) (at-start .pre .0) (at-start .pre .1) (other c)
-
-shared-slice-read-if3 : tie.Need-shared-slice-read-if3
-shared-slice-read-if3 c = search needs
 
 returns-2 : tie.Need-returns-2
 returns-2 c =
@@ -65,9 +47,6 @@ binary-search-requires c κs =
     let at-start = start c in
     record { rises = at-start .pre .0; some = omega arith; first = omega (arith, smaller c) }
 
-add-result : tie.Need-add-result
-add-result c = search needs
-
 returns-3 : tie.Need-returns-3
 returns-3 c =
     let at-start = start (c .before) in
@@ -78,15 +57,15 @@ pub find-start-spec : {M : Type 1} → statement M
 find-start-spec =
     tie.close
     (tie.spec
-    mul-index
-    shared-slice-read-index
-    sub-if2
-    mul-if2
-    shared-slice-read-if2
+    (λ c. search needs)
+    (λ c. search needs)
+    (λ c. search needs)
+    (λ c. search needs)
+    (λ c. search needs)
     returns
-    shared-slice-read-if3
+    (λ c. search needs)
     returns-2
     sub-binary-search
     binary-search-requires
-    add-result
+    (λ c. search needs)
     returns-3)

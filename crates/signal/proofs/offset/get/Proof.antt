@@ -6,12 +6,6 @@ use Rattle.signal.proofs.Search.{head-at, head-past}
 use Rattle.signal.proofs.offset.get.Statement.{statement}
 use Rattle.signal.proofs.offset.get.Tie as tie
 
-mul-t6 : tie.Need-mul-t6
-mul-t6 c = search needs
-
-shared-slice-read-t8 : tie.Need-shared-slice-read-t8
-shared-slice-read-t8 c = search needs
-
 returns : tie.Need-returns
 returns c =
     let at-start = c .before .before in
@@ -21,4 +15,4 @@ returns-2 : tie.Need-returns-2
 returns-2 c = sym (head-past (c .before .args .indices .now) (c .before .args .place) (c .if1 .left))
 
 pub get-spec : {M : Type 1} → statement M
-get-spec = tie.close (tie.spec mul-t6 shared-slice-read-t8 returns returns-2)
+get-spec = tie.close (tie.spec (λ c. search needs) (λ c. search needs) returns returns-2)

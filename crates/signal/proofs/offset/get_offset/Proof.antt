@@ -18,9 +18,6 @@ returns c =
     let a = c .before .before .args in
     sym (look-up-long (a .indices .now) (a .time-table-idx) (c .if1 .taken))
 
-falls-requires : tie.Need-falls-requires
-falls-requires c κs = search needs
-
 returns-2 : tie.Need-returns-2
 returns-2 c =
     let at-test = c .before .before in
@@ -38,15 +35,6 @@ reply c =
     let at-test = c .before .before in
     let a = at-test .before .before .args in
     look-up-rising (a .indices .now) (a .time-table-idx) (at-test .if1 .left) (rises c)
-
-get-requires : tie.Need-get-requires
-get-requires c κs = search needs
-
-enum-known-first : tie.Need-enum-known-first
-enum-known-first c = search needs
-
-enum-told : tie.Need-enum-told
-enum-told c = search needs
 
 returns-3 : tie.Need-returns-3
 returns-3 c =
@@ -89,11 +77,11 @@ get-offset-spec =
     tie.close
     (tie.spec
     returns
-    falls-requires
+    (λ c κs. search needs)
     returns-2
-    get-requires
-    enum-known-first
-    enum-told
+    (λ c κs. search needs)
+    (λ c. search needs)
+    (λ c. search needs)
     returns-3
     returns-4
     find-offset-from-time-table-idx-requires

@@ -5,14 +5,8 @@ use Rattle.signal.proofs.Search.{borrowed}
 use Rattle.signal.proofs.offset.not_above.Statement.{statement}
 use Rattle.signal.proofs.offset.not_above.Tie as tie
 
-add-result : tie.Need-add-result
-add-result c = search needs
-
-sub-result : tie.Need-sub-result
-sub-result c = search needs
-
 returns : tie.Need-returns
 returns c = borrowed (c .args .index) (c .args .needle) (search needs) (search needs)
 
 pub not-above-spec : {M : Type 1} → statement M
-not-above-spec = tie.close (tie.spec add-result sub-result returns)
+not-above-spec = tie.close (tie.spec (λ c. search needs) (λ c. search needs) returns)

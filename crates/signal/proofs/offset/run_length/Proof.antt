@@ -23,17 +23,8 @@ abbrev μ-loop : tie.MeasureT-loop
 loop-holds : tie.Need-loop-holds Inv-loop μ-loop
 loop-holds c = (omega (arith, c .before .pre), rw (add-zero, zero-add))
 
-add-get : tie.Need-add-get Inv-loop μ-loop
-add-get c = omega arith
-
 get-requires : tie.Need-get-requires Inv-loop μ-loop
 get-requires c κs = tt
-
-enum-known-next : tie.Need-enum-known-next Inv-loop μ-loop
-enum-known-next c = search needs
-
-enum-told : tie.Need-enum-told Inv-loop μ-loop
-enum-told c = search needs
 
 -- the index that the loop has found
 found : (c : tie.After-known-told Inv-loop μ-loop) →
@@ -84,10 +75,10 @@ run-length-spec =
     Inv-loop
     μ-loop
     loop-holds
-    add-get
+    (λ c. omega arith)
     get-requires
-    enum-known-next
-    enum-told
+    (λ c. search needs)
+    (λ c. search needs)
     add-elements
     loop-less
     loop-again

@@ -7,21 +7,9 @@ use Rattle.signal.proofs.Reading.{bad-own, own-set}
 use Rattle.signal.proofs.read.entry_answer.Statement.{statement}
 use Rattle.signal.proofs.read.entry_answer.Tie as tie
 
-own-in-requires : tie.Need-own-in-requires
-own-in-requires c κs = search needs
-
-enum-known-states : tie.Need-enum-known-states
-enum-known-states c = search needs
-
-enum-told : tie.Need-enum-told
-enum-told c = search needs
-
 returns : tie.Need-returns
 unfolding answerIn
 returns c = rw (bad-own _ _ (sym (c .before .before .own-in .ensures) ∙ c .enum-told .given .1))
-
-kind-of-requires : tie.Need-kind-of-requires
-kind-of-requires c κs = search needs
 
 returns-2 : tie.Need-returns-2
 unfolding answerIn
@@ -31,4 +19,4 @@ returns-2 c =
     rw (o .0, o .1, c .kind-of .ensures)
 
 pub entry-answer-spec : {M : Type 1} → statement M
-entry-answer-spec = tie.close (tie.spec own-in-requires enum-known-states enum-told returns kind-of-requires returns-2)
+entry-answer-spec = tie.close (tie.spec (λ c κs. search needs) (λ c. search needs) (λ c. search needs) returns (λ c κs. search needs) returns-2)

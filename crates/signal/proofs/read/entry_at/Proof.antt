@@ -16,9 +16,6 @@ use Rattle.signal.proofs.read.entry_at.Tie as tie
 placed : (c : tie.After-size) → c .before .before .args .byte-start + (c .before .before .args .entry * c .size .result + c .size .result) ≤ length (now (c .before .before .args .bytes))
 placed c = rw (c .size .ensures) (c .before .before .pre)
 
-size-requires : tie.Need-size-requires
-size-requires c κs = search needs
-
 mul-at : tie.Need-mul-at
 mul-at c = omega (arith, placed c)
 
@@ -27,12 +24,6 @@ add-at c = omega (arith, placed c)
 
 add-result : tie.Need-add-result
 add-result c = omega (arith, placed c)
-
-sub-result : tie.Need-sub-result
-sub-result c = search needs
-
-part-result-start : tie.Need-part-result-start
-part-result-start c = search needs
 
 part-result-end : tie.Need-part-result-end
 part-result-end c = omega (arith, placed c)
@@ -50,11 +41,11 @@ pub entry-at-spec : {M : Type 1} → statement M
 entry-at-spec =
     tie.close
     (tie.spec
-    size-requires
+    (λ c κs. search needs)
     mul-at
     add-at
     add-result
-    sub-result
-    part-result-start
+    (λ c. search needs)
+    (λ c. search needs)
     part-result-end
     returns)

@@ -10,32 +10,11 @@ use Rattle.signal.specs.Parts.{partIn}
 use Rattle.signal.proofs.read.entry_part.Statement.{statement}
 use Rattle.signal.proofs.read.entry_part.Tie as tie
 
-is-bad-bytes-requires : tie.Need-is-bad-bytes-requires
-is-bad-bytes-requires c κs = search needs
-
-sub-result : tie.Need-sub-result
-sub-result c = search needs
-
-part-result-start : tie.Need-part-result-start
-part-result-start c = search needs
-
-part-result-end : tie.Need-part-result-end
-part-result-end c = search needs
-
 returns : tie.Need-returns
 returns c =
     let b = c .before .before in
     let a = b .before .before .args in
     sym (ap partOf (read-bad (a .description) (now (a .bytes)) (a .byte-start) (a .entry) (sym (b .is-bad-bytes .ensures) ∙ c .before .if1 .taken)))
-
-sub-result-2 : tie.Need-sub-result-2
-sub-result-2 c = search needs
-
-part-result-start-2 : tie.Need-part-result-start-2
-part-result-start-2 c = search needs
-
-part-result-end-2 : tie.Need-part-result-end-2
-part-result-end-2 c = search needs
 
 returns-2 : tie.Need-returns-2
 returns-2 c =
@@ -60,14 +39,14 @@ pub entry-part-spec : {M : Type 1} → statement M
 entry-part-spec =
     tie.close
     (tie.spec
-    is-bad-bytes-requires
-    sub-result
-    part-result-start
-    part-result-end
+    (λ c κs. search needs)
+    (λ c. search needs)
+    (λ c. search needs)
+    (λ c. search needs)
     returns
-    sub-result-2
-    part-result-start-2
-    part-result-end-2
+    (λ c. search needs)
+    (λ c. search needs)
+    (λ c. search needs)
     returns-2
     entry-at-requires
     part-in-requires

@@ -6,9 +6,6 @@ use Rattle.signal.proofs.Reading.{vector, some, own-plain, own-vector}
 use Rattle.signal.proofs.read.own_in.Statement.{statement}
 use Rattle.signal.proofs.read.own_in.Tie as tie
 
-enum-known-encoding : tie.Need-enum-known-encoding
-enum-known-encoding c = search needs
-
 returns : tie.Need-returns
 returns c = own-plain _ _ (c .match .keys2)
 
@@ -19,4 +16,4 @@ returns-2 : tie.Need-returns-2
 returns-2 c = c .own-states .ensures ∙ own-vector _ _ (c .before .before .encoding .given .1)
 
 pub own-in-spec : {M : Type 1} → statement M
-own-in-spec = tie.close (tie.spec enum-known-encoding returns own-states-requires returns-2)
+own-in-spec = tie.close (tie.spec (λ c. search needs) returns own-states-requires returns-2)

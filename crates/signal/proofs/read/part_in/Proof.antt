@@ -18,30 +18,9 @@ own-part c =
     let b = s .before .before in
     owned (vector q (b .before .before .pre)) (own-vector _ _ q ∙ sym (b .own-in .ensures) ∙ s .states .given .1)
 
-own-in-requires : tie.Need-own-in-requires
-own-in-requires c κs = search needs
-
-enum-known-states : tie.Need-enum-known-states
-enum-known-states c = search needs
-
-enum-told : tie.Need-enum-told
-enum-told c = search needs
-
-sub-result : tie.Need-sub-result
-sub-result c = search needs
-
-part-result-start : tie.Need-part-result-start
-part-result-start c = search needs
-
-part-result-end : tie.Need-part-result-end
-part-result-end c = search needs
-
 returns : tie.Need-returns
 unfolding partIn
 returns c = rw (bad-own _ _ (sym (c .before .before .before .own-in .ensures) ∙ c .before .enum-told .given .1))
-
-enum-known-encoding : tie.Need-enum-known-encoding
-enum-known-encoding c = search needs
 
 returns-2 : tie.Need-returns-2
 returns-2 c = part-plain _ _ (c .match2 .keys2)
@@ -58,14 +37,14 @@ pub part-in-spec : {M : Type 1} → statement M
 part-in-spec =
     tie.close
     (tie.spec
-    own-in-requires
-    enum-known-states
-    enum-told
-    sub-result
-    part-result-start
-    part-result-end
+    (λ c κs. search needs)
+    (λ c. search needs)
+    (λ c. search needs)
+    (λ c. search needs)
+    (λ c. search needs)
+    (λ c. search needs)
     returns
-    enum-known-encoding
+    (λ c. search needs)
     returns-2
     level-part-requires
     returns-3)

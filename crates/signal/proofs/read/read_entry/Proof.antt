@@ -11,9 +11,6 @@ use borrow.Author.Needs.{needs}
 use Rattle.signal.proofs.read.read_entry.Statement.{statement}
 use Rattle.signal.proofs.read.read_entry.Tie as tie
 
-is-bad-bytes-requires : tie.Need-is-bad-bytes-requires
-is-bad-bytes-requires c κs = search needs
-
 returns : tie.Need-returns
 returns c =
     let a = c .before .before .before .args in
@@ -45,7 +42,7 @@ pub read-entry-spec : {M : Type 1} → statement M
 read-entry-spec =
     tie.close
     (tie.spec
-    is-bad-bytes-requires
+    (λ c κs. search needs)
     returns
     returns-2
     entry-at-requires

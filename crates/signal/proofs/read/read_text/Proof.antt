@@ -10,16 +10,10 @@ use borrow.Author.Needs.{needs}
 use Rattle.signal.proofs.read.read_text.Statement.{statement}
 use Rattle.signal.proofs.read.read_text.Tie as tie
 
-is-bad-bytes-requires : tie.Need-is-bad-bytes-requires
-is-bad-bytes-requires c κs = search needs
-
 returns : tie.Need-returns
 returns c =
     let a = c .before .before .before .before .args in
     text-bad (a .description) (now (a .bytes)) (a .byte-start) (a .entry) (now (a .out)) (sym (c .before .is-bad-bytes .ensures) ∙ c .if1 .taken)
-
-enum-known-encoding : tie.Need-enum-known-encoding
-enum-known-encoding c = search needs
 
 returns-2 : tie.Need-returns-2
 returns-2 c =
@@ -50,9 +44,6 @@ store-text-requires c κs =
     let e = c .before .before in
     rw (c .before .entry-at .ensures) (vector (e .before .before .before .encoding .given .1) (whole (has e)))
 
-same-length : tie.Need-same-length
-same-length c = search needs
-
 returns-4 : tie.Need-returns-4
 returns-4 c =
     let s = c .before .before in
@@ -63,12 +54,12 @@ pub read-text-spec : {M : Type 1} → statement M
 read-text-spec =
     tie.close
     (tie.spec
-    is-bad-bytes-requires
+    (λ c κs. search needs)
     returns
-    enum-known-encoding
+    (λ c. search needs)
     returns-2
     returns-3
     entry-at-requires
     store-text-requires
-    same-length
+    (λ c. search needs)
     returns-4)

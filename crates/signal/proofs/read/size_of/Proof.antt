@@ -6,24 +6,6 @@ use mathlib.Core.Path.{sym, ap, _∙_}
 use Rattle.signal.proofs.read.size_of.Statement.{statement}
 use Rattle.signal.proofs.read.size_of.Tie as tie
 
-enum-told : tie.Need-enum-told
-enum-told c = search needs
-
-enum-told-2 : tie.Need-enum-told-2
-enum-told-2 c = search needs
-
-enum-known-encoding : tie.Need-enum-known-encoding
-enum-known-encoding c = search needs
-
-entry-size-requires : tie.Need-entry-size-requires
-entry-size-requires c κs = search needs
-
-returns : tie.Need-returns
-returns c = search needs
-
-returns-2 : tie.Need-returns-2
-returns-2 c = search needs
-
 returns-3 : tie.Need-returns-3
 returns-3 c = c .entry-size .ensures ∙ sym (ap sizeOf (c .before .before .encoding .given .1))
 
@@ -31,10 +13,10 @@ pub size-of-spec : {M : Type 1} → statement M
 size-of-spec =
     tie.close
     (tie.spec
-    enum-told
-    enum-told-2
-    enum-known-encoding
-    entry-size-requires
-    returns
-    returns-2
+    (λ c. search needs)
+    (λ c. search needs)
+    (λ c. search needs)
+    (λ c κs. search needs)
+    (λ c. search needs)
+    (λ c. search needs)
     returns-3)

@@ -24,12 +24,6 @@ held c = rw (c .level-part .ensures, own-part (c .before) .part) (own-part (c .b
 own-states-requires : tie.Need-own-states-requires
 own-states-requires c κs = some (c .before .before .pre)
 
-enum-known-states : tie.Need-enum-known-states
-enum-known-states c = search needs
-
-enum-told : tie.Need-enum-told
-enum-told c = search needs
-
 returns : tie.Need-returns
 returns c =
     stored-mark _ _ _ _ (sym (c .before .before .own-states .ensures) ∙ c .enum-told .given .1)
@@ -55,9 +49,6 @@ returns-3 c =
 write-text-requires : tie.Need-write-text-requires
 write-text-requires c κs = (held (c .before .before .before .before), c .before .if2 .left)
 
-same-length : tie.Need-same-length
-same-length c = search needs
-
 returns-4 : tie.Need-returns-4
 returns-4 c =
     let l = c .before .before .before .before .before .before .before in
@@ -70,13 +61,13 @@ store-text-spec =
     tie.close
     (tie.spec
     own-states-requires
-    enum-known-states
-    enum-told
+    (λ c. search needs)
+    (λ c. search needs)
     returns
     level-part-requires
     has-bad-code-requires
     returns-2
     returns-3
     write-text-requires
-    same-length
+    (λ c. search needs)
     returns-4)
