@@ -15,12 +15,11 @@ use borrow.Author.Tests.{le-ltb}
 use Rattle.value.specs.declared.States.{States}
 use Rattle.value.specs.declared.States.the-variants.{Two}
 use Rattle.value.specs.Slice.{part, same, overlay}
-use Rattle.value.specs.Level.{codesOf}
 use Rattle.value.proofs.Slices.{same-sound, same-refl}
 use Rattle.value.proofs.Tests.{to-T, from-T, and-left, and-right, and-both}
 use Rattle.fst.specs.declared.Encoding.the-variants.{BitVector}
 use Rattle.fst.specs.declared.Description.{Description}
-use Rattle.fst.specs.Refusal.{refused, given, _⇐_, tried, Outcome}
+use Rattle.fst.specs.Refusal.{refused, given, _⇐_, tried}
 use Rattle.layout.specs.Entry.{entrySize}
 use Rattle.fst.specs.Record.{Lent, Kept, usedSize, keptIn, keptOf, isBad, isBadBytes}
 use Rattle.runs.specs.All.{All}
@@ -34,7 +33,7 @@ use Rattle.runs.proofs.Runs as runs
 use Rattle.runs.proofs.Demand3.{run-is-laid-out}
 use Rattle.signal.specs.Decode.{Indexed, entryAt, entriesIn, setIn, hasBadMark, hasBadCode, textIn}
 use Rattle.signal.specs.Compare.{sameValue, agree, walked, compareRecords}
-use Rattle.signal.specs.Read.{readText}
+use Rattle.signal.specs.Read.{textLeft, readText}
 use Rattle.signal.specs.Parts.{textStored}
 use Rattle.signal.proofs.Reading.{entry-within, text-on}
 use Rattle.signal.proofs.Entries.{entries-count, entry-is}
@@ -128,12 +127,11 @@ itself (s ∷ l) =
 module _ (w : ℕ) (pos : 1 ≤ w) where
   pub entry-tells : (M : States) (s : Step) → Sound w M s → Tells w M (entryFor w M s) s
   entry-tells M s h =
-      let cs = codesOf (s .string) in
       record {
-        mark = mark-sound w pos M (s .set) cs (h .codes) (h .within);
-        set = set-back w pos M (s .set) cs (h .codes) (h .within);
-        code = code-sound w pos M (s .set) cs (h .codes) (h .within) (h .letters);
-        text = text-back w pos M (s .set) (s .string) (h .codes) (h .within) (h .letters);
+        mark = mark-sound pos M (h .codes) (h .within);
+        set = set-back pos M (h .codes) (h .within);
+        code = code-sound pos M (h .codes) (h .within) (h .letters);
+        text = text-back pos M (s .string) (h .codes) (h .within) (h .letters);
       }
 
   -- entry k of a list laid out
@@ -152,7 +150,7 @@ module _ (w : ℕ) (pos : 1 ≤ w) where
   pub text-laid : (M : States) (l : List Step) → All (Sound w M) l → (k : ℕ) (s : Step) → k < length l
       → (d : Description) → d .encoding ≡ BitVector w M → d .count ≡ length l → (bytes : List ℕ) (start : ℕ) (out : List ℕ)
       → part start (usedSize d) bytes ≡ (laidOut w M l) .bytes → isBadBytes d start bytes ≡ false → w ≤ length out
-      → _≡_ {A = Outcome (List ℕ)} (readText d bytes start k out) (record { refused = 0; left = overlay out 0 ((getD l k s) .string) })
+      → readText d bytes start k out ≡ textLeft 0 (overlay out 0 ((getD l k s) .string))
   unfolding laidOut textStored tried
   text-laid M l e k s h d v c bytes start out q b n =
       let p : k < d .count = rw c h in

@@ -9,32 +9,32 @@ use native.Mathlib.Nat.{mul-le-mul-right, suc-mul}
 use native.Mathlib.Omega.{arith}
 use denote.Enum.Declared.{tagOf}
 use types.Run.{OneOf}
-use lib.Dec.{ltb, leb, leb→le}
+use lib.Dec.{ltb}
 use lib.ListN.{length, drop, length-drop}
 use borrow.Author.Tests.{ltb-false, lt-ltb, le-ltb, le-leb, lt-leb}
 use Rattle.value.specs.declared.States.{States}
 use Rattle.value.specs.declared.States.the-variants.{Two}
 use Rattle.value.specs.Slice.{part, overlay}
 use Rattle.value.specs.Level.{markOf, lenOf, setAt, hasNoCode, textOf}
-use Rattle.value.proofs.Tests.{to-T, and-left, and-right}
 use Rattle.value.proofs.Levels.{mark-set, mark-small}
 use Rattle.value.proofs.Slices.{part-length}
 use Rattle.fst.specs.declared.Encoding.{Encoding}
 use Rattle.fst.specs.declared.Encoding.the-variants.{Event, Real, BitVector}
 use Rattle.fst.proofs.Encoding.{the-type}
 use Rattle.fst.specs.declared.Description.{Description}
-use Rattle.fst.specs.Refusal.{Reply, refused, given, _⇐_, tried, Outcome}
+use Rattle.fst.specs.Refusal.{Reply, refused, given, _⇐_, tried}
 use Rattle.layout.specs.Entry.{entrySize}
 use Rattle.fst.specs.Record.{sizeOf, usedSize, widthStands, isBadBytes}
 use Rattle.layout.proofs.Sizes.{size-pos}
 use Rattle.layout.proofs.EntryParts.{len-fits}
+use Rattle.fst.proofs.Adding.{width-known}
 use Rattle.fst.proofs.LastEntry.{part-part}
 use Rattle.fst.proofs.Rooms.{stands}
 use Rattle.signal.specs.declared.OwnStates.the-variants as own
 use Rattle.signal.specs.declared.EntryAnswer.the-variants as answer
 use Rattle.signal.specs.Decode.{entryAt, markIn, setIn, levelPart, levelsIn, hasBadMark, hasBadCode, codesAt}
 use Rattle.fst.specs.declared.Refusal.the-variants.{BadMark}
-use Rattle.signal.specs.Read.{Entry, kindOf, entryIn, readEntry, partOf, replyOf, hasNoText, readText}
+use Rattle.signal.specs.Read.{Entry, kindOf, entryIn, readEntry, partOf, replyOf, hasNoText, textLeft, readText}
 use Rattle.signal.specs.Parts.{ownStates, ownIn, Levels, Whole, Inside, answerIn, partIn, textStored}
 
 -- ---- one entry of a bit vector
@@ -85,14 +85,8 @@ pub bad-told : (w : ℕ) (M : States) (v : List ℕ) → ownStates M v ≡ own.B
 bad-told w M v h = bad-own (BitVector w M) v (sym (own-vector (BitVector w M) v refl) ∙ h)
 
 module _ {w : ℕ} {M : States} {v : List ℕ} (h : Whole (BitVector w M) v) where
-  wide : (1 ≤ w) × (w ≤ 4096)
-  unfolding widthStands
-  wide =
-      let t = to-T _ (h .width) in
-      (leb→le 1 w (and-left (leb 1 w) (leb w 4096) t), leb→le w 4096 (and-right (leb 1 w) (leb w 4096) t))
-
   pub some : 0 < length v
-  some = rw (h .long) (size-pos w (wide .0) M)
+  some = rw (h .long) (size-pos w (width-known M (h .width) .0) M)
 
   pub owned : {S : States} → ownStates M v ≡ own.Own S → Owned w M v S
   unfolding hasBadMark setIn levelPart levelsIn
@@ -107,7 +101,7 @@ module _ {w : ℕ} {M : States} {v : List ℕ} (h : Whole (BitVector w M) v) whe
         set = t .1;
         within = omega arith;
         part = rw (t .1, h .long);
-        levels = record { short = wide .1; long = rw (t .1, length-drop) (omega arith) };
+        levels = record { short = width-known M (h .width) .1; long = rw (t .1, length-drop) (omega arith) };
         codes = rw (t .1);
       }
 
@@ -194,20 +188,17 @@ no-text Event o = refl
 no-text Real o = refl
 no-text (BitVector w M) o = absurd (⊎-elim (λ z. omega arith) (λ z. omega arith) o)
 
-abbrev Left : Type 0
-Left = Outcome (List ℕ)
-
 module _ (d : Description) (bytes : List ℕ) (start k : ℕ) (out : List ℕ) where
-  pub text-bad : isBadBytes d start bytes ≡ true → _≡_ {A = Left} (record { refused = 2; left = out }) (readText d bytes start k out)
+  pub text-bad : isBadBytes d start bytes ≡ true → textLeft 2 out ≡ readText d bytes start k out
   unfolding readText tried
   text-bad h = rw h
 
   module _ (h : isBadBytes d start bytes ≡ false) where
-    pub text-none : hasNoText (d .encoding) ≡ true → _≡_ {A = Left} (record { refused = 3; left = out }) (readText d bytes start k out)
+    pub text-none : hasNoText (d .encoding) ≡ true → textLeft 3 out ≡ readText d bytes start k out
     unfolding readText tried
     text-none t = rw (h, t)
 
-    pub text-past : (w : ℕ) (M : States) → d .encoding ≡ BitVector w M → d .count ≤ k → _≡_ {A = Left} (record { refused = 8; left = out }) (readText d bytes start k out)
+    pub text-past : (w : ℕ) (M : States) → d .encoding ≡ BitVector w M → d .count ≤ k → textLeft 8 out ≡ readText d bytes start k out
     unfolding readText tried hasNoText
     text-past w M e p = rw (h, e, le-leb (d .count) k p)
 
@@ -216,7 +207,7 @@ pub text-on : {d : Description} {bytes : List ℕ} {start k : ℕ} → HasEntry 
 unfolding readText tried hasNoText textStored
 text-on {d} {k} h e q out = rw (q, h .sound, e, lt-leb (d .count) k (h .below))
 
-pub stored-mark : (w : ℕ) (M : States) (v out : List ℕ) → ownStates M v ≡ own.Bad → _≡_ {A = Left} (record { refused = 9; left = out }) (textStored w M v out)
+pub stored-mark : (w : ℕ) (M : States) (v out : List ℕ) → ownStates M v ≡ own.Bad → textLeft 9 out ≡ textStored w M v out
 unfolding textStored tried
 stored-mark w M v out e = rw (bad-told w M v e)
 
@@ -224,15 +215,15 @@ module _ {w : ℕ} {M S : States} {v levels : List ℕ} (o : Owned w M v S) (p :
   bad-codes : (b : Bool) → b ≡ hasNoCode (codesAt w S levels) → hasBadCode (BitVector w M) v ≡ b
   bad-codes b e = ap hasNoCode (sym (o .codes) ∙ ap (codesAt w S) (sym p)) ∙ sym e
 
-  pub stored-code : hasNoCode (codesAt w S levels) ≡ true → _≡_ {A = Left} (record { refused = 10; left = out }) (textStored w M v out)
+  pub stored-code : hasNoCode (codesAt w S levels) ≡ true → textLeft 10 out ≡ textStored w M v out
   unfolding textStored tried
   stored-code e = rw (o .sound, bad-codes true (sym e))
 
-  pub stored-short : hasNoCode (codesAt w S levels) ≡ false → length out < w → _≡_ {A = Left} (record { refused = 7; left = out }) (textStored w M v out)
+  pub stored-short : hasNoCode (codesAt w S levels) ≡ false → length out < w → textLeft 7 out ≡ textStored w M v out
   unfolding textStored tried
   stored-short e l = rw (o .sound, bad-codes false (sym e), lt-ltb (length out) w l)
 
   pub stored-all : hasNoCode (codesAt w S levels) ≡ false → w ≤ length out → {r : List ℕ} → r ≡ overlay out 0 (textOf (codesAt w S levels))
-      → _≡_ {A = Left} (record { refused = 0; left = r }) (textStored w M v out)
+      → textLeft 0 r ≡ textStored w M v out
   unfolding textStored tried
   stored-all e l q = rw (o .sound, bad-codes false (sym e), le-ltb (length out) w l, q, p, o .codes)

@@ -13,7 +13,7 @@ use Rattle.value.specs.Digits.{number, digits}
 use Rattle.value.specs.Slice.{part, overlay, same, any}
 use Rattle.value.specs.Level.{placeIn, letterOf}
 use Rattle.fst.specs.declared.Encoding.the-variants.{Event, Real, BitVector}
-use Rattle.fst.specs.Refusal.{Reply, refused, given, tried, Outcome}
+use Rattle.fst.specs.Refusal.{Reply, refused, given, tried}
 use Rattle.layout.specs.Entry.{entrySize}
 use Rattle.fst.specs.Record.{Kept, keptIn, widthStands, fitsBytes, fits, isBadBytes, isBad}
 use Rattle.fst.proofs.Rows.{around, lentBy, kept}
@@ -21,7 +21,7 @@ use Rattle.signal.specs.declared.Kind.the-variants as kind
 use Rattle.fst.specs.declared.NextIndex.{NextIndex}
 use Rattle.fst.specs.declared.NextIndex.the-variants.{Absent, At}
 use Rattle.signal.specs.Decode.{entryAt, entriesFrom, markIn, setIn, levelPart, levelsIn, hasBadMark}
-use Rattle.signal.specs.Read.{Entry, readEntry, hasNoText, readText}
+use Rattle.signal.specs.Read.{Entry, readEntry, hasNoText, textLeft, readText}
 use Rattle.signal.specs.Compare.{sameReal, sameValue, walked, compareRecords}
 use Rattle.signal.specs.Offset.{falls, greatest, runOf, Place, none, at, placeOf, place, lookUp}
 
@@ -71,7 +71,7 @@ Reads : Shows → Type 0
 Reads s =
     let r = around 5 5 (s .of) in
     (readEntry (r .description) (r .bytes) 2 (s .entry) ≡ s .read)
-    × _≡_ {A = Outcome (List ℕ)} (readText (r .description) (r .bytes) 2 (s .entry) (chars "....")) (record { refused = s .refused; left = chars (s .text) })
+    × (readText (r .description) (r .bytes) 2 (s .entry) (chars "....") ≡ textLeft (s .refused) (chars (s .text)))
 
 AllRead : List Shows → Type 0
 AllRead [] = Unit

@@ -54,6 +54,10 @@ abbrev pub replyOf : EntryAnswer → List ℕ → Reply Entry
 replyOf (answer.Entry k s) p = given (record { kind = k; set = s; part = p })
 replyOf (answer.Refused r) p = refused (number r)
 
+-- what Text leaves, by its number and the text slice as it is then
+abbrev pub textLeft : ℕ → List ℕ → Outcome (List ℕ)
+textLeft n out = record { refused = n; left = out }
+
 -- "As reading; a real or event is 3, tried after 2. 10: .. 7: the lent text slice is shorter than the width. .. bytes past the width unaltered"
 unfoldable pub readText : Description → List ℕ → ℕ → ℕ → List ℕ → Outcome (List ℕ)
 readText d bytes start k out =

@@ -115,7 +115,7 @@ fn same_codes(
     true
 }
 
-// Number 9 or 10 of an entry.
+// Tries an entry for 9, then 10.
 fn try_entry(encoding: Encoding, entry: &[u8]) -> Verdict
     requires { ⌜ Whole encoding (now entry) ⌝ }
     ensures { λ r. ⌜ numberOf r ≡ badNumber encoding (now (entry .entry)) ⌝ }

@@ -1,13 +1,11 @@
 // Read an entry, and Text of an entry, after wellen's `get_value_at` and `bit_string`.
 ghost use mathlib.Core.Path.{_≡_};
-ghost use mathlib.Core.List.{List};
-ghost use Prim.Native.Nat.{ℕ};
 ghost use Rattle.fst.specs.declared.Encoding.the-variants.{BitVector};
 ghost use Rattle.fst.specs.Record.{sizeOf};
-ghost use Rattle.fst.specs.Refusal.{Outcome, numberOf};
+ghost use Rattle.fst.specs.Refusal.{numberOf};
 ghost use Rattle.signal.specs.Decode.{entryAt};
 ghost use Rattle.signal.specs.Parts.{Whole, Inside, ownIn, answerIn, partIn, textStored};
-ghost use Rattle.signal.specs.Read.{kindOf, readEntry, replyOf, partOf, readText};
+ghost use Rattle.signal.specs.Read.{kindOf, readEntry, replyOf, partOf, textLeft, readText};
 use crate::EntryAnswer;
 use crate::Kind;
 use crate::OwnStates;
@@ -150,7 +148,7 @@ pub fn entry_part<'a>(
 // Text of an entry's bytes: 9, 10 and 7, and only then the characters are stored.
 fn store_text(width: u32, max_states: States, entry: &[u8], out: &mut [u8]) -> Verdict
     requires { ⌜ Whole (BitVector width «max_states») (now entry) ⌝ }
-    ensures { λ r. ⌜ _≡_ {A = Outcome (List ℕ)} (record { refused = numberOf r; left = now (out .exit) }) (textStored width «max_states» (now (entry .entry)) (now (out .entry))) ⌝ }
+    ensures { λ r. ⌜ textLeft (numberOf r) (now (out .exit)) ≡ textStored width «max_states» (now (entry .entry)) (now (out .entry)) ⌝ }
 {
     let OwnStates::Own(states) = own_states(max_states, entry) else {
         return Verdict::Refused(Refusal::BadMark);
@@ -173,7 +171,7 @@ pub fn read_text(
     entry: u32,
     out: &mut [u8],
 ) -> Verdict
-    ensures { λ r. ⌜ _≡_ {A = Outcome (List ℕ)} (record { refused = numberOf r; left = now (out .exit) }) (readText description (now (bytes .entry)) «byte_start» entry (now (out .entry))) ⌝ }
+    ensures { λ r. ⌜ textLeft (numberOf r) (now (out .exit)) ≡ readText description (now (bytes .entry)) «byte_start» entry (now (out .entry)) ⌝ }
 {
     if is_bad_bytes(description, bytes, byte_start) {
         return Verdict::Refused(Refusal::BadRecord);
