@@ -97,19 +97,19 @@ pub record Split (w : ℕ) (S : States) (levels : List ℕ) (i k : ℕ) : Type 0
   pub within : k ≤ length levels
   pub rest : i + perByte S * (length levels - k) ≡ w
 
-module _ (w : ℕ) (levels : List ℕ) where
+module _ {w : ℕ} {levels : List ℕ} where
   split-first : (S : States) → Levels w S levels → Split w S levels (w % perByte S) (lenOf (w % perByte S) S)
   split-first Two h = record { small = omega arith; within = omega (arith, h .long); rest = omega (arith, h .long) }
   split-first Four h = record { small = omega arith; within = omega (arith, h .long); rest = omega (arith, h .long) }
   split-first Nine h = record { small = omega arith; within = omega (arith, h .long); rest = omega (arith, h .long) }
 
   -- by numbers that are these
-  pub split-told : (S : States) (p k : ℕ) → Levels w S levels → p ≡ perByte S → k ≡ lenOf (w % p) S → Split w S levels (w % p) k
-  split-told S p k h e f = rw (f, e) (split-first S h)
+  pub split-told : {S : States} {p k : ℕ} → Levels w S levels → p ≡ perByte S → k ≡ lenOf (w % p) S → Split w S levels (w % p) k
+  split-told {S} h e f = rw (f, e) (split-first S h)
 
-  split-codes : (S : States) {i k : ℕ} → Split w S levels i k → Below 256 levels
+  split-codes : {S : States} {i k : ℕ} → Split w S levels i k → Below 256 levels
       → codesAt w S levels ≡ digits (2 ^ bitsOf S) i (number 256 (take k levels)) ++ digits (2 ^ bitsOf S) (perByte S * length (drop k levels)) (number 256 (drop k levels))
-  split-codes S {i} {k} h b =
+  split-codes {S} {i} {k} h b =
       let B = 2 ^ bitsOf S in
       let xs = take k levels in
       let ys = drop k levels in
@@ -134,6 +134,10 @@ text-append out xs ys at i e h =
 text-length : (B i n : ℕ) → length (textOf (digits B i n)) ≡ i
 text-length B i n = length-map (digits B i n) letterOf ∙ digits-length B i n
 
+-- one byte more
+per-more : (S : States) (k : ℕ) → perByte S * (k + 1) ≡ perByte S * k + perByte S
+per-more S k = rw (add-one) (mul-suc (perByte S) k)
+
 -- after k full bytes, stored from a place on
 pub record Stored (S : States) (levels first : List ℕ) (at i k : ℕ) (out : List ℕ) : Type 0 where
   pub within : k ≤ length levels
@@ -141,7 +145,7 @@ pub record Stored (S : States) (levels first : List ℕ) (at i k : ℕ) (out : L
   pub text : out ≡ overlay first at (textOf (digits (2 ^ bitsOf S) (perByte S * k) (number 256 (take k levels))))
   pub long : length out ≡ length first
 
-module _ (S : States) (levels first : List ℕ) (at : ℕ) where
+module _ {S : States} {levels first : List ℕ} {at : ℕ} where
   pub stored-none : Stored S levels first at at 0 first
   unfolding digits
   stored-none =
@@ -153,30 +157,26 @@ module _ (S : States) (levels first : List ℕ) (at : ℕ) where
         long = refl;
       }
 
-  -- one byte more
-  more : (k : ℕ) → perByte S * (k + 1) ≡ perByte S * k + perByte S
-  more k = rw (add-one) (mul-suc (perByte S) k)
-
   module _ (room : at + perByte S * length levels ≤ length first) {i k : ℕ} {out : List ℕ} (h : Stored S levels first at i k out) (l : k < length levels) where
     pub stored-room : i + perByte S ≤ length first
-    stored-room = omega (arith, h .place, more k, mul-le-mul-left (perByte S) l, more k)
+    stored-room = omega (arith, h .place, per-more S k, mul-le-mul-left (perByte S) l)
 
-    pub stored-on : Below 256 levels → (p : ℕ) (next : List ℕ) → p ≡ perByte S
+    pub stored-on : Below 256 levels → {p : ℕ} {next : List ℕ} → p ≡ perByte S
         → next ≡ overlay out i (textOf (digits (2 ^ bitsOf S) (perByte S) (getD levels k 0))) → Stored S levels first at (i + p) (k + 1) next
-    stored-on b p next e f =
+    stored-on b e f =
         let B = 2 ^ bitsOf S in
         let xs = digits B (perByte S * k) (number 256 (take k levels)) in
         let ys = digits B (perByte S) (getD levels k 0) in
         let n : at + length xs ≡ i = ap (λ (m : ℕ). at + m) (digits-length B (perByte S * k) (number 256 (take k levels))) ∙ sym (h .place) in
         record {
           within = omega arith;
-          place = omega (arith, h .place, more k);
+          place = omega (arith, h .place, per-more S k);
           text =
               f
               ∙ ap (λ (o : List ℕ). overlay o i (textOf ys)) (h .text)
               ∙ text-append first xs ys at i n (omega (arith, stored-room))
               ∙ ap (λ (cs : List ℕ). overlay first at (textOf cs))
-              (sym (byte-more S levels (perByte S * k) k l b) ∙ ap (λ (m : ℕ). digits B m (number 256 (take (k + 1) levels))) (sym (more k)));
+              (sym (byte-more S levels (perByte S * k) k l b) ∙ ap (λ (m : ℕ). digits B m (number 256 (take (k + 1) levels))) (sym (per-more S k)));
           long =
               ap length f
               ∙ overlay-length out (textOf ys) i (rw (text-length B (perByte S) (getD levels k 0), h .long) stored-room)
@@ -191,8 +191,8 @@ module _ (S : States) (levels first : List ℕ) (at : ℕ) where
       ∙ ap₂ (λ (n : ℕ) (v : List ℕ). overlay first at (textOf (digits (2 ^ bitsOf S) (perByte S * n) (number 256 v)))) e (take-all k levels l)
 
 -- the first byte's, and those of the full bytes
-module _ (w : ℕ) (S : States) (levels : List ℕ) {i k : ℕ} (h : Split w S levels i k) (out first : List ℕ) (r : w ≤ length out)
-    (j : ℕ) (d : k ≡ j) (e : first ≡ overlay out 0 (textOf (digits (2 ^ bitsOf S) i (number 256 (take j levels))))) where
+module _ {w : ℕ} {S : States} {levels : List ℕ} {i k j : ℕ} {first : List ℕ} (h : Split w S levels i k) (out : List ℕ) (r : w ≤ length out)
+    (d : k ≡ j) (e : first ≡ overlay out 0 (textOf (digits (2 ^ bitsOf S) i (number 256 (take j levels))))) where
   full : take (length levels - k) (drop k levels) ≡ drop k levels
   full = take-all (length levels - k) (drop k levels) (rw length-drop (omega arith))
 
@@ -203,10 +203,10 @@ module _ (w : ℕ) (S : States) (levels : List ℕ) {i k : ℕ} (h : Split w S l
       let g : length first ≡ length out = ap length e ∙ overlay-length out T 0 (omega (arith, t, h .rest)) in
       rw (full, length-drop k levels, g) (omega (arith, h .rest))
 
-  pub text-whole : Below 256 levels → (last : List ℕ)
+  pub text-whole : Below 256 levels → {last : List ℕ}
       → last ≡ overlay first i (textOf (digits (2 ^ bitsOf S) (perByte S * length (take (length levels - k) (drop k levels))) (number 256 (take (length levels - k) (drop k levels)))))
       → last ≡ overlay out 0 (textOf (codesAt w S levels))
-  text-whole b last f =
+  text-whole b f =
       let B = 2 ^ bitsOf S in
       let xs = digits B i (number 256 (take k levels)) in
       let ys = digits B (perByte S * length (drop k levels)) (number 256 (drop k levels)) in
@@ -215,7 +215,7 @@ module _ (w : ℕ) (S : States) (levels : List ℕ) {i k : ℕ} (h : Split w S l
       ∙ ap₂ (λ (o v : List ℕ). overlay o i (textOf (digits B (perByte S * length v) (number 256 v))))
       (e ∙ ap (λ (m : ℕ). overlay out 0 (textOf (digits B i (number 256 (take m levels))))) (sym d)) full
       ∙ text-append out xs ys 0 i n (omega (arith, h .rest))
-      ∙ ap (λ (cs : List ℕ). overlay out 0 (textOf cs)) (sym (split-codes w levels S h b))
+      ∙ ap (λ (cs : List ℕ). overlay out 0 (textOf cs)) (sym (split-codes h b))
 
 -- ---- codes 9 to 15
 
@@ -264,13 +264,13 @@ bad-one v h =
     ap (leb 9) (and-mask (getD v 0 0) 4 ∙ ap (λ (y : ℕ). y % 16) (number-one v h ∙ e)) ∙ sym (any-snoc isNoCode [] (n / 1 % 16))
 
 -- the codes of the first byte where it has but one, and of the full ones
-pub bad-whole : (w : ℕ) (S : States) (levels : List ℕ) → S ≡ Nine → Levels w S levels → Below 256 levels → (p q : Bool)
+pub bad-whole : {w : ℕ} {S : States} {levels : List ℕ} → S ≡ Nine → Levels w S levels → Below 256 levels → {p q : Bool}
     → p ≡ hasNoCode (digits 16 (w % 2) (number 256 (take (w % 2) levels))) → q ≡ any isBadByte (drop (w % 2) levels) → p || q ≡ hasNoCode (codesAt w S levels)
-bad-whole w S levels n h b p q e f =
+bad-whole {w} {S} {levels} n h b e f =
     let z : lenOf (w % 2) Nine ≡ w % 2 = omega arith in
-    let s : Split w Nine levels (w % 2) (w % 2) = rw z at (split-first w levels Nine (rw n at h)) in
+    let s : Split w Nine levels (w % 2) (w % 2) = rw z at (split-first Nine (rw n at h)) in
     let ys = drop (w % 2) levels in
     rw n
     (ap₂ (λ (s t : Bool). s || t) e (f ∙ bad-bytes ys (below-drop 256 levels b (w % 2)))
     ∙ sym (any-append isNoCode (digits 16 (w % 2) (number 256 (take (w % 2) levels))) (digits 16 (2 * length ys) (number 256 ys)))
-    ∙ ap (λ (cs : List ℕ). hasNoCode cs) (sym (split-codes w levels Nine s b)))
+    ∙ ap (λ (cs : List ℕ). hasNoCode cs) (sym (split-codes s b)))

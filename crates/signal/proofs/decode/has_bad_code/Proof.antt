@@ -42,10 +42,7 @@ has-bad-first-requires c κs = (omega arith, within c)
 returns-2 : tie.Need-returns-2
 returns-2 c =
     let e = c .before .before in
-    let s = e .before .before .before in
-    let a = s .args in
-    let v = now (a .levels) in
-    bad-whole (a .width) (a .states) v (nine e) (s .pre) (below e) true _ (sym (c .if2 .taken) ∙ c .before .has-bad-first .ensures) refl
+    bad-whole (nine e) (e .before .before .before .pre) (below e) (sym (c .if2 .taken) ∙ c .before .has-bad-first .ensures) refl
 
 sub-has-bad-byte : tie.Need-sub-has-bad-byte
 sub-has-bad-byte c = within (c .before .before)
@@ -62,7 +59,7 @@ returns-3 c =
     let v = now (a .levels) in
     let n = a .width % 2 in
     let t = take-all (length v - n) (drop n v) (rw length-drop (omega arith)) in
-    bad-whole (a .width) (a .states) v (nine e) (s .pre) (below e) false _ (sym (f .if2 .left) ∙ f .before .has-bad-first .ensures)
+    bad-whole (nine e) (s .pre) (below e) (sym (f .if2 .left) ∙ f .before .has-bad-first .ensures)
     (c .has-bad-byte .ensures ∙ ap (any isBadByte) t)
 
 pub has-bad-code-spec : {M : Type 1} → statement M

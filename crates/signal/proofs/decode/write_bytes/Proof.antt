@@ -20,18 +20,14 @@ cast-per-byte : tie.Need-cast-per-byte Inv-loop μ-loop
 cast-per-byte c = omega (arith, c .bits-in-a-byte .ensures, per-some (c .before .before .before .args .states))
 
 loop-holds : tie.Need-loop-holds Inv-loop μ-loop
-loop-holds c =
-    let s = c .before .before .before in
-    stored-none (s .args .states) (now (s .args .levels)) (now (s .args .out)) (s .args .at)
+loop-holds c = stored-none
 
 -- the function's entry
 abbrev start : tie.At-loop Inv-loop μ-loop → tie.Start Inv-loop μ-loop
 start a = a .before .before .before .before
 
 room : (c : tie.In-loop Inv-loop μ-loop) → let s = start (c .before) in c .before .loop .i + perByte (s .args .states) ≤ length (now (s .args .out))
-room c =
-    let s = start (c .before) in
-    stored-room (s .args .states) (now (s .args .levels)) (now (s .args .out)) (s .args .at) (s .pre) (c .before .loop .inv) (c .loop-test .taken)
+room c = stored-room (start (c .before) .pre) (c .before .loop .inv) (c .loop-test .taken)
 
 write-byte-requires : tie.Need-write-byte-requires Inv-loop μ-loop
 write-byte-requires c κs = omega (arith, room (c .before .before), c .before .before .before .loop .inv .long)
@@ -46,18 +42,14 @@ loop-again c =
     let k = c .before .before .before .before in
     let l = k .before .before in
     let s = start l in
-    let v = now (s .args .levels) in
-    stored-on (s .args .states) v (now (s .args .out)) (s .args .at) (s .pre) (l .loop .inv) (k .before .loop-test .taken)
-    (below-all 256 v (λ i. omega (arith, k .shared-slice-known2 .given i))) _ _ (l .before .bits-in-a-byte .ensures) (c .before .before .write-byte .ensures)
+    stored-on (s .pre) (l .loop .inv) (k .before .loop-test .taken)
+    (below-all 256 (now (s .args .levels)) (λ i. omega (arith, k .shared-slice-known2 .given i))) (l .before .bits-in-a-byte .ensures) (c .before .before .write-byte .ensures)
 
 same-length : tie.Need-same-length Inv-loop μ-loop
 same-length c = c .before .loop .inv .long
 
 returns : tie.Need-returns Inv-loop μ-loop
-returns c =
-    let l = c .before in
-    let s = start l in
-    stored-end (s .args .states) (now (s .args .levels)) (now (s .args .out)) (s .args .at) (l .loop .inv) (c .loop-test .left)
+returns c = stored-end (c .before .loop .inv) (c .loop-test .left)
 
 pub write-bytes-spec : {M : Type 1} → statement M
 write-bytes-spec =

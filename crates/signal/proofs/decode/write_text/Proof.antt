@@ -19,9 +19,7 @@ parted : (c : tie.After-bits-in-a-byte)
     → let a = c .before .before .before .args in
     (k : ℕ) → k ≡ lenOf (a .width % c .bits-in-a-byte .result) (a .states)
     → Split (a .width) (a .states) (now (a .levels)) (a .width % c .bits-in-a-byte .result) k
-parted c k e =
-    let s = c .before .before .before in
-    split-told (s .args .width) (now (s .args .levels)) (s .args .states) _ k (s .pre .0) (c .bits-in-a-byte .ensures) e
+parted c k e = split-told (c .before .before .before .pre .0) (c .bits-in-a-byte .ensures) e
 
 write-first-requires : tie.Need-write-first-requires
 write-first-requires c κs =
@@ -49,19 +47,14 @@ cast-write-bytes c =
 write-bytes-requires : tie.Need-write-bytes-requires
 write-bytes-requires c κs =
     let w = c .before .before .before .before in
-    let s = w .before .before .before .before .before in
-    let a = s .args in
-    text-room (a .width) (a .states) (now (a .levels)) (behind w) (now (a .out)) _ (s .pre .1) _ (w .write-first .ensures .0) (w .write-first .ensures .1)
+    text-room (behind w) _ (w .before .before .before .before .before .pre .1) (w .write-first .ensures .0) (w .write-first .ensures .1)
 
 returns : tie.Need-returns
 returns c =
     let w = c .before .before .before .before .before .before .before in
     let k = w .before .before .before .before in
-    let s = k .before in
-    let a = s .args in
-    let v = now (a .levels) in
-    text-whole (a .width) (a .states) v (behind w) (now (a .out)) _ (s .pre .1) _ (w .write-first .ensures .0) (w .write-first .ensures .1)
-    (below-all 256 v (λ i. omega (arith, k .shared-slice-known .given i))) _ (c .before .before .write-bytes .ensures)
+    text-whole (behind w) _ (k .before .pre .1) (w .write-first .ensures .0) (w .write-first .ensures .1)
+    (below-all 256 (now (k .before .args .levels)) (λ i. omega (arith, k .shared-slice-known .given i))) (c .before .before .write-bytes .ensures)
 
 pub write-text-spec : {M : Type 1} → statement M
 write-text-spec =

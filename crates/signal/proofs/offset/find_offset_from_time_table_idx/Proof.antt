@@ -35,10 +35,7 @@ returns : tie.Need-returns
 returns c =
     let at-start = c .before .before in
     let at-search = at-start .before .before in
-    let a = at-search .before .before .args in
-    place-found
-    (a .needle)
-    (a .indices .now)
+    place-found _ _
     (last-greatest (at-search .before .before .pre .rises) (at-search .binary-search .ensures))
     (at-start .find-start .ensures)
     (c .before .run-length .ensures)

@@ -14,15 +14,10 @@ use Rattle.signal.proofs.offset.get_offset.Statement.{statement}
 use Rattle.signal.proofs.offset.get_offset.Tie as tie
 
 returns : tie.Need-returns
-returns c =
-    let a = c .before .before .args in
-    sym (look-up-long (a .indices .now) (a .time-table-idx) (c .if1 .taken))
+returns c = sym (look-up-long _ _ (c .if1 .taken))
 
 returns-2 : tie.Need-returns-2
-returns-2 c =
-    let at-test = c .before .before in
-    let a = at-test .before .before .args in
-    sym (look-up-falling (a .indices .now) (a .time-table-idx) (at-test .if1 .left) (sym (c .before .falls .ensures) ∙ c .if2 .taken))
+returns-2 c = sym (look-up-falling _ _ (c .before .before .if1 .left) (sym (c .before .falls .ensures) ∙ c .if2 .taken))
 
 -- behind both tests
 rises : (c : tie.Else2) → falls (c .before .before .before .before .args .indices .now) ≡ false
@@ -31,17 +26,14 @@ rises c = sym (c .before .falls .ensures) ∙ c .if2 .left
 reply : (c : tie.Else2) →
     let a = c .before .before .before .before .args in
     lookUp (a .indices .now) (a .time-table-idx) ≡ given (place (a .time-table-idx) (a .indices .now))
-reply c =
-    let at-test = c .before .before in
-    let a = at-test .before .before .args in
-    look-up-rising (a .indices .now) (a .time-table-idx) (at-test .if1 .left) (rises c)
+reply c = look-up-rising _ _ (c .before .before .if1 .left) (rises c)
 
 returns-3 : tie.Need-returns-3
 returns-3 c =
     let at-get = c .before .before in
     let a = at-get .before .before .before .before .before .args in
     let none = head-none (a .indices .now) 0 (sym (at-get .get .ensures) ∙ c .enum-told .given .1) in
-    sym (reply (at-get .before) ∙ ap given (place-empty (a .time-table-idx) (a .indices .now) (omega arith)))
+    sym (reply (at-get .before) ∙ ap given (place-empty _ _ (omega arith)))
 
 -- the list has a first index
 first : (c : tie.After-known-told) →
@@ -53,10 +45,8 @@ first c =
 
 returns-4 : tie.Need-returns-4
 returns-4 c =
-    let at-get = c .before .before .before .before in
-    let a = at-get .before .before .before .before .before .args in
     let f = first (c .before) in
-    sym (reply (at-get .before) ∙ ap given (place-above (a .time-table-idx) (a .indices .now) (f .0) (omega (arith, f .1, c .if3 .taken))))
+    sym (reply (c .before .before .before .before .before) ∙ ap given (place-above _ _ (f .0) (omega (arith, f .1, c .if3 .taken))))
 
 find-offset-from-time-table-idx-requires : tie.Need-find-offset-from-time-table-idx-requires
 find-offset-from-time-table-idx-requires c κs =
@@ -65,12 +55,10 @@ find-offset-from-time-table-idx-requires c κs =
 
 returns-5 : tie.Need-returns-5
 returns-5 c =
-    let at-get = c .before .before .before .before .before in
-    let a = at-get .before .before .before .before .before .args in
     let f = first (c .before .before) in
     sym
-    (reply (at-get .before)
-    ∙ ap given (place-reached (a .time-table-idx) (a .indices .now) (f .0) (omega (arith, f .1, c .before .if3 .left)) ∙ ap at (sym (c .find-offset-from-time-table-idx .ensures))))
+    (reply (c .before .before .before .before .before .before)
+    ∙ ap given (place-reached _ _ (f .0) (omega (arith, f .1, c .before .if3 .left)) ∙ ap at (sym (c .find-offset-from-time-table-idx .ensures))))
 
 pub get-offset-spec : {M : Type 1} → statement M
 get-offset-spec =
