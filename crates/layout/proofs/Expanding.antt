@@ -6,7 +6,7 @@ use native.Mathlib.Nat.{suc-mul, add-zero, add-assoc, zero-mul, mul-le-mul-left,
 use native.Mathlib.Numerals.{add-one}
 use native.Mathlib.Omega.{arith}
 use mathlib.Core.Bool.{Bool, true, false, cond}
-use mathlib.Core.List.{List, [], _∷_, _++_}
+use mathlib.Core.List.{List, _∷_, _++_}
 use lib.Bits.{bitAnd, and-zero-r, and-mask, and-high}
 use lib.ListN.{length, take, drop, getD, set, replicate, length-append, length-drop, length-replicate}
 use lib.Seq.{drop-cons, length-take-le}

@@ -4,7 +4,6 @@ use mathlib.Core.Path.{_≡_, refl, sym, ap, ap₂, _∙_}
 use mathlib.Core.List.{List, [], _∷_}
 use Prim.Native.Nat.{ℕ, suc, _+_, _-_, _*_, _^_, _/_, _%_, _≤_, _<_}
 use native.Mathlib.Nat.{mul-le-mul-left, zero-mul, zero-add, pow-suc, div-one, div-div-eq-div-mul}
-use native.Mathlib.Numerals.{add-one}
 use native.Mathlib.Omega.{arith}
 use lib.Dec.{eqb}
 use borrow.Author.Tests.{eq-eqb, ne-eqb}
@@ -23,7 +22,7 @@ use Rattle.value.proofs.Backward.{below-part, part-cons, store-front}
 use Rattle.wavemem.specs.Packed.{OneWord}
 use Rattle.wavemem.proofs.Packing.{length-codes}
 use Rattle.wavemem.proofs.Compare.{same-is, same-not}
-use Rattle.layout.specs.Entry.{entrySize, entryOf}
+use Rattle.layout.specs.Entry.{entrySize}
 use Rattle.layout.specs.Writable.{Writable, Numbered, entryFrom}
 use Rattle.layout.proofs.Sizes.{size-pos, len-le, mark-bits}
 use Rattle.layout.proofs.EntryLaws as laws

@@ -4,7 +4,7 @@ ghost use mathlib.Core.Bool.{_||_, false};
 ghost use Prim.Native.Nat.{_-_, _/_, _^_, _<_};
 ghost use lib.Dec.{eqb};
 ghost use lib.ListN.{length};
-ghost use Rattle.value.specs.Level.{codeOf, fold, letterOf, markOf, bitsOf, codesIn, lenOf};
+ghost use Rattle.value.specs.Level.{codeOf, fold, letterOf, markOf, bitsOf, lenOf};
 ghost use Rattle.value.specs.Level as level;
 ghost use Rattle.value.specs.Answer.{charCode, leastStates, holdsOne, holdsAll, levelAt, LevelIn};
 

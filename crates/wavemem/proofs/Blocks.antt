@@ -2,8 +2,8 @@
 -- Assumes nothing.
 use mathlib.Core.Path.{_≡_, refl, sym, ap, ap₂, _∙_}
 use mathlib.Core.Bool.{Bool, true, false, _&&_}
-use mathlib.Core.List.{List, [], _∷_}
-use Prim.Native.Nat.{ℕ, _+_, _-_, _*_, _/_, _%_, _^_, _≤_, _<_}
+use mathlib.Core.List.{List, [], _∷_, _++_, append-assoc}
+use Prim.Native.Nat.{ℕ, suc, _+_, _-_, _*_, _/_, _%_, _^_, _≤_, _<_}
 use native.Mathlib.Nat.{mod-eq-of-lt, zero-add}
 use native.Mathlib.Omega.{arith}
 use native.Mathlib.Numerals.{add-one}
@@ -11,19 +11,19 @@ use borrow.Author.Tests.{eqb-true, lt-ltb}
 use lib.Dec.{eqb, ltb}
 use lib.Bits.{mask-lt, and-mask, bitAnd, bitOr, bitXor, or-shifted, or-zero-r}
 use lib.Pow.{shl-exact}
-use lib.ListN.{length, getD, take, drop, set}
-use lib.Seq.{take-all, drop-cons}
-use Rattle.value.specs.declared.States.the-variants.{Four, Nine}
+use lib.ListN.{length, getD, take, drop, set, replicate}
+use lib.Seq.{length-take-le, take-suc, take-all}
+use Rattle.value.specs.declared.States.the-variants.{Four}
 use Rattle.value.specs.Digits.{number, digits, Below}
 use Rattle.value.specs.Slice.{part, overlay, same}
-use Rattle.value.specs.Level.{fold, foldAll, codeOf, codesOf, placeIn, lenOf}
+use Rattle.value.specs.Level.{fold, foldAll, codeOf, codesOf, placeIn}
 use Rattle.value.proofs.Classes.{each-byte}
 use Rattle.value.proofs.Digits.{number-lt, below-at}
 use Rattle.value.proofs.Backward.{below-part, part-cons, overlay-whole}
 use Rattle.value.proofs.Slices.{part-length, part-nil, overlay-one, overlay-store}
 use Rattle.wavemem.specs.Packed.{packedWith, packedFrom}
 use Rattle.wavemem.proofs.Words.{word-bytes}
-use Rattle.wavemem.proofs.Packing.{perByte, byte-at, Walk, next-stored, length-codes}
+use Rattle.wavemem.proofs.Packing.{length-codes, packed-length, packed-append, packed-one, next-stored}
 
 -- ---- the code of a character
 
@@ -52,27 +52,30 @@ module _ (l new : List ℕ) (long : length new ≡ length l) (k : ℕ) {out : Li
 
 -- ---- the byte of two levels
 
-pub two-levels : (cs : List ℕ) (k : ℕ) → Below 16 cs → length cs ≡ 32 → k < 16
-    → bitOr (getD cs (2 * k) 0 * 2 ^ 4 % 2 ^ 8) (getD cs (2 * k + 1) 0) ≡ getD (packedWith 4 0 cs) k 0
+pub pair-stored : (cs : List ℕ) → Below 16 cs → length cs ≡ 32 → (k : ℕ) → k < 16 → {out : List ℕ} → out ≡ overlay (replicate 16 0) 0 (packedWith 4 0 (take (2 * k) cs))
+    → set out k (bitOr (getD cs (2 * k) 0 * 2 ^ 4 % 2 ^ 8) (getD cs (2 * k + 1) 0)) ≡ overlay (replicate 16 0) 0 (packedWith 4 0 (take (2 * (k + 1)) cs))
 unfolding number
-two-levels cs k below l h =
+pair-stored cs below l k h so-far =
     let i = 2 * k in
     let x = getD cs i 0 in
     let y = getD cs (i + 1) 0 in
     let a : x < 2 ^ 4 = below-at 16 cs below i 0 (omega arith) in
     let b : y < 2 ^ 4 = below-at 16 cs below (i + 1) 0 (omega arith) in
-    let p : take (i + 2 - i) (drop i cs) ≡ x ∷ y ∷ [] =
-    ap (λ (n : ℕ). take n (drop i cs)) (let z : i + 2 - i ≡ 2 = omega arith in z)
-    ∙ ap (take 2)
-    (drop-cons cs i 0 (omega arith)
-    ∙ ap (λ (l : List ℕ). x ∷ l) (ap (λ (n : ℕ). drop n cs) (sym (add-one i)) ∙ drop-cons cs (i + 1) 0 (omega arith))) in
-    let walk : Walk (length cs) (perByte Nine) (lenOf (length cs) Nine) k i (i + 2) = rw l (record { within = omega arith; ends = omega arith; begins = omega arith }) in
-    rw (shl-exact {a = x} 4 4 8 a (omega arith), or-shifted x 4 y b)
-    (let e : x * 2 ^ 4 + y ≡ number 16 (x ∷ y ∷ []) = omega arith in
-    e
-    ∙ ap (number 16) (sym p)
-    ∙ sym (or-zero-r _)
-    ∙ byte-at Nine cs 0 below refl (omega arith) (λ g. absurd (omega arith)) k i (i + 2) 0 walk (rw l (omega arith)) (record { first = λ g. refl; later = λ g. refl }))
+    let n : length (packedWith 4 0 (take i cs)) ≡ k = packed-length 4 0 (take i cs) ∙ rw (length-take-le i cs (omega arith)) (omega arith) in
+    let z : 2 * (k + 1) ≡ suc (suc i) = omega arith in
+    let t : take (2 * (k + 1)) cs ≡ take i cs ++ (x ∷ y ∷ []) =
+    rw (z, take-suc cs (suc i) 0 (omega arith), take-suc cs i 0 (omega arith), append-assoc, ← add-one i) in
+    let r = bitOr (x * 2 ^ 4 % 2 ^ 8) y in
+    let e : r ≡ number 16 (x ∷ y ∷ []) = rw (shl-exact {a = x} 4 4 8 a (omega arith), or-shifted x 4 y b) (omega arith) in
+    let p : packedWith 4 0 (x ∷ y ∷ []) ≡ number 16 (x ∷ y ∷ []) ∷ [] =
+    packed-one 4 0 (x ∷ y ∷ []) (a, (b, tt)) (omega arith) (omega arith) refl (omega arith) (λ g. absurd (omega arith)) ∙ ap (λ (m : ℕ). m ∷ []) (or-zero-r _) in
+    ap (λ (o : List ℕ). set o k r) so-far
+    ∙ overlay-store (replicate 16 0) 0 (packedWith 4 0 (take i cs)) k r (rw (zero-add, n)) h
+    ∙ ap (overlay (replicate 16 0) 0)
+    (ap (λ (m : ℕ). packedWith 4 0 (take i cs) ++ (m ∷ [])) e
+    ∙ ap (λ (u : List ℕ). packedWith 4 0 (take i cs) ++ u) (sym p)
+    ∙ sym (packed-append 4 0 1 (take i cs) (x ∷ y ∷ []) (a, (b, tt)) refl (λ g. absurd (omega arith)))
+    ∙ ap (packedWith 4 0) (sym t))
 
 -- ---- eight characters as one word
 
@@ -112,13 +115,12 @@ two-stored l at a b h =
     ap (λ (o : List ℕ). set o (at + 1) b) (sym (overlay-one l at a (omega arith)))
     ∙ overlay-store l at (a ∷ []) (at + 1) b refl h
 
--- a comparison of two elements, and another one
-pub two-compared : (l : List ℕ) (at a b : ℕ) (t : Bool) → at + 1 < length l
-    → same (part at 2 l) (a ∷ b ∷ []) && t ≡ eqb (getD l at 0) a && (eqb (getD l (at + 1) 0) b && t)
+-- a comparison of two elements
+pub two-compared : (l : List ℕ) (at a b : ℕ) → at + 1 < length l → same (part at 2 l) (a ∷ b ∷ []) ≡ eqb (getD l at 0) a && eqb (getD l (at + 1) 0) b
 unfolding same
-two-compared l at a b t h = rw (part-cons l at 1 0 (omega arith), part-cons l (at + 1) 0 0 h, part-nil) (and-three (eqb (getD l at 0) a) (eqb (getD l (at + 1) 0) b))
+two-compared l at a b h = rw (part-cons l at 1 0 (omega arith), part-cons l (at + 1) 0 0 h, part-nil) (and-true (eqb (getD l at 0) a) (eqb (getD l (at + 1) 0) b))
   where
-    and-three : (p q : Bool) → (p && (q && true)) && t ≡ p && (q && t)
-    and-three true true = refl
-    and-three true false = refl
-    and-three false q = refl
+    and-true : (p q : Bool) → p && (q && true) ≡ p && q
+    and-true true true = refl
+    and-true true false = refl
+    and-true false q = refl

@@ -1,18 +1,17 @@
--- The working byte and the k-th byte of packed levels, which the functions that store and that compare them share.
+-- The working number and packed levels: those of one byte, those of two parts, and a first byte that is not full.
 -- Assumes nothing.
-use mathlib.Core.Path.{_≡_, refl, sym, ap, ap₂, _∙_, subst}
+use mathlib.Core.Path.{_≡_, refl, sym, ap, ap₂, _∙_}
 use mathlib.Core.Bool.{Bool, true, false, cond, _&&_}
-use mathlib.Core.List.{List, [], _∷_, _++_, map}
+use mathlib.Core.List.{List, [], _∷_, _++_, map-append}
 use Prim.Native.Nat.{ℕ, zero, suc, _+_, _-_, _*_, _/_, _%_, _^_, _≤_, _<_}
-use native.Mathlib.Nat.{pow-suc, zero-lt-suc, mod-eq-of-lt, add-mul, mul-assoc, suc-mul, zero-mul, zero-add, add-zero, add-comm, mul-le-mul-right, lt-of-lt-of-le, add-mul-div-right, add-mul-mod-self-right, div-lt-iff-lt-mul, pow-le-pow-right}
+use native.Mathlib.Nat.{zero-lt-suc, add-mul, mul-assoc, suc-mul, zero-mul, mul-le-mul-right, lt-of-lt-of-le}
 use native.Mathlib.Numerals.{add-one}
 use native.Mathlib.Omega.{arith}
-use lib.Dec.{eqb, leb}
-use lib.ListN.{length, getD, take, drop, set, length-append, length-set, length-map, length-drop, take-append-drop, List·getD-map}
-use lib.Seq.{length-take-le, take-add, take-suc, take-all, drop-at, drop-cons}
+use lib.Dec.{eqb}
+use lib.ListN.{length, getD, take, drop, set, length-append, length-map, length-drop, take-append-drop, List·getD-map}
+use lib.Seq.{length-take-le, take-add, take-suc, take-all, drop-cons}
 use lib.Bits.{bitOr, or-shifted, or-shifted-r, or-zero-r}
-use lib.Pow.{pow-add, pow-pos, pow-mono, shl-exact}
-use lib.Arith.{digits-mod}
+use lib.Pow.{pow-add, pow-mono, shl-exact}
 use borrow.Author.Tests.{lt-leb}
 use Rattle.value.specs.declared.States.{States}
 use Rattle.value.specs.declared.States.the-variants.{Two, Four, Nine}
@@ -23,12 +22,11 @@ use Rattle.value.specs.Slice.{part, overlay, same}
 use Rattle.value.specs.Level.{fold, foldAll, codeOf, codesOf, bitsOf, lenOf, isNoCode}
 use Rattle.value.specs.Answer.{charCode}
 use Rattle.value.proofs.Tests.{by-le}
-use Rattle.value.proofs.Slices.{part-length, part-at, overlay-nil, overlay-one, overlay-overlay, overlay-store}
-use Rattle.value.proofs.Levels.{len-bits}
+use Rattle.value.proofs.Slices.{overlay-nil, overlay-one, overlay-overlay, overlay-store}
+use Rattle.value.proofs.Levels.{len-bits, bits-pos}
 use Rattle.value.proofs.Classes.{lowBits, low-bits}
-use Rattle.value.proofs.Digits.{below-at, below-take, below-drop, pow-pow, number-lt, number-append, number-more, number-prefix, digits-at, digits-length, digits-append, base-pos}
-use Rattle.wavemem.proofs.Compare.{same-is, same-not}
-use Rattle.wavemem.specs.Packed.{packedWith, packedFrom, firstCount, Codes, OneWord, OneByte, FullByte, ByLowBits, Whole, Packable}
+use Rattle.value.proofs.Digits.{below-at, below-take, below-drop, pow-pow, number-lt, number-append, number-more, digits-length, digits-append}
+use Rattle.wavemem.specs.Packed.{packedWith, packedFrom, firstCount, Codes, OneWord, OneByte, ByLowBits, Whole, Packable}
 
 pub code-is : (c n : ℕ) → charCode c ≡ code.Code n → n ≡ codeOf (fold c)
 unfolding charCode
@@ -87,7 +85,7 @@ eight-more cs below short from working x h so-far is =
     let k : number 2 ys < 2 ^ 8 = rw m at (number-lt 2 ys (below-take 2 (drop from cs) (below-drop 2 cs below from) 8)) in
     rw (so-far, is, shl-exact {a = n} from 8 64 l (omega arith), or-shifted n 8 (number 2 ys) k, take-add from 8 cs, number-append 2 (take from cs) ys, m)
 
--- ---- the walk over the bytes
+-- ---- bytes and the levels that they hold
 
 -- how many levels a byte holds
 abbrev pub perByte : States → ℕ
@@ -97,6 +95,11 @@ pub per-bits : (s : States) → perByte s * bitsOf s ≡ 8
 per-bits Two = refl
 per-bits Four = refl
 per-bits Nine = refl
+
+pub per-pos : (s : States) → 0 < perByte s
+per-pos Two = omega arith
+per-pos Four = omega arith
+per-pos Nine = omega arith
 
 pub per-small : (s : States) → perByte s ≤ 8
 per-small Two = omega arith
@@ -109,145 +112,38 @@ spans w Two = omega arith
 spans w Four = omega arith
 spans w Nine = omega arith
 
--- before byte k of n: its levels are those from a place to another, p of them but for the first byte, of w
-pub record Walk (w p n k from to : ℕ) : Type 0 where
-  pub within : k ≤ n
-  pub ends : to + (n - k) * p ≡ w + p
-  pub begins : from ≡ to - p
+pub len-full : (m : ℕ) (s : States) → lenOf (m * perByte s) s ≡ m
+len-full m Two = omega arith
+len-full m Four = omega arith
+len-full m Nine = omega arith
 
-pub walk-start : (w : ℕ) (s : States) → Walk w (perByte s) (lenOf w s) 0 0 (w + perByte s - lenOf w s * perByte s)
-walk-start w s =
-    let h = spans w s in
-    let z : lenOf w s - 0 ≡ lenOf w s = omega arith in
-    record { within = omega arith; ends = rw z (omega arith); begins = omega arith }
+pub len-none : (s : States) → lenOf 0 s ≡ 0
+len-none s = rw (zero-mul (perByte s)) at (len-full 0 s)
 
-module _ {w p n k from to : ℕ} (walk : Walk w p n k from to) (more : k < n) where
-  -- the levels behind byte k
-  pub behind : to + (n - (k + 1)) * p ≡ w
-  behind =
-      let e : (n - k) * p ≡ (n - (k + 1)) * p + p = ap (λ (x : ℕ). x * p) (omega arith) ∙ suc-mul (n - (k + 1)) p in
-      omega (arith, walk .ends)
+-- the bits of levels that fill m bytes
+pub full-bits : (s : States) (w m : ℕ) → w ≡ m * perByte s → w * bitsOf s ≡ m * 8
+full-bits s w m e = rw (e, mul-assoc m (perByte s) (bitsOf s), per-bits s)
 
-  pub walk-on : Walk w p n (k + 1) to (to + p)
-  walk-on = record { within = omega arith; ends = omega (arith, behind); begins = omega arith }
-
-  pub to-within : to ≤ w
-  to-within = omega (arith, behind)
-
-  pub from-to : from ≤ to
-  from-to = omega (arith, walk .begins)
-
-  pub at-most : to - from ≤ p
-  at-most = omega (arith, walk .begins)
-
--- ---- the k-th byte
-
--- of the levels so far the last byte has those of the walk's last step
-piece : (B p : ℕ) (cs : List ℕ) (from to : ℕ) → B ^ p ≡ 256 → 0 < B → Below B cs → to ≤ length cs → from ≡ to - p
-    → number B (take to cs) % 256 ≡ number B (take (to - from) (drop from cs))
-unfolding number
-piece B p cs from to e q below h f =
-    let c = take (to - from) (drop from cs) in
-    let m : from + (to - from) ≡ to = omega arith in
-    let l : length c ≡ to - from = length-take-le (to - from) (drop from cs) (simp length-drop (omega arith)) in
-    let b : number B c < B ^ (to - from) = rw l at (number-lt B c (below-take B (drop from cs) (below-drop B cs below from) (to - from))) in
-    let n : number B (take to cs) ≡ number B (take from cs) * B ^ (to - from) + number B c =
-    ap (λ (x : ℕ). number B (take x cs)) (sym m) ∙ ap (number B) (take-add from (to - from) cs) ∙ number-append B (take from cs) c ∙ rw l in
-    by-le p to
-    (λ g.
-    let d : B ^ (to - from) ≡ 256 = ap (λ (x : ℕ). B ^ x) (omega arith) ∙ e in
-    rw (n, d) (digits-mod (number B (take from cs)) (rw d at b)))
-    (λ g.
-    let z : from ≡ 0 = omega arith in
-    let y : number B (take from cs) ≡ 0 = rw z in
-    let s : number B c < 256 = lt-of-lt-of-le b (subst (λ (x : ℕ). B ^ (to - from) ≤ x) e (pow-le-pow-right q (omega arith))) in
-    rw (n, y, zero-mul, zero-add) (mod-eq-of-lt s))
-
--- byte k of a number with meta data on top
-byte : (S meta N n j k first : ℕ) → k + suc j ≡ S → N / 256 ^ j ≡ n → (k ≡ 0 → first ≡ meta) → (0 < k → first ≡ 0)
-    → meta % 64 ≡ 0 → meta < 256 → (0 < meta → N < 64 * 256 ^ (S - 1))
-    → bitOr (n % 256) first ≡ getD (digits 256 S (meta * 256 ^ (S - 1) + N)) k 0
-byte S meta N n j zero first e q f g m l r =
-    let z : S - 1 ≡ j = omega arith in
-    let pos = base-pos 256 (zero-lt-suc 255) j in
-    let t : (meta * 256 ^ (S - 1) + N) / 256 ^ j ≡ n + meta =
-    rw (z, add-comm (meta * 256 ^ j) N, add-mul-div-right N meta pos, q) in
-    rw (digits-at 256 S (meta * 256 ^ (S - 1) + N) 0 j e, t, f refl)
-    (by-le 1 meta
-    (λ h.
-    let u : n < 64 = rw (← q) (div-lt-iff-lt-mul pos .1 (rw z at (r h))) in
-    let v : meta ≡ meta / 64 * 64 = omega arith in
-    rw (mod-eq-of-lt {n = n} {m = 256} (omega arith), mod-eq-of-lt {n = n + meta} {m = 256} (omega arith))
-    (ap (bitOr n) v ∙ or-shifted-r (meta / 64) 6 n u ∙ omega arith))
-    (λ h. let o : meta ≡ 0 = omega arith in rw (o, or-zero-r, add-zero)))
-byte S meta N n j (suc k) first e q f g m l r =
-    let z : S - 1 ≡ suc k + j = omega arith in
-    let t : (meta * 256 ^ (S - 1) + N) / 256 ^ j ≡ n + meta * 256 ^ k * 256 =
-    rw (z, pow-add 256 (suc k) j, pow-suc 256 k, ← mul-assoc meta (256 ^ k * 256) (256 ^ j), ← mul-assoc meta (256 ^ k) 256, add-comm (meta * 256 ^ k * 256 * 256 ^ j) N, add-mul-div-right N (meta * 256 ^ k * 256) (base-pos 256 (zero-lt-suc 255) j), q) in
-    rw (digits-at 256 S (meta * 256 ^ (S - 1) + N) (suc k) j e, t, g (zero-lt-suc k), or-zero-r, add-mul-mod-self-right)
-
--- the meta data of byte k
-pub record MetaAt (meta k now : ℕ) : Type 0 where
-  pub first : k ≡ 0 → now ≡ meta
-  pub later : 0 < k → now ≡ 0
-
-pub meta-start : (meta : ℕ) → MetaAt meta 0 meta
-meta-start meta = record { first = λ e. refl; later = λ h. omega arith }
-
-pub meta-on : (meta k : ℕ) → MetaAt meta (k + 1) 0
-meta-on meta k = record { first = λ e. omega arith; later = λ h. refl }
-
-module _ (s : States) (cs : List ℕ) (meta : ℕ) (below : Below (2 ^ bitsOf s) cs) (marked : meta % 64 ≡ 0) (fits : meta < 256)
-    (free : 0 < meta → length cs * bitsOf s + 2 ≤ 8 * lenOf (length cs) s) where
-  -- where meta data is set, the first byte has two bits free
-  top-free : (n : ℕ) → n ≡ lenOf (length cs) s → 0 < n → 0 < meta → number (2 ^ bitsOf s) cs < 64 * 256 ^ (n - 1)
-  top-free n e h m =
-      let f = free m in
-      rw (pow-pow 2 8 (n - 1), ← pow-add 2 6 ((n - 1) * 8))
-      (lt-of-lt-of-le (rw (pow-pow 2 (bitsOf s) (length cs)) at (number-lt (2 ^ bitsOf s) cs below)) (pow-mono (omega arith)))
-
-  pub byte-at : (k from to now : ℕ) → Walk (length cs) (perByte s) (lenOf (length cs) s) k from to → k < lenOf (length cs) s → MetaAt meta k now
-      → bitOr (number (2 ^ bitsOf s) (take (to - from) (drop from cs))) now ≡ getD (packedWith (bitsOf s) meta cs) k 0
-  unfolding packedWith
-  byte-at k from to now walk more m =
-      let b = bitsOf s in
-      let p = perByte s in
-      let n = lenOf (length cs) s in
-      let j = n - (k + 1) in
-      let whole : (2 ^ b) ^ p ≡ 256 = pow-pow 2 b p ∙ ap (λ (x : ℕ). 2 ^ x) (per-bits s) in
-      let far : 256 ^ j ≡ (2 ^ b) ^ (length cs - to) =
-      ap (λ (x : ℕ). x ^ j) (sym whole) ∙ pow-pow (2 ^ b) p j ∙ ap (λ (x : ℕ). (2 ^ b) ^ x) (omega (arith, behind walk more)) in
-      let q : number (2 ^ b) cs / 256 ^ j ≡ number (2 ^ b) (take to cs) = rw far (number-prefix (2 ^ b) cs to below) in
-      rw (← len-bits (length cs) s, ← piece (2 ^ b) p cs from to whole (pow-pos b) below (to-within walk more) (walk .begins))
-      (byte n meta (number (2 ^ b) cs) (number (2 ^ b) (take to cs)) j k now (omega arith) q (m .first) (m .later) marked fits (top-free n refl (omega arith)))
-
--- ---- the same of a string
+-- ---- the codes of a string
 
 pub length-codes : (v : List ℕ) → length (codesOf (foldAll v)) ≡ length v
 length-codes v = length-map (foldAll v) codeOf ∙ length-map v fold
 
-pub codes-part : (m f : ℕ) (v : List ℕ) → codesOf (foldAll (take m (drop f v))) ≡ take m (drop f (codesOf (foldAll v)))
-codes-part zero f v = refl
-codes-part (suc m) zero [] = refl
-codes-part (suc m) zero (c ∷ v) = ap (λ (l : List ℕ). codeOf (fold c) ∷ l) (codes-part m 0 v)
-codes-part (suc m) (suc f) [] = refl
-codes-part (suc m) (suc f) (c ∷ v) = codes-part (suc m) f v
+pub codes-drop : (f : ℕ) (v : List ℕ) → codesOf (foldAll (drop f v)) ≡ drop f (codesOf (foldAll v))
+codes-drop zero v = refl
+codes-drop (suc f) [] = refl
+codes-drop (suc f) (c ∷ v) = codes-drop f v
 
--- the codes of a part of a string
-pub part-codes : {s : States} (m f : ℕ) (v : List ℕ) → Codes s (codesOf (foldAll v)) → Codes s (codesOf (foldAll (take m (drop f v))))
-part-codes {s} m f v ok =
-    record {
-      known = rw codes-part (below-take 9 _ (below-drop 9 _ (ok .known) f) m);
-      below = rw codes-part (below-take (2 ^ bitsOf s) _ (below-drop (2 ^ bitsOf s) _ (ok .below) f) m);
-    }
+pub codes-take : (m : ℕ) (v : List ℕ) → codesOf (foldAll (take m v)) ≡ take m (codesOf (foldAll v))
+codes-take zero v = refl
+codes-take (suc m) [] = refl
+codes-take (suc m) (c ∷ v) = ap (λ (l : List ℕ). codeOf (fold c) ∷ l) (codes-take m v)
 
--- how many bytes levels take
-pub packed-length : (b meta : ℕ) (cs : List ℕ) → length (packedWith b meta cs) ≡ (length cs * b + 7) / 8
-unfolding packedWith
-packed-length b meta cs = digits-length 256 _ _
+pub drop-codes : {s : States} (f : ℕ) (v : List ℕ) → Codes s (codesOf (foldAll v)) → Codes s (codesOf (foldAll (drop f v)))
+drop-codes {s} f v ok = record { known = rw codes-drop (below-drop 9 _ (ok .known) f); below = rw codes-drop (below-drop (2 ^ bitsOf s) _ (ok .below) f) }
 
-pub packed-from-length : (s : States) (meta : ℕ) (v : List ℕ) → length (packedFrom s meta v) ≡ lenOf (length v) s
-packed-from-length s meta v = packed-length (bitsOf s) meta (codesOf (foldAll v)) ∙ sym (len-bits (length (codesOf (foldAll v))) s) ∙ rw length-codes
+pub take-codes : {s : States} (m : ℕ) (v : List ℕ) → Codes s (codesOf (foldAll v)) → Codes s (codesOf (foldAll (take m v)))
+take-codes {s} m v ok = record { known = rw codes-take (below-take 9 _ (ok .known) m); below = rw codes-take (below-take (2 ^ bitsOf s) _ (ok .below) m) }
 
 pub one-word : {s : States} {v : List ℕ} → OneByte s v → OneWord s v
 one-word ok = record { codes = ok .codes; short = omega (arith, ok .short) }
@@ -258,153 +154,18 @@ byte-small {s} {v} ok =
     lt-of-lt-of-le (rw (pow-pow 2 (bitsOf s) (length cs)) at (number-lt (2 ^ bitsOf s) cs (ok .codes .below)))
     (pow-mono {j = 8} (rw length-codes (ok .short)))
 
-module _ {s : States} {v : List ℕ} {room at meta : ℕ} (ok : Packable s v room at meta) where
-  module _ {k from to : ℕ} (walk : Walk (length v) (perByte s) (lenOf (length v) s) k from to) (more : k < lenOf (length v) s) where
-    pub one-byte : OneByte s (take (to - from) (drop from v))
-    one-byte =
-        let h = to-within walk more in
-        let l : length (take (to - from) (drop from v)) ≡ to - from = length-take-le (to - from) (drop from v) (simp length-drop (omega arith)) in
-        record {
-          codes = part-codes (to - from) from v (ok .codes);
-          short = rw l (omega (arith, mul-le-mul-right (bitsOf s) (at-most walk more), per-bits s));
-        }
-
-    -- what is stored and what is compared
-    pub is-byte : (now r : ℕ) → meta < 256 → MetaAt meta k now → r ≡ number (2 ^ bitsOf s) (codesOf (foldAll (take (to - from) (drop from v))))
-        → bitOr r now ≡ getD (packedFrom s meta v) k 0
-    is-byte now r fits m e =
-        let l = length-codes v in
-        rw (e, codes-part)
-        (byte-at s (codesOf (foldAll v)) meta (ok .codes .below) (ok .marked) fits (rw l (ok .free)) k from to now (rw l walk) (rw l more) m)
-
--- ---- bytes that are stored
-
--- one element more
-pub next-stored : (l new : List ℕ) (at k x d : ℕ) {out : List ℕ} → at + k < length l → k < length new → out ≡ overlay l at (take k new) → x ≡ getD new k d
-    → set out (at + k) x ≡ overlay l at (take (k + 1) new)
-next-stored l new at k x d h more so-far e =
-    ap₂ (λ (o : List ℕ) (y : ℕ). set o (at + k) y) so-far e
-    ∙ overlay-store l at (take k new) (at + k) (getD new k d) (ap (λ (i : ℕ). at + i) (length-take-le k new (omega arith))) h
-    ∙ ap (overlay l at) (sym (rw add-one (take-suc new k d more)))
-
-pub record Stored (s : States) (v d : List ℕ) (at meta : ℕ) (out : List ℕ) (now from to k : ℕ) : Type 0 where
-  pub walk : Walk (length v) (perByte s) (lenOf (length v) s) k from to
-  pub mark : MetaAt meta k now
-  pub bytes : out ≡ overlay d at (take k (packedFrom s meta v))
-  pub long : length out ≡ length d
-
-module _ {s : States} {v d : List ℕ} {at meta : ℕ} (ok : Packable s v (length d) at meta) where
-  pub stored-start : Stored s v d at meta d meta 0 (length v + perByte s - lenOf (length v) s * perByte s) 0
-  stored-start = record { walk = walk-start (length v) s; mark = meta-start meta; bytes = sym (overlay-nil d at); long = refl }
-
-  pub stored-on : {out : List ℕ} {now from to k : ℕ} (x : ℕ) → Stored s v d at meta out now from to k → k < lenOf (length v) s
-      → x ≡ getD (packedFrom s meta v) k 0 → Stored s v d at meta (set out (at + k) x) 0 to (to + perByte s) (k + 1)
-  stored-on {out} {now} {from} {to} {k} x h more e =
-      let P = packedFrom s meta v in
-      let n : length P ≡ lenOf (length v) s = packed-from-length s meta v in
-      let f = ok .fits in
-      record {
-        walk = walk-on (h .walk) more;
-        mark = meta-on meta k;
-        bytes = next-stored d P at k x 0 (omega arith) (omega arith) (h .bytes) e;
-        long = length-set out (at + k) x ∙ h .long;
-      }
-
-  pub stored-end : {out : List ℕ} {now from to k : ℕ} → Stored s v d at meta out now from to k → lenOf (length v) s ≤ k → out ≡ overlay d at (packedFrom s meta v)
-  stored-end {k = k} h left = h .bytes ∙ ap (overlay d at) (take-all k (packedFrom s meta v) (rw (packed-from-length s meta v) left))
-
--- ---- bytes that are compared
-
--- the bytes that are compared with those of a string
-abbrev there : States → List ℕ → List ℕ → ℕ → List ℕ
-there s v bytes at = part at (lenOf (length v) s) bytes
-
-pub record Agrees (s : States) (v bytes : List ℕ) (at meta now from to k : ℕ) : Type 0 where
-  pub walk : Walk (length v) (perByte s) (lenOf (length v) s) k from to
-  pub mark : MetaAt meta k now
-  pub equal : take k (there s v bytes at) ≡ take k (packedFrom s meta v)
-
-module _ (bytes : List ℕ) {s : States} {v : List ℕ} {at meta : ℕ} (ok : Packable s v (length bytes) at meta) where
-  there-length : length (there s v bytes at) ≡ lenOf (length v) s
-  there-length = part-length bytes at (lenOf (length v) s) (ok .fits)
-
-  pub agrees-start : Agrees s v bytes at meta meta 0 (length v + perByte s - lenOf (length v) s * perByte s) 0
-  agrees-start = record { walk = walk-start (length v) s; mark = meta-start meta; equal = refl }
-
-  pub agrees-on : {now from to k : ℕ} (x : ℕ) → Agrees s v bytes at meta now from to k → k < lenOf (length v) s → x ≡ getD (packedFrom s meta v) k 0
-      → getD bytes (at + k) 0 ≡ x → Agrees s v bytes at meta 0 to (to + perByte s) (k + 1)
-  agrees-on {k = k} x h more e g =
-      let P = packedFrom s meta v in
-      let n : length P ≡ lenOf (length v) s = packed-from-length s meta v in
-      record {
-        walk = walk-on (h .walk) more;
-        mark = meta-on meta k;
-        equal =
-            rw add-one
-            (take-suc (there s v bytes at) k 0 (rw there-length more)
-            ∙ ap₂ (λ (l : List ℕ) (y : ℕ). l ++ (y ∷ [])) (h .equal) (part-at bytes at (lenOf (length v) s) k 0 more ∙ g ∙ e)
-            ∙ sym (take-suc P k 0 (omega arith)));
-      }
-
-  pub agrees-end : {now from to k : ℕ} → Agrees s v bytes at meta now from to k → lenOf (length v) s ≤ k → true ≡ same (there s v bytes at) (packedFrom s meta v)
-  agrees-end {k = k} h left =
-      let P = packedFrom s meta v in
-      let t = there s v bytes at in
-      sym (same-is t P (sym (take-all k t (rw there-length left)) ∙ h .equal ∙ take-all k P (rw (packed-from-length s meta v) left)))
-
-  pub differs : {k : ℕ} (x : ℕ) → k < lenOf (length v) s → x ≡ getD (packedFrom s meta v) k 0 → (getD bytes (at + k) 0 ≡ x → ⊥) → false ≡ same (there s v bytes at) (packedFrom s meta v)
-  differs {k} x more e f =
-      sym
-      (same-not (there s v bytes at) (packedFrom s meta v)
-      (λ g. f (sym (part-at bytes at (lenOf (length v) s) k 0 more) ∙ ap (λ (l : List ℕ). getD l k 0) g ∙ sym e)))
-
--- ---- strings that fill whole bytes
-
-pub per-pos : (s : States) → 0 < perByte s
-per-pos Two = omega arith
-per-pos Four = omega arith
-per-pos Nine = omega arith
-
-module _ {w p n k from : ℕ} (walk : Walk w p n k from (from + p)) where
-  -- characters are left while bytes are
-  pub bytes-left : from < w → k < n
-  bytes-left h =
-      by-le n k
-      (λ g. let z : n - k ≡ 0 = omega arith in let e : from + p + 0 * p ≡ w + p = rw z at (walk .ends) in absurd (omega arith)) (λ g. g)
-
-  pub none-left : 0 < p → w ≤ from → n ≤ k
-  none-left q h = by-le n k (λ g. g) (λ g. absurd (omega (arith, behind walk g)))
-
 pub by-low-bits : ByLowBits lowBits
 by-low-bits = record { here = low-bits }
 
-module _ {s : States} {v : List ℕ} {room at : ℕ} (ok : Whole s v room at) where
-  pub plain : Packable s v room at 0
-  plain = record { codes = ok .codes; short = ok .short; fits = ok .fits; marked = refl; free = λ h. absurd (omega arith) }
+-- ---- packed levels
 
-  pub first-whole : length v + perByte s - lenOf (length v) s * perByte s ≡ 0 + perByte s
-  first-whole = omega (arith, ok .full)
+-- how many bytes they take
+pub packed-length : (b meta : ℕ) (cs : List ℕ) → length (packedWith b meta cs) ≡ (length cs * b + 7) / 8
+unfolding packedWith
+packed-length b meta cs = digits-length 256 _ _
 
-  module _ {k from : ℕ} (walk : Walk (length v) (perByte s) (lenOf (length v) s) k from (from + perByte s)) (more : from < length v) where
-    pub full-byte : FullByte s (take (from + perByte s - from) (drop from v))
-    full-byte =
-        let m = bytes-left walk more in
-        let h = to-within walk m in
-        record {
-          one = one-byte plain walk m;
-          full = length-take-le (from + perByte s - from) (drop from v) (simp length-drop (omega arith)) ∙ (let z : from + perByte s - from ≡ perByte s = omega arith in z);
-        }
-
-    pub whole-is : (r : ℕ) → r ≡ number (2 ^ bitsOf s) (codesOf (foldAll (take (from + perByte s - from) (drop from v)))) → MetaAt 0 k 0 → r ≡ getD (packedFrom s 0 v) k 0
-    whole-is r e m = sym (or-zero-r r) ∙ is-byte plain walk (bytes-left walk more) 0 r (omega arith) m e
-
-pub stored-whole : {s : States} {v d : List ℕ} {at : ℕ} → Whole s v (length d) at → Stored s v d at 0 d 0 0 (0 + perByte s) 0
-stored-whole {s} {v} {d} {at} ok = subst (λ (t : ℕ). Stored s v d at 0 d 0 0 t 0) (first-whole ok) (stored-start (plain ok))
-
-pub agrees-whole : {s : States} {v : List ℕ} {at : ℕ} (bytes : List ℕ) → Whole s v (length bytes) at → Agrees s v bytes at 0 0 0 (0 + perByte s) 0
-agrees-whole {s} {v} {at} bytes ok = subst (λ (t : ℕ). Agrees s v bytes at 0 0 0 t 0) (first-whole ok) (agrees-start bytes (plain ok))
-
--- ---- levels in two parts
+pub packed-from-length : (s : States) (meta : ℕ) (v : List ℕ) → length (packedFrom s meta v) ≡ lenOf (length v) s
+packed-from-length s meta v = packed-length (bitsOf s) meta (codesOf (foldAll v)) ∙ sym (len-bits (length (codesOf (foldAll v))) s) ∙ rw length-codes
 
 -- levels that fill whole bytes, behind others
 pub packed-append : (b meta m : ℕ) (xs ys : List ℕ) → Below (2 ^ b) ys → length ys * b ≡ m * 8 → (0 < meta → 0 < length xs * b)
@@ -433,37 +194,48 @@ packed-append b meta m xs ys below g top =
     ∙ ap (λ (l : List ℕ). digits 256 n (meta * 256 ^ (n - 1) + N) ++ l)
     (sym (ap (λ (k : ℕ). digits 256 k (0 * 256 ^ (k - 1) + M)) own ∙ ap (digits 256 m) none))
 
+-- levels that one byte holds, under meta data in bits that they leave free
+pub packed-one : (b meta : ℕ) (cs : List ℕ) → Below (2 ^ b) cs → 0 < length cs * b → length cs * b ≤ 8 → meta % 64 ≡ 0 → meta < 256
+    → (0 < meta → length cs * b + 2 ≤ 8) → packedWith b meta cs ≡ bitOr (number (2 ^ b) cs) meta ∷ []
+unfolding packedWith digits
+packed-one b meta cs below some few marked fits free =
+    let N = number (2 ^ b) cs in
+    let n : (length cs * b + 7) / 8 ≡ 1 = omega arith in
+    let s : N < 2 ^ (length cs * b) = rw (pow-pow 2 b (length cs)) at (number-lt (2 ^ b) cs below) in
+    let small : N < 256 = lt-of-lt-of-le s (pow-mono {j = 8} few) in
+    by-le 1 meta
+    (λ h.
+    let u : N < 64 = lt-of-lt-of-le s (pow-mono {j = 6} (omega (arith, free h))) in
+    let v : meta ≡ meta / 64 * 64 = omega arith in
+    let o : bitOr N meta ≡ meta + N = ap (bitOr N) v ∙ or-shifted-r (meta / 64) 6 N u ∙ omega arith in
+    rw (n, o) (ap (λ (x : ℕ). x ∷ []) (omega arith)))
+    (λ h.
+    let z : meta ≡ 0 = omega arith in
+    rw (n, z, or-zero-r) (ap (λ (x : ℕ). x ∷ []) (omega arith)))
+
+-- a string, and behind it one that fills whole bytes
+pub packed-parts : (s : States) (meta : ℕ) (v w : List ℕ) → Below (2 ^ bitsOf s) (codesOf (foldAll w)) → lenOf (length w) s * perByte s ≡ length w
+    → (0 < meta → 0 < length v * bitsOf s) → packedFrom s meta (v ++ w) ≡ packedFrom s meta v ++ packedFrom s 0 w
+packed-parts s meta v w below full some =
+    let b = bitsOf s in
+    let m = lenOf (length w) s in
+    let e : codesOf (foldAll (v ++ w)) ≡ codesOf (foldAll v) ++ codesOf (foldAll w) = ap codesOf (map-append fold v w) ∙ map-append codeOf (foldAll v) (foldAll w) in
+    ap (packedWith b meta) e
+    ∙ packed-append b meta m (codesOf (foldAll v)) (codesOf (foldAll w)) below (full-bits s _ m (length-codes w ∙ sym full)) (λ h. rw length-codes (some h))
+
+-- one element more is stored
+pub next-stored : (l new : List ℕ) (at k x d : ℕ) {out : List ℕ} → at + k < length l → k < length new → out ≡ overlay l at (take k new) → x ≡ getD new k d
+    → set out (at + k) x ≡ overlay l at (take (k + 1) new)
+next-stored l new at k x d h more so-far e =
+    ap₂ (λ (o : List ℕ) (y : ℕ). set o (at + k) y) so-far e
+    ∙ overlay-store l at (take k new) (at + k) (getD new k d) (ap (λ (i : ℕ). at + i) (length-take-le k new (omega arith))) h
+    ∙ ap (overlay l at) (sym (rw add-one (take-suc new k d more)))
+
 -- ---- a first byte that is not full
-
-pub codes-drop : (f : ℕ) (v : List ℕ) → codesOf (foldAll (drop f v)) ≡ drop f (codesOf (foldAll v))
-codes-drop zero v = refl
-codes-drop (suc f) [] = refl
-codes-drop (suc f) (c ∷ v) = codes-drop f v
-
--- the bytes behind the first are those of the levels behind it
-packed-tail : (b meta f m : ℕ) (cs : List ℕ) → Below (2 ^ b) cs → f ≤ length cs → (length cs * b + 7) / 8 ≡ suc m → (length cs - f) * b ≡ m * 8
-    → drop 1 (packedWith b meta cs) ≡ packedWith b 0 (drop f cs)
-packed-tail b meta f m cs below h e g =
-    let l : length (take f cs) ≡ f = length-take-le f cs h in
-    let w : length cs * b ≡ f * b + (length cs - f) * b = ap (λ (x : ℕ). x * b) (omega arith) ∙ add-mul f (length cs - f) b in
-    let one : (f * b + 7) / 8 ≡ 1 = omega arith in
-    ap (λ (x : List ℕ). drop 1 (packedWith b meta x)) (sym (take-append-drop f cs))
-    ∙ ap (drop 1) (packed-append b meta m (take f cs) (drop f cs) (below-drop (2 ^ b) cs below f) (rw (length-drop f cs) g) (λ p. rw l (omega arith)))
-    ∙ drop-at (packedWith b meta (take f cs)) (packedWith b 0 (drop f cs)) 1 (packed-length b meta (take f cs) ∙ rw l one)
-
-len-full : (m : ℕ) (s : States) → lenOf (m * perByte s) s ≡ m
-len-full m Two = omega arith
-len-full m Four = omega arith
-len-full m Nine = omega arith
 
 empty : (l : List ℕ) → length l ≡ 0 → l ≡ []
 empty [] e = refl
 empty (x ∷ l) e = absurd (omega arith)
-
-pub len-none : (s : States) → lenOf 0 s ≡ 0
-len-none Two = refl
-len-none Four = refl
-len-none Nine = refl
 
 -- the first byte, and the string behind it
 module _ {s : States} {v : List ℕ} {room at meta : ℕ} (ok : Packable s v room at meta) where
@@ -480,9 +252,7 @@ module _ {s : States} {v : List ℕ} {room at meta : ℕ} (ok : Packable s v roo
         by-le 1 meta
         (λ h.
         let l : length v ≡ lenOf (length v) s * perByte s = omega (arith, spans (length v) s, e) in
-        let z : length v * bitsOf s ≡ lenOf (length v) s * 8 =
-        ap (λ (x : ℕ). x * bitsOf s) l ∙ mul-assoc (lenOf (length v) s) (perByte s) (bitsOf s) ∙ ap (λ (x : ℕ). lenOf (length v) s * x) (per-bits s) in
-        absurd (omega (arith, ok .free h)))
+        absurd (omega (arith, ok .free h, full-bits s (length v) (lenOf (length v) s) l)))
         (λ h. omega arith)
 
   module _ (e : first ≡ perByte s → ⊥) where
@@ -513,7 +283,7 @@ module _ {s : States} {v : List ℕ} {room at meta : ℕ} (ok : Packable s v roo
     rest-whole =
         let f = ok .fits in
         record {
-          codes = record { known = rw codes-drop (below-drop 9 _ (ok .codes .known) first); below = rw codes-drop (below-drop (2 ^ bitsOf s) _ (ok .codes .below) first) };
+          codes = drop-codes first v (ok .codes);
           short = rw rest-length (omega (arith, behind-first, ok .short));
           fits = omega (arith, rest-size);
           full = rw (rest-length, len-full later s);
@@ -525,26 +295,32 @@ module _ {s : States} {v : List ℕ} {room at meta : ℕ} (ok : Packable s v roo
     pub place-fits : at + 1 ≤ room
     place-fits = omega (arith, some, ok .fits)
 
-    same-first : take (first - 0) (drop 0 v) ≡ take first v
-    same-first = ap (λ (x : ℕ). take x v) (let z : first - 0 ≡ first = omega arith in z)
+    first-length : length (take first v) ≡ first
+    first-length = length-take-le first v first-fits
+
+    -- the bits of the first byte's levels
+    first-bits : (0 < first * bitsOf s) × (first * bitsOf s ≤ 8) × (0 < meta → first * bitsOf s + 2 ≤ 8)
+    first-bits =
+        let e : length v * bitsOf s ≡ first * bitsOf s + later * 8 =
+        ap (λ (x : ℕ). x * bitsOf s) (sym behind-first) ∙ add-mul first (later * perByte s) (bitsOf s) ∙ ap (λ (x : ℕ). first * bitsOf s + x) (full-bits s _ later refl) in
+        let h = spans (length v) s in
+        let f : 1 ≤ first = omega arith in (
+          omega (arith, mul-le-mul-right (bitsOf s) f, bits-pos s),
+          omega (arith, mul-le-mul-right (bitsOf s) (let l : first ≤ perByte s = omega arith in l), per-bits s),
+          λ m. omega (arith, ok .free m, some),
+        )
 
     pub first-byte : OneByte s (take first v)
-    first-byte = subst (OneByte s) same-first (one-byte ok (walk-start (length v) s) some)
+    first-byte = record { codes = take-codes first v (ok .codes); short = rw first-length (first-bits .1) }
 
     pub packed-cons : (r : ℕ) → meta < 256 → r ≡ number (2 ^ bitsOf s) (codesOf (foldAll (take first v))) → packedFrom s meta v ≡ bitOr r meta ∷ packedFrom s 0 (drop first v)
     packed-cons r fits n =
-        let P = packedFrom s meta v in
-        let cs = codesOf (foldAll v) in
-        let l : length cs ≡ length v = length-codes v in
-        let x : bitOr r meta ≡ getD P 0 0 =
-        is-byte ok (walk-start (length v) s) some meta r fits (meta-start meta) (n ∙ ap (λ (t : List ℕ). number (2 ^ bitsOf s) (codesOf (foldAll t))) (sym same-first)) in
-        let g : (length cs - first) * bitsOf s ≡ later * 8 =
-        ap (λ (y : ℕ). y * bitsOf s) (let z : length cs - first ≡ later * perByte s = omega (arith, behind-first) in z)
-        ∙ mul-assoc later (perByte s) (bitsOf s) ∙ ap (λ (y : ℕ). later * y) (per-bits s) in
-        let t : drop 1 P ≡ packedFrom s 0 (drop first v) =
-        packed-tail (bitsOf s) meta first later cs (ok .codes .below) (omega (arith, first-fits)) (sym (len-bits (length cs) s) ∙ rw l (omega (arith, some))) g
-        ∙ ap (packedWith (bitsOf s) 0) (sym (codes-drop first v)) in
-        drop-cons P 0 0 (rw (packed-from-length s meta v) some) ∙ ap₂ (λ (y : ℕ) (ys : List ℕ). y ∷ ys) (sym x) t
+        let u = take first v in
+        let l : length (codesOf (foldAll u)) ≡ first = length-codes u ∙ first-length in
+        ap (packedFrom s meta) (sym (take-append-drop first v))
+        ∙ packed-parts s meta u (drop first v) (rest-whole .codes .below) (rest-whole .full) (λ h. rw first-length (first-bits .0))
+        ∙ ap (λ (x : List ℕ). x ++ packedFrom s 0 (drop first v))
+        (packed-one (bitsOf s) meta (codesOf (foldAll u)) (first-byte .codes .below) (rw l (first-bits .0)) (rw l (first-bits .1)) (ok .marked) fits (rw l (first-bits .2)) ∙ ap (λ (x : ℕ). bitOr x meta ∷ []) (sym n))
 
     -- the part of the string that is lent
     pub rest-is : take (length v - first) (drop first v) ≡ drop first v

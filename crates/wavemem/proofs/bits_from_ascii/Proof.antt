@@ -1,7 +1,7 @@
 -- `wavemem::bits_from_ascii` meets its contract: the working number is that of the characters so far.
 -- Assumes nothing.
-use mathlib.Core.Path.{_≡_, refl, sym, ap, _∙_}
-use Prim.Native.Nat.{ℕ, _+_, _-_, _*_, _%_, _^_, _<_, _≤_}
+use mathlib.Core.Path.{_≡_, sym, ap, _∙_}
+use Prim.Native.Nat.{ℕ, _+_, _-_, _%_, _≤_}
 use native.Mathlib.Omega.{arith}
 use borrow.Author.Needs.{needs}
 use denote.Ref.{now}
@@ -9,7 +9,7 @@ use lib.ListN.{length, take, drop, length-drop}
 use lib.Seq.{take-all, length-take-le}
 use Rattle.value.specs.Digits.{number}
 use Rattle.value.specs.Level.{foldAll, codesOf}
-use Rattle.wavemem.proofs.Packing.{length-codes, codes-part, part-codes, eight-more}
+use Rattle.wavemem.proofs.Packing.{length-codes, codes-take, codes-drop, take-codes, drop-codes, eight-more}
 use Rattle.wavemem.proofs.bits_from_ascii.Statement.{statement}
 use Rattle.wavemem.proofs.bits_from_ascii.Tie as tie
 
@@ -29,14 +29,14 @@ few-bits-requires c κs =
     let s = c .before .before in
     let v = now (s .args .value) in
     record {
-      codes = part-codes (length v % 8) 0 v (s .pre .codes);
+      codes = take-codes (length v % 8) v (s .pre .codes);
       short = rw (length-take-le (length v % 8) v (omega arith)) (omega arith);
     }
 
 loop-holds : tie.Need-loop-holds Inv-loop μ-loop
 loop-holds c =
     let v = now (c .before .before .before .args .value) in
-    (omega arith, omega arith, c .few-bits .ensures ∙ ap (number 2) (codes-part (length v % 8) 0 v))
+    (omega arith, omega arith, c .few-bits .ensures ∙ ap (number 2) (codes-take (length v % 8) v))
 
 -- eight characters are left
 within : (c : tie.In-loop Inv-loop μ-loop) → c .before .loop .from + 8 ≤ length (now (c .before .before .before .before .before .args .value))
@@ -61,7 +61,7 @@ byte-of-bits-requires c κs =
     let s = i .before .before .before .before .before in
     let v = now (s .args .value) in
     let l : length (take (f + 8 - f) (drop f v)) ≡ 8 = length-take-le (f + 8 - f) (drop f v) (rw length-drop (omega (arith, within i))) ∙ omega arith in
-    record { one = record { codes = part-codes (f + 8 - f) f v (s .pre .codes); short = omega arith }; full = l }
+    record { one = record { codes = take-codes (f + 8 - f) (drop f v) (drop-codes f v (s .pre .codes)); short = omega arith }; full = l }
 
 wide-requires : tie.Need-wide-requires Inv-loop μ-loop
 wide-requires c κs = search needs
@@ -80,7 +80,7 @@ loop-again c =
       within i,
       omega (arith, within i, a .loop .inv .1),
       eight-more (codesOf (foldAll v)) (s .pre .codes .below) (rw length-codes (omega (arith, s .pre .short))) f (a .loop .working) _ (rw length-codes (within i)) (a .loop .inv .2)
-          (c .wide .ensures ∙ c .before .byte-of-bits .ensures ∙ ap (λ (n : ℕ). number 2 (codesOf (foldAll (take n (drop f v))))) z ∙ ap (number 2) (codes-part 8 f v)),
+          (c .wide .ensures ∙ c .before .byte-of-bits .ensures ∙ ap (λ (n : ℕ). number 2 (codesOf (foldAll (take n (drop f v))))) z ∙ ap (number 2) (codes-take 8 (drop f v) ∙ ap (take 8) (codes-drop f v))),
     )
 
 returns : tie.Need-returns Inv-loop μ-loop

@@ -1,7 +1,5 @@
 -- `wavemem::byte_by_low_bits` meets its contract.
 -- Assumes nothing.
-use mathlib.Core.Path.{_≡_}
-use Prim.Native.Nat.{_<_}
 use native.Mathlib.Omega.{arith}
 use borrow.Author.Needs.{needs}
 use Rattle.wavemem.proofs.Packing.{one-word, byte-small}

@@ -1,14 +1,14 @@
 -- `wavemem::byte_from_ascii` meets its contract: the working byte is the number of the characters so far.
 -- Assumes nothing.
-use mathlib.Core.Path.{_≡_, refl, sym, ap, _∙_}
-use Prim.Native.Nat.{ℕ, _-_, _*_, _+_, _^_, _<_, _≤_, zero-le}
+use mathlib.Core.Path.{_≡_, refl, sym, _∙_}
+use Prim.Native.Nat.{_-_, _^_, _≤_, zero-le}
 use native.Mathlib.Omega.{arith}
 use borrow.Author.Needs.{needs}
 use denote.Ref.{now}
 use lib.ListN.{length, getD, take, length-map}
-use lib.Seq.{take-length, take-all}
+use lib.Seq.{take-all}
 use Rattle.value.specs.Digits.{number}
-use Rattle.value.specs.Level.{codeOf, fold, foldAll, codesOf, bitsOf}
+use Rattle.value.specs.Level.{codeOf, fold, foldAll, codesOf}
 use Rattle.value.proofs.Digits.{below-at}
 use Rattle.value.proofs.Levels.{bits-small}
 use Rattle.wavemem.proofs.Packing.{code-is, code-at, not-foreign, shifted}

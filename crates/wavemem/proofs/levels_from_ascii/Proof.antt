@@ -1,7 +1,7 @@
 -- `wavemem::levels_from_ascii` meets its contract: the working number is that of the characters so far.
 -- Assumes nothing.
 use mathlib.Core.Path.{_≡_, refl, _∙_}
-use Prim.Native.Nat.{ℕ, _-_, _+_, _^_, _<_, _≤_, zero-le}
+use Prim.Native.Nat.{_-_, _^_, _≤_, zero-le}
 use native.Mathlib.Omega.{arith}
 use borrow.Author.Needs.{needs}
 use denote.Ref.{now}

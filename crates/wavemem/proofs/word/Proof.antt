@@ -1,12 +1,12 @@
 -- `wavemem::word` meets its contract: the word is the number of the bytes so far.
 -- Assumes nothing.
 use mathlib.Core.Path.{_≡_, refl, ap, _∙_}
-use Prim.Native.Nat.{ℕ, _+_, _-_, _*_, _^_, _≤_, _<_, zero-le}
+use Prim.Native.Nat.{ℕ, _+_, _-_, _*_, _^_, _≤_, zero-le}
 use native.Mathlib.Nat.{mul-one}
 use native.Mathlib.Omega.{arith}
 use borrow.Author.Needs.{needs}
 use denote.Ref.{now}
-use lib.ListN.{length, getD, take}
+use lib.ListN.{length, take}
 use lib.Seq.{take-all}
 use Rattle.value.specs.Digits.{number}
 use Rattle.value.proofs.Digits.{below-all}

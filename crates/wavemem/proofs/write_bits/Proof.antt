@@ -1,35 +1,32 @@
 -- `wavemem::write_bits` meets its contract: each turn stores the next byte.
 -- Assumes nothing.
-use mathlib.Core.Path.{ap}
-use Prim.Native.Nat.{ℕ, _-_, _+_, _<_, _≤_}
+use Prim.Native.Nat.{_-_, _+_, _<_, _≤_}
 use native.Mathlib.Omega.{arith}
 use denote.Ref.{now}
 use lib.ListN.{length}
 use Rattle.value.specs.declared.States.the-variants.{Two}
-use Rattle.value.specs.Level.{lenOf}
-use Rattle.wavemem.proofs.Packing.{bytes-left, none-left, to-within, plain, full-byte, whole-is, Stored, stored-whole, stored-on, stored-end}
+use Rattle.wavemem.proofs.Parts.{Stored, stored-start, stored-long, stored-end, byte-turns, byte-within, byte-fits, byte-lent, byte-stored}
 use Rattle.wavemem.proofs.write_bits.Statement.{statement}
 use Rattle.wavemem.proofs.write_bits.Tie as tie
 
 abbrev Inv-loop : tie.InvT-loop
-Inv-loop value out₀ at from₀ k₀ out from k = Stored Two value out₀ at 0 out 0 from (from + 8) k
+Inv-loop value out₀ at from₀ k₀ out from k = Stored Two value out₀ at 8 out from (at + k)
 
 abbrev μ-loop : tie.MeasureT-loop
 μ-loop value out₀ at from₀ k₀ out from k = length value - from
 
 loop-holds : tie.Need-loop-holds Inv-loop μ-loop
-loop-holds c = stored-whole (c .before .before .pre)
+loop-holds c = stored-start Two (byte-turns (c .before .before .pre)) (omega arith)
 
 -- the function's entry
 abbrev start : tie.At-loop Inv-loop μ-loop → tie.Start Inv-loop μ-loop
 start a = a .before .before .before
 
--- the bytes that are left
-fewer : (c : tie.In-loop Inv-loop μ-loop) → c .before .loop .k < lenOf (length (now (start (c .before) .args .value))) Two
-fewer c = bytes-left (c .before .loop .inv .walk) (c .loop-test .taken)
-
 within : (c : tie.In-loop Inv-loop μ-loop) → c .before .loop .from + 8 ≤ length (now (start (c .before) .args .value))
-within c = to-within (c .before .loop .inv .walk) (fewer c)
+within c = byte-within (start (c .before) .pre) (c .before .loop .inv .passed) (c .loop-test .taken)
+
+fits : (c : tie.In-loop Inv-loop μ-loop) → start (c .before) .args .at + c .before .loop .k < length (now (start (c .before) .args .out))
+fits c = byte-fits (start (c .before) .pre) (c .before .loop .inv .passed) (c .loop-test .taken)
 
 add-to : tie.Need-add-to Inv-loop μ-loop
 add-to c = omega (arith, start (c .before) .pre .short)
@@ -48,22 +45,18 @@ part-byte-of-bits-end c = within c
 byte-of-bits-requires : tie.Need-byte-of-bits-requires Inv-loop μ-loop
 byte-of-bits-requires c κs =
     let i = c .before in
-    full-byte (start (i .before) .pre) (i .before .loop .inv .walk) (i .loop-test .taken)
+    byte-lent (start (i .before) .pre) (i .before .loop .inv .passed) (i .loop-test .taken)
 
 add-out : tie.Need-add-out Inv-loop μ-loop
-add-out c =
-    let i = c .before .before in
-    omega (arith, fewer i, start (i .before) .pre .fits)
+add-out c = omega (arith, fits (c .before .before))
 
 slice-write-out : tie.Need-slice-write-out Inv-loop μ-loop
 slice-write-out c =
-    let i = c .before .before in
-    omega (arith, fewer i, start (i .before) .pre .fits, i .before .loop .inv .long)
+    let a = c .before .before .before in
+    omega (arith, fits (c .before .before), stored-long (start a .pre) (a .loop .inv))
 
 add-k : tie.Need-add-k Inv-loop μ-loop
-add-k c =
-    let i = c .before .before in
-    omega (arith, fewer i, start (i .before) .pre .fits)
+add-k c = omega (arith, fits (c .before .before))
 
 loop-less : tie.Need-loop-less Inv-loop μ-loop
 loop-less c = omega (arith, c .before .before .loop-test .taken)
@@ -71,22 +64,18 @@ loop-less c = omega (arith, c .before .before .loop-test .taken)
 loop-again : tie.Need-loop-again Inv-loop μ-loop
 loop-again c =
     let i = c .before .before in
-    let a = i .before in
-    let h = a .loop .inv in
-    stored-on (plain (start a .pre)) _ h (fewer i) (whole-is (start a .pre) (h .walk) (i .loop-test .taken) (c .byte-of-bits .result) (c .byte-of-bits .ensures) (h .mark))
+    byte-stored (start (i .before) .pre) (i .before .loop .inv) (i .loop-test .taken) (omega arith) (c .byte-of-bits .ensures)
 
 add-result : tie.Need-add-result Inv-loop μ-loop
-add-result c = omega (arith, c .before .loop .inv .walk .within, start (c .before) .pre .fits)
+add-result c =
+    let a = c .before in
+    omega (arith, stored-end (start a .pre) (a .loop .inv) (c .loop-test .left) .0, start a .pre .fits)
 
 same-length : tie.Need-same-length Inv-loop μ-loop
-same-length c = c .before .loop .inv .long
+same-length c = stored-long (start (c .before) .pre) (c .before .loop .inv)
 
 returns : tie.Need-returns Inv-loop μ-loop
-returns c =
-    let a = c .before in
-    let h = a .loop .inv in
-    let e = none-left (h .walk) (omega arith) (c .loop-test .left) in
-    (ap (λ (n : ℕ). start a .args .at + n) (omega (arith, h .walk .within, e)), stored-end (plain (start a .pre)) h e)
+returns c = stored-end (start (c .before) .pre) (c .before .loop .inv) (c .loop-test .left)
 
 pub write-bits-spec : {M : Type 1} → statement M
 write-bits-spec =

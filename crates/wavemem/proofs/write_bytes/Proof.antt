@@ -1,18 +1,18 @@
 -- `wavemem::write_bytes` meets its contract: each turn stores the next byte.
 -- Assumes nothing.
-use mathlib.Core.Path.{_≡_, refl, sym, ap, _∙_}
-use Prim.Native.Nat.{ℕ, _-_, _*_, _+_, _^_, _<_, _≤_}
+use mathlib.Core.Path.{_≡_}
+use Prim.Native.Nat.{_-_, _+_, _<_, _≤_}
 use native.Mathlib.Omega.{arith}
 use borrow.Author.Needs.{needs}
 use denote.Ref.{now}
 use lib.ListN.{length}
-use Rattle.value.specs.Level.{lenOf}
-use Rattle.wavemem.proofs.Packing.{perByte, per-small, per-pos, bytes-left, none-left, to-within, plain, full-byte, whole-is, Stored, stored-whole, stored-on, stored-end}
+use Rattle.wavemem.proofs.Packing.{perByte, per-small, per-pos}
+use Rattle.wavemem.proofs.Parts.{Stored, stored-start, stored-long, stored-end, byte-turns, byte-within, byte-fits, byte-lent, byte-stored}
 use Rattle.wavemem.proofs.write_bytes.Statement.{statement}
 use Rattle.wavemem.proofs.write_bytes.Tie as tie
 
 abbrev Inv-loop : tie.InvT-loop
-Inv-loop states codes value out₀ at per-byte from₀ k₀ out from k = Stored states value out₀ at 0 out 0 from (from + perByte states) k
+Inv-loop states codes value out₀ at per-byte from₀ k₀ out from k = Stored states value out₀ at (perByte states) out from (at + k)
 
 abbrev μ-loop : tie.MeasureT-loop
 μ-loop states codes value out₀ at per-byte from₀ k₀ out from k = length value - from
@@ -21,7 +21,7 @@ bits-in-a-byte-requires : tie.Need-bits-in-a-byte-requires Inv-loop μ-loop
 bits-in-a-byte-requires c κs = search needs
 
 loop-holds : tie.Need-loop-holds Inv-loop μ-loop
-loop-holds c = stored-whole (c .before .before .before .pre .0)
+loop-holds c = stored-start _ (byte-turns (c .before .before .before .pre .0)) (omega arith)
 
 -- the function's entry, and how many characters a byte holds
 abbrev start : tie.At-loop Inv-loop μ-loop → tie.Start Inv-loop μ-loop
@@ -31,7 +31,10 @@ per : (a : tie.At-loop Inv-loop μ-loop) → a .before .bits-in-a-byte .result �
 per a = a .before .bits-in-a-byte .ensures
 
 within : (c : tie.In-loop Inv-loop μ-loop) → c .before .loop .from + perByte (start (c .before) .args .states) ≤ length (now (start (c .before) .args .value))
-within c = let w = c .before .loop .inv .walk in to-within w (bytes-left w (c .loop-test .taken))
+within c = byte-within (start (c .before) .pre .0) (c .before .loop .inv .passed) (c .loop-test .taken)
+
+fits : (c : tie.In-loop Inv-loop μ-loop) → start (c .before) .args .at + c .before .loop .k < length (now (start (c .before) .args .out))
+fits c = byte-fits (start (c .before) .pre .0) (c .before .loop .inv .passed) (c .loop-test .taken)
 
 add-to : tie.Need-add-to Inv-loop μ-loop
 add-to c = omega (arith, per (c .before), per-small (start (c .before) .args .states), start (c .before) .pre .0 .short)
@@ -52,26 +55,18 @@ byte-by-low-bits-requires : tie.Need-byte-by-low-bits-requires Inv-loop μ-loop
 byte-by-low-bits-requires c κs =
     let i = c .before in
     let a = i .before in
-    (rw (per a) (full-byte (start a .pre .0) (a .loop .inv .walk) (i .loop-test .taken) .one), start a .pre .1)
-
--- the bytes that are left
-fewer : (c : tie.In-loop Inv-loop μ-loop) → c .before .loop .k < lenOf (length (now (start (c .before) .args .value))) (start (c .before) .args .states)
-fewer c = bytes-left (c .before .loop .inv .walk) (c .loop-test .taken)
+    (rw (per a) (byte-lent (start a .pre .0) (a .loop .inv .passed) (i .loop-test .taken) .one), start a .pre .1)
 
 add-out : tie.Need-add-out Inv-loop μ-loop
-add-out c =
-    let i = c .before .before in
-    omega (arith, fewer i, start (i .before) .pre .0 .fits)
+add-out c = omega (arith, fits (c .before .before))
 
 slice-write-out : tie.Need-slice-write-out Inv-loop μ-loop
 slice-write-out c =
-    let i = c .before .before in
-    omega (arith, fewer i, start (i .before) .pre .0 .fits, i .before .loop .inv .long)
+    let a = c .before .before .before in
+    omega (arith, fits (c .before .before), stored-long (start a .pre .0) (a .loop .inv))
 
 add-k : tie.Need-add-k Inv-loop μ-loop
-add-k c =
-    let i = c .before .before in
-    omega (arith, fewer i, start (i .before) .pre .0 .fits)
+add-k c = omega (arith, fits (c .before .before))
 
 loop-less : tie.Need-loop-less Inv-loop μ-loop
 loop-less c =
@@ -82,25 +77,18 @@ loop-again : tie.Need-loop-again Inv-loop μ-loop
 loop-again c =
     let i = c .before .before in
     let a = i .before in
-    let h = a .loop .inv in
-    rw (per a)
-    (stored-on (plain (start a .pre .0)) _ h (fewer i)
-    (whole-is (start a .pre .0) (h .walk) (i .loop-test .taken) (c .byte-by-low-bits .result) (rw (per a) at (c .byte-by-low-bits .ensures)) (h .mark)))
+    rw (per a) (byte-stored (start a .pre .0) (a .loop .inv) (i .loop-test .taken) (omega arith) (rw (per a) at (c .byte-by-low-bits .ensures)))
 
 add-result : tie.Need-add-result Inv-loop μ-loop
 add-result c =
-    let h = c .before .loop .inv in
-    omega (arith, h .walk .within, start (c .before) .pre .0 .fits)
+    let a = c .before in
+    omega (arith, stored-end (start a .pre .0) (a .loop .inv) (c .loop-test .left) .0, start a .pre .0 .fits)
 
 same-length : tie.Need-same-length Inv-loop μ-loop
-same-length c = c .before .loop .inv .long
+same-length c = stored-long (start (c .before) .pre .0) (c .before .loop .inv)
 
 returns : tie.Need-returns Inv-loop μ-loop
-returns c =
-    let a = c .before in
-    let h = a .loop .inv in
-    let e = none-left (h .walk) (per-pos (start a .args .states)) (c .loop-test .left) in
-    (ap (λ (n : ℕ). start a .args .at + n) (omega (arith, h .walk .within, e)), stored-end (plain (start a .pre .0)) h e)
+returns c = stored-end (start (c .before) .pre .0) (c .before .loop .inv) (c .loop-test .left)
 
 pub write-bytes-spec : {M : Type 1} → statement M
 write-bytes-spec =

@@ -1,9 +1,7 @@
 -- `layout::entry::entry_size` meets its contract.
 -- Assumes nothing.
-use mathlib.Core.Path.{_≡_, sym, ap, _∙_}
-use Rattle.layout.specs.Entry.{entrySize}
+use mathlib.Core.Path.{sym, ap, _∙_}
 use Rattle.layout.proofs.Sizes.{sizePlain, size-plain}
-use Rattle.value.specs.declared.States.{States}
 use borrow.Author.Needs.{needs}
 use Rattle.layout.proofs.entry.entry_size.Statement.{statement}
 use Rattle.layout.proofs.entry.entry_size.Tie as tie

@@ -1,6 +1,5 @@
 -- `layout::entry::mark_within` meets its contract.
 -- Assumes nothing.
-use mathlib.Core.Path.{_≡_}
 use borrow.Author.Tests.{eq-eqb, ne-eqb}
 use Rattle.layout.proofs.entry.mark_within.Statement.{statement}
 use Rattle.layout.proofs.entry.mark_within.Tie as tie

@@ -1,11 +1,10 @@
 -- `layout::entry::write_entry` meets its contract, by the two ways to store an entry.
 -- Assumes nothing.
-use mathlib.Core.Path.{_≡_, refl, sym, ap, _∙_}
+use mathlib.Core.Path.{refl, ap, _∙_}
 use mathlib.Core.List.{List}
-use Prim.Native.Nat.{ℕ, _+_, _-_, _≤_}
+use Prim.Native.Nat.{ℕ, _-_}
 use native.Mathlib.Omega.{arith}
 use denote.Ref.{now}
-use lib.ListN.{length}
 use Rattle.value.specs.Slice.{overlay}
 use Rattle.wavemem.specs.Packed.{packedFrom}
 use Rattle.layout.proofs.EntryWriting.{len-le, levels-packable, entry-stored}

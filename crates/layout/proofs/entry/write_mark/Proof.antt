@@ -1,12 +1,12 @@
 -- `layout::entry::write_mark` meets its contract.
 -- Assumes nothing.
-use mathlib.Core.Path.{_≡_, refl, sym, ap, _∙_}
+use mathlib.Core.Path.{refl, sym, ap, _∙_}
 use mathlib.Core.List.{List, [], _∷_}
-use Prim.Native.Nat.{ℕ, _+_, _-_, _≤_}
+use Prim.Native.Nat.{ℕ, _+_, _-_}
 use native.Mathlib.Omega.{arith}
 use denote.Ref.{now}
 use borrow.Author.Tests.{eq-eqb, ne-eqb}
-use lib.ListN.{length, replicate, length-set}
+use lib.ListN.{replicate, length-set}
 use Rattle.value.specs.Slice.{overlay}
 use Rattle.value.proofs.Slices.{overlay-nil, overlay-one, overlay-overlay}
 use Rattle.layout.specs.Writable.{markInFront}

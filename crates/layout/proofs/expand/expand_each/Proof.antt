@@ -7,7 +7,6 @@ use native.Mathlib.Omega.{arith}
 use denote.Ref.{now}
 use lib.ListN.{length}
 use Rattle.value.specs.Slice.{part, overlay}
-use Rattle.layout.specs.declared.expand.Widening.{Widening}
 use Rattle.layout.specs.Expand.{moved}
 use Rattle.layout.proofs.Expanding.{expanded, none-expanded, old-place, new-place, more-expanded, all-expanded}
 use Rattle.layout.proofs.expand.expand_each.Statement.{statement}

@@ -1,11 +1,11 @@
 -- `layout::expand::expand_entries` meets its contract.
 -- Assumes nothing.
 use mathlib.Core.Path.{_≡_, sym, ap, _∙_}
-use Prim.Native.Nat.{ℕ, _+_, _*_, _≤_}
+use Prim.Native.Nat.{_+_, _*_, _≤_}
 use borrow.Author.Needs.{needs}
 use denote.Ref.{now}
 use lib.ListN.{length}
-use Rattle.value.specs.Slice.{part, overlay}
+use Rattle.value.specs.Slice.{overlay}
 use Rattle.value.proofs.Slices.{part-length, overlay-part}
 use Rattle.layout.specs.Entry.{entrySize}
 use Rattle.layout.proofs.Sizes.{widen-all-same}

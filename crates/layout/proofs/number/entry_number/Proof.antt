@@ -1,9 +1,8 @@
 -- `layout::number::entry_number` meets its contract.
 -- Assumes nothing.
-use mathlib.Core.Path.{_≡_, sym, ap, ap₂, _∙_}
-use Prim.Native.Nat.{ℕ, _-_, _*_, _^_, _≤_}
+use mathlib.Core.Path.{ap₂, _∙_}
+use Prim.Native.Nat.{ℕ, _-_, _*_, _^_}
 use native.Mathlib.Omega.{arith}
-use denote.Ref.{now}
 use lib.Bits.{bitOr}
 use Rattle.value.specs.Level.{markOf}
 use Rattle.layout.proofs.Numbers.{one-word, some, marked-number}

@@ -1,6 +1,6 @@
 -- `layout::number::equals_entry` meets its contract.
 -- Assumes nothing.
-use mathlib.Core.Path.{_≡_, refl}
+use mathlib.Core.Path.{refl}
 use native.Mathlib.Omega.{arith}
 use denote.Ref.{now}
 use Rattle.value.proofs.Digits.{below-all}

@@ -1,8 +1,7 @@
 -- `layout::number::mark_in` meets its contract: nothing of the mark is shifted out.
 -- Assumes nothing.
-use mathlib.Core.Path.{_≡_, sym, ap, _∙_}
-use Prim.Native.Nat.{ℕ, _+_, _-_, _*_, _^_, _<_, _≤_}
-use native.Mathlib.Nat.{mul-comm}
+use mathlib.Core.Path.{ap, _∙_}
+use Prim.Native.Nat.{ℕ, _-_, _*_, _^_}
 use native.Mathlib.Omega.{arith}
 use lib.Pow.{shl-exact}
 use Rattle.value.proofs.Levels.{mark-small}

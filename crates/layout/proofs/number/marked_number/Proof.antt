@@ -1,6 +1,6 @@
 -- `layout::number::marked_number` meets its contract.
 -- Assumes nothing.
-use mathlib.Core.Path.{_≡_, ap}
+use mathlib.Core.Path.{ap}
 use native.Mathlib.Omega.{arith}
 use lib.Bits.{bitOr}
 use Rattle.layout.proofs.number.marked_number.Statement.{statement}

@@ -1,10 +1,9 @@
 -- `layout::number::number_at` meets its contract: the number is that of the bytes so far.
 -- Assumes nothing.
-use mathlib.Core.Path.{_≡_, refl, sym, ap, _∙_}
-use Prim.Native.Nat.{ℕ, _+_, _-_, _*_, _^_, _<_, _≤_, zero-le}
+use mathlib.Core.Path.{_≡_, sym, ap, _∙_}
+use Prim.Native.Nat.{ℕ, _+_, _-_, _≤_, zero-le}
 use native.Mathlib.Omega.{arith}
 use denote.Ref.{now}
-use lib.ListN.{length}
 use Rattle.value.specs.Digits.{number}
 use Rattle.value.specs.Slice.{part}
 use Rattle.value.proofs.Digits.{below-all}

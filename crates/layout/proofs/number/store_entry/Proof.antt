@@ -1,6 +1,6 @@
 -- `layout::number::store_entry` meets its contract.
 -- Assumes nothing.
-use mathlib.Core.Path.{_≡_, ap, _∙_}
+use mathlib.Core.Path.{ap, _∙_}
 use denote.Ref.{now}
 use Rattle.value.specs.Slice.{overlay}
 use Rattle.layout.proofs.Numbers.{entry-digits}

@@ -1,8 +1,7 @@
 -- `value::States::from_ascii` meets its contract.
 -- Assumes nothing.
-use mathlib.Core.Path.{_≡_, sym, _∙_}
+use mathlib.Core.Path.{sym, _∙_}
 use borrow.Author.Needs.{needs}
-use denote.Ref.{now}
 use Rattle.value.proofs.Classes.{is-two}
 use Rattle.value.proofs.States.from_ascii.Statement.{statement}
 use Rattle.value.proofs.States.from_ascii.Tie as tie
