@@ -27,18 +27,13 @@ use fst::Refusal;
 use fst::Verdict;
 use fst::record::is_bad;
 use value::States;
+use value::wide;
 
 // The weight of a real's sign bit.
 const SIGN: u64 = 9223372036854775808;
 
 // The bits of an infinity. Above them, with the sign left out, are the NaNs.
 const INFINITY: u64 = 9218868437227405312;
-
-fn wide(byte: u8) -> u64
-    ensures { λ r. ⌜ r ≡ byte ⌝ }
-{
-    byte as u64
-}
 
 // The bits of a real from its bytes, the lowest first.
 fn real_bits(value: &[u8]) -> u64

@@ -184,7 +184,7 @@ fn write_bytes(states: States, levels: &[u8], out: &mut [u8], at: usize)
     requires { ⌜ at + 8 / bitsOf states * length (now levels) ≤ length (now out) ⌝ }
     ensures { λ _. ⌜ now (out .exit) ≡ overlay (now (out .entry)) at (textOf (digits (2 ^ bitsOf states) (8 / bitsOf states * length (now (levels .entry))) (number 256 (now (levels .entry))))) ⌝ }
 {
-    let per_byte = states.bits_in_a_byte() as usize;
+    let per_byte = states.bits_in_a_byte();
     let mut i = at;
     let mut k = 0;
     while k < levels.len() {
@@ -199,7 +199,7 @@ pub fn write_text(width: u32, states: States, levels: &[u8], out: &mut [u8])
     requires { ⌜ Levels width states (now levels) × (width ≤ length (now out)) ⌝ }
     ensures { λ _. ⌜ now (out .exit) ≡ overlay (now (out .entry)) 0 (textOf (codesAt width states (now (levels .entry)))) ⌝ }
 {
-    let count = width % states.bits_in_a_byte();
+    let count = width % states.bits_in_a_byte() as u32;
     let k = write_first(states, count, levels, out);
     write_bytes(states, &levels[k..], out, count as usize)
 }

@@ -90,24 +90,6 @@ module _ {A : Type 0} where
       ∙ overlay-front l (q + k) (part (p + k) b l) ys (q + (k + b)) (rw s (omega arith)) (omega arith)
       ∙ ap (overlay l (q + k)) (rw (e, part-add l (p + k) b (n - (k + b)), add-assoc p k b))
 
-  -- and then all that are left
-  pub moved-rest : (l : List A) (p q n r : ℕ) → p ≤ q → q + n ≤ length l → r ≤ n
-      → overlay (overlay l (q + r) (part (p + r) (n - r) l)) q (part p r (overlay l (q + r) (part (p + r) (n - r) l))) ≡ overlay l q (part p n l)
-  moved-rest l p q n r o h i = simp (zero-add, add-zero, sub-zero) at (moved-more l p q n 0 r o h (omega arith))
-
-  -- the same with a store for one element
-  pub moved-one : (l : List A) (p q n k : ℕ) (d : A) → p ≤ q → q + n ≤ length l → k + 1 ≤ n
-      → set (overlay l (q + (k + 1)) (part (p + (k + 1)) (n - (k + 1)) l)) (q + k) (getD (overlay l (q + (k + 1)) (part (p + (k + 1)) (n - (k + 1)) l)) (p + k) d)
-      ≡ overlay l (q + k) (part (p + k) (n - k) l)
-  moved-one l p q n k d o h i =
-      let ys : List A = part (p + (k + 1)) (n - (k + 1)) l in
-      let u : List A = overlay l (q + (k + 1)) ys in
-      let s : length ys ≡ n - (k + 1) = part-length l (p + (k + 1)) (n - (k + 1)) (omega arith) in
-      let t : length u ≡ length l = overlay-length l ys (q + (k + 1)) (omega arith) in
-      sym (overlay-one u (q + k) (getD u (p + k) d) (omega arith))
-      ∙ ap (overlay u (q + k)) (sym (part-cons u (p + k) 0 d (omega arith) ∙ ap (λ (r : List A). getD u (p + k) d ∷ r) (part-nil u (p + k + 1))))
-      ∙ moved-more l p q n k 1 o h i
-
   -- ---- elements copied from another list, the first one first
 
   pub copied-more : (l s : List A) (start p i : ℕ) (d : A) → start + i < length l → p + i < length s

@@ -15,7 +15,7 @@ use Rattle.value.specs.declared.CharCode.the-variants as code
 use Rattle.value.specs.declared.StatesAnswer.{StatesAnswer}
 use Rattle.value.specs.declared.StatesAnswer.the-variants as answer
 use Rattle.value.specs.Slice.{any}
-use Rattle.value.specs.Level.{codeOf, fold, foldAll, codesOf, placeIn, markOf, codesIn, hasNoCode, setOf, leastOf, joinAll}
+use Rattle.value.specs.Level.{codeOf, letterOf, fold, foldAll, codesOf, placeIn, markOf, codesIn, hasNoCode, setOf, leastOf, joinAll}
 use Rattle.value.specs.Answer.{charCode, leastStates, holdsOne, holdsAll}
 use Rattle.value.proofs.Tests.{or-left, or-right, by-eq, allBelow, at-below, implies, implied, both, both-same}
 use Rattle.value.proofs.Slices.{any-snoc}
@@ -61,6 +61,10 @@ other-low c h o k =
     eqb-true 0 (codeOf (fold c))
     (each-byte (λ (n : ℕ). ltb (codeOf (fold n)) 9 && not (any (eqb (bitAnd n 31)) lowPlaces)) (λ (n : ℕ). eqb 0 (codeOf (fold n))) tt c h
     (rw (lt-ltb (codeOf (fold c)) 9 k, o)))
+
+-- the letter of a code that is known
+pub letter-is : {n k l : ℕ} → n ≡ k → letterOf k ≡ l → l ≡ letterOf n
+letter-is e g = sym g ∙ ap letterOf (sym e)
 
 -- 0 and 1
 pub binary-bit : (c : ℕ) → c < 256 → codeOf (fold c) < 2 → bitAnd c 1 ≡ codeOf (fold c)

@@ -59,6 +59,12 @@ pub fn bit_char_to_num(value: u8) -> CharCode
     }
 }
 
+pub fn wide(byte: u8) -> u64
+    ensures { λ r. ⌜ r ≡ byte ⌝ }
+{
+    byte as u64
+}
+
 // The smaller of two numbers: 0 where one of them is. Compiled to one instruction, also of wide ones.
 fn smaller(a: u8, b: u8) -> u8
     ensures { λ r. ⌜ eqb r 0 ≡ eqb a 0 || eqb b 0 ⌝ }
@@ -195,7 +201,7 @@ impl States {
     }
 
     // How many levels a byte holds.
-    pub fn bits_in_a_byte(self) -> u32
+    pub fn bits_in_a_byte(self) -> usize
         ensures { λ r. ⌜ r ≡ 8 / bitsOf self ⌝ }
     {
         let states = self;

@@ -8,8 +8,8 @@ ghost use Rattle.value.specs.Slice.{part, overlay, same};
 ghost use Rattle.value.specs.Level.{fold, foldAll, codeOf, codesOf, lenOf};
 ghost use Rattle.wavemem.specs.Packed.{packedWith, packedFrom, Whole};
 use crate::short::four_of_word;
-use crate::wide;
 use crate::word;
+use value::wide;
 
 // The code of a character that is not foreign, each of its four bits by bits of the character: no load and no jump, so that a loop over
 // it is compiled to wide instructions.

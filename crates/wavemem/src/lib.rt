@@ -8,21 +8,11 @@ ghost use Rattle.value.specs.Level.{foldAll, codesOf, bitsOf, lenOf};
 ghost use Rattle.wavemem.specs.Packed.{packedFrom, firstCount, OneWord, OneByte, FullByte, ByLowBits, Whole, Packable};
 use value::CharCode;
 use value::States;
+use value::wide;
 
 mod chunks;
 pub mod scan;
 pub mod short;
-
-// How many levels a byte holds.
-fn bits_in_a_byte(states: States) -> usize
-    ensures { λ r. ⌜ r ≡ 8 / bitsOf states ⌝ }
-{
-    match states {
-        States::Two => 8,
-        States::Four => 4,
-        States::Nine => 2,
-    }
-}
 
 // The number of so few characters that 64 bits hold their levels, by a table of codes. None is foreign.
 fn levels_from_ascii(states: States, codes: &[u8; 32], value: &[u8]) -> u64
@@ -81,12 +71,6 @@ fn word(value: &[u8]) -> u64
         i += 1;
     }
     word
-}
-
-fn wide(byte: u8) -> u64
-    ensures { λ r. ⌜ r ≡ byte ⌝ }
-{
-    byte as u64
 }
 
 // The byte of eight characters 0 and 1.
@@ -154,7 +138,7 @@ fn write_bytes(states: States, codes: &[u8; 32], value: &[u8], out: &mut [u8], a
     ensures { λ r. ⌜ r ≡ at + lenOf (length (now (value .entry))) states ⌝ }
     ensures { λ _. ⌜ now (out .exit) ≡ overlay (now (out .entry)) at (packedFrom states 0 (now (value .entry))) ⌝ }
 {
-    let per_byte = bits_in_a_byte(states);
+    let per_byte = states.bits_in_a_byte();
     let mut from = 0;
     let mut k = 0;
     while from < value.len() {
@@ -188,7 +172,7 @@ fn equals_bytes(states: States, codes: &[u8; 32], value: &[u8], bytes: &[u8], at
     requires { ⌜ Whole states (now value) (length (now bytes)) at × ByLowBits (now codes) ⌝ }
     ensures { λ r. ⌜ r ≡ same (part at (lenOf (length (now (value .entry))) states) (now (bytes .entry))) (packedFrom states 0 (now (value .entry))) ⌝ }
 {
-    let per_byte = bits_in_a_byte(states);
+    let per_byte = states.bits_in_a_byte();
     let mut from = 0;
     let mut k = 0;
     while from < value.len() {
@@ -268,7 +252,7 @@ fn first_count(states: States, width: usize) -> usize
     ensures { λ r. ⌜ r ≡ firstCount states width ⌝ }
 {
     let len = states.bytes_required(width as u32);
-    let per_byte = bits_in_a_byte(states);
+    let per_byte = states.bits_in_a_byte();
     width + per_byte - len * per_byte
 }
 
@@ -285,7 +269,7 @@ pub fn write_n_state_from_ascii(
     ensures { λ _. ⌜ now (out .exit) ≡ overlay (now (out .entry)) at (packedFrom states meta_data (now (value .entry))) ⌝ }
 {
     let first = first_count(states, value.len());
-    if first == bits_in_a_byte(states) {
+    if first == states.bits_in_a_byte() {
         return write_whole(states, value, out, at);
     }
     out[at] = byte_from_ascii(states, &value[..first]) | meta_data;
@@ -307,7 +291,7 @@ pub fn equals_n_state_from_ascii(
     ensures { λ r. ⌜ r ≡ same (part at (lenOf (length (now (value .entry))) states) (now (bytes .entry))) (packedFrom states meta_data (now (value .entry))) ⌝ }
 {
     let first = first_count(states, value.len());
-    if first == bits_in_a_byte(states) {
+    if first == states.bits_in_a_byte() {
         return equals_whole(states, value, bytes, at);
     }
     if bytes[at] != (byte_from_ascii(states, &value[..first]) | meta_data) {

@@ -7,10 +7,10 @@ ghost use Rattle.value.specs.Digits.{number, digits, Below};
 ghost use Rattle.value.specs.Level.{foldAll, codesOf};
 ghost use Rattle.value.specs.Answer.{holdsOne};
 ghost use Rattle.wavemem.specs.Short.{padded, zeros, marks, Scan};
-use crate::wide;
 use crate::word;
 use value::States;
 use value::StatesAnswer;
+use value::wide;
 
 // The least set of a string, and the number of its levels under that set.
 pub struct Scanned {

@@ -6,7 +6,7 @@ use borrow.Author.Needs.{needs}
 use denote.Ref.{now}
 use lib.ListN.{length}
 use Rattle.value.proofs.Digits.{below-all}
-use Rattle.signal.proofs.CodesOfBytes.{perByte, per-some, Stored, stored-none, stored-room, stored-on, stored-end}
+use Rattle.signal.proofs.CodesOfBytes.{perByte, Stored, stored-none, stored-room, stored-on, stored-end}
 use Rattle.signal.proofs.decode.write_bytes.Statement.{statement}
 use Rattle.signal.proofs.decode.write_bytes.Tie as tie
 
@@ -15,9 +15,6 @@ Inv-loop states levels out₀ at per-byte i₀ k₀ out i k = Stored states leve
 
 abbrev μ-loop : tie.MeasureT-loop
 μ-loop states levels out₀ at per-byte i₀ k₀ out i k = length levels - k
-
-cast-per-byte : tie.Need-cast-per-byte Inv-loop μ-loop
-cast-per-byte c = omega (arith, c .bits-in-a-byte .ensures, per-some (c .before .before .before .args .states))
 
 loop-holds : tie.Need-loop-holds Inv-loop μ-loop
 loop-holds c = stored-none
@@ -58,7 +55,6 @@ write-bytes-spec =
     Inv-loop
     μ-loop
     (λ c κs. search needs)
-    cast-per-byte
     loop-holds
     (λ c. omega arith)
     write-byte-requires

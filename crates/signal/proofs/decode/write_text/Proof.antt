@@ -11,6 +11,9 @@ use Rattle.signal.proofs.CodesOfBytes.{per-some, Split, split-told, tex
 use Rattle.signal.proofs.decode.write_text.Statement.{statement}
 use Rattle.signal.proofs.decode.write_text.Tie as tie
 
+cast-count : tie.Need-cast-count
+cast-count c = omega (arith, c .bits-in-a-byte .ensures, per-some (c .before .before .before .args .states))
+
 rem-count : tie.Need-rem-count
 rem-count c = rw (c .bits-in-a-byte .ensures) (per-some (c .before .before .before .args .states) .0)
 
@@ -61,6 +64,7 @@ write-text-spec =
     tie.close
     (tie.spec
     (λ c κs. search needs)
+    cast-count
     rem-count
     write-first-requires
     sub-write-bytes
