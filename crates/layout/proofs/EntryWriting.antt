@@ -3,7 +3,7 @@
 use mathlib.Core.Path.{_≡_, refl, sym, ap, ap₂, _∙_}
 use mathlib.Core.Bool.{Bool, true, false, cond, _&&_}
 use mathlib.Core.List.{List, [], _∷_, _++_}
-use Prim.Native.Nat.{ℕ, suc, _+_, _-_, _*_, _≤_}
+use Prim.Native.Nat.{ℕ, suc, _+_, _-_, _*_, _%_, _≤_}
 use native.Mathlib.Nat.{mul-le-mul-left, add-zero}
 use native.Mathlib.Omega.{arith}
 use lib.Dec.{eqb}
@@ -34,13 +34,13 @@ module _ {M own : States} {v : List ℕ} {room at : ℕ} (ok : Writable M own v 
 
   -- the mark beside the levels
 
-  pub one-packable : (m : ℕ) → m ≡ markOf own * 64 → lenOf (length v) own ≡ entrySize (length v) M → Packable own v room at m
-  one-packable m e h =
+  pub one-packable : (m : ℕ) → m % 64 ≡ 0 → m ≤ markOf own * 64 → lenOf (length v) own ≡ entrySize (length v) M → Packable own v room at m
+  one-packable m top few h =
       record {
         codes = ok .codes;
         short = ok .short;
         fits = omega (arith, ok .fits);
-        marked = omega arith;
+        marked = top;
         free =
             λ p.
             omega
@@ -107,7 +107,7 @@ module _ {M own : States} {v : List ℕ} {room at : ℕ} (ok : Writable M own v 
         (λ q.
         let z : from ≡ at = omega arith in
         let o : first ≡ m = g ∙ rw (eq-eqb len size q) in
-        rw (r, z, o) (one-packable m e (sym l ∙ q ∙ s)))
+        rw (r, z, o) (one-packable m (omega arith) (omega arith) (sym l ∙ q ∙ s)))
         (λ q.
         let o : first ≡ 0 = g ∙ rw (ne-eqb len size q) in
         rw o (apart-packable (omega (arith, ok .fits, len-le l s))))

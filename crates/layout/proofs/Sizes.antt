@@ -57,11 +57,9 @@ module _ (w : ℕ) where
       go false e = let n : w % 2 ≡ 0 → ⊥ = eqb-false (w % 2) 0 e in omega (arith, size-by Nine false e)
 
   pub len-le : (M : States) → lenOf w M ≤ entrySize w M
-  len-le M = go (hasMeta w M) refl
-    where
-      go : (x : Bool) → hasMeta w M ≡ x → lenOf w M ≤ entrySize w M
-      go true e = omega (arith, size-by M true e)
-      go false e = omega (arith, size-by M false e)
+  len-le Two = omega (arith, size-plain Two)
+  len-le Four = omega (arith, size-plain Four)
+  len-le Nine = omega (arith, size-plain Nine)
 
   -- the size says the length and the meta byte
   pub same-size : (from to : States) → markOf from ≤ markOf to → entrySize w from ≡ entrySize w to
@@ -77,16 +75,6 @@ module _ (w : ℕ) where
   pub size-same : (from to : States) → lenOf w from ≡ lenOf w to → hasMeta w from ≡ hasMeta w to → entrySize w from ≡ entrySize w to
   size-same from to l m = size-by from (hasMeta w to) m ∙ rw l (sym (size-by to (hasMeta w to) refl))
 
-  -- where the size grows there is a byte for the mark in front of the levels
-  pub mark-room : (from to : States) → markOf from ≤ markOf to → (entrySize w from ≡ entrySize w to → ⊥) → lenOf w from + 1 ≤ entrySize w to
-  mark-room from to h n = go (hasMeta w to) refl
-    where
-      go : (y : Bool) → hasMeta w to ≡ y → lenOf w from + 1 ≤ entrySize w to
-      go true q = omega (arith, size-by to true q, len-up w from to h)
-      go false q =
-          let p : hasMeta w from ≡ false = meta-down from to h q in
-          omega (arith, n, size-by to false q, size-by from false p, len-up w from to h)
-
   pub size-up : (from to : States) → markOf from ≤ markOf to → entrySize w from ≤ entrySize w to
   size-up from to h = go (hasMeta w from) (hasMeta w to) refl refl
     where
@@ -95,6 +83,10 @@ module _ (w : ℕ) where
       go true false p q = absurd (true≢false (sym p ∙ meta-down from to h q))
       go false true p q = omega (arith, size-by from false p, size-by to true q, len-up w from to h)
       go false false p q = omega (arith, size-by from false p, size-by to false q, len-up w from to h)
+
+  -- where the size grows there is a byte for the mark in front of the levels
+  pub mark-room : (from to : States) → markOf from ≤ markOf to → (entrySize w from ≡ entrySize w to → ⊥) → lenOf w from + 1 ≤ entrySize w to
+  mark-room from to h n = omega (arith, n, len-le from, size-up from to h)
 
   -- ---- what widening makes of any bytes, by whether the size stays
 
@@ -131,16 +123,8 @@ module _ (w : ℕ) (pos : 0 < w) where
   -- the levels leave two bits where a mark is stored
   pub mark-bits : (M : States) → Marked M → w * bitsOf M + 2 ≤ 8 * entrySize w M
   mark-bits Two m = absurd (omega arith)
-  mark-bits Four m = go (hasMeta w Four) refl
-    where
-      go : (x : Bool) → hasMeta w Four ≡ x → w * 2 + 2 ≤ 8 * entrySize w Four
-      go true e = omega (arith, size-by w Four true e)
-      go false e = let n : w % 4 ≡ 0 → ⊥ = eqb-false (w % 4) 0 e in omega (arith, size-by w Four false e)
-  mark-bits Nine m = go (hasMeta w Nine) refl
-    where
-      go : (x : Bool) → hasMeta w Nine ≡ x → w * 4 + 2 ≤ 8 * entrySize w Nine
-      go true e = omega (arith, size-by w Nine true e)
-      go false e = let n : w % 2 ≡ 0 → ⊥ = eqb-false (w % 2) 0 e in omega (arith, size-by w Nine false e)
+  mark-bits Four m = omega (arith, size-plain w Four)
+  mark-bits Nine m = omega (arith, size-plain w Nine)
 
   unmarked-length : (from : States) (v : List ℕ) → 0 < length v → length (unmarked from v) ≡ length v
   unfolding unmarked

@@ -40,7 +40,7 @@ entry-layout-requires c κs = search needs
 equals-n-state-from-ascii-requires : tie.Need-equals-n-state-from-ascii-requires
 equals-n-state-from-ascii-requires c κs =
     let a = c .before in
-    one-packable (start a .pre) _ (a .entry-layout .ensures .2) (sym (a .entry-layout .ensures .0) ∙ c .if1 .taken ∙ a .entry-layout .ensures .1)
+    one-packable (start a .pre) _ (omega (arith, a .entry-layout .ensures .2)) (omega (arith, a .entry-layout .ensures .2)) (sym (a .entry-layout .ensures .0) ∙ c .if1 .taken ∙ a .entry-layout .ensures .1)
 
 returns : tie.Need-returns
 returns c =

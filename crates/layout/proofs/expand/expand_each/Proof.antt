@@ -1,13 +1,15 @@
 -- `layout::expand::expand_each` meets its contract. Assumes nothing.
 use mathlib.Core.Path.{_≡_, refl, sym, ap, _∙_}
 use mathlib.Core.List.{List}
-use Prim.Native.Nat.{ℕ, _+_, _-_, _*_, _≤_}
+use Prim.Native.Nat.{ℕ, _+_, _-_, _*_, _≤_, _<_}
 use native.Mathlib.Nat.{sub-zero}
 use native.Mathlib.Omega.{arith}
 use denote.Ref.{now}
 use lib.ListN.{length}
 use Rattle.value.specs.Slice.{part, overlay}
-use Rattle.layout.specs.Expand.{moved}
+use mir.Syntax.{w64}
+use mir.Val.{Fits}
+use Rattle.layout.specs.Expand.{moved, Movable}
 use Rattle.layout.proofs.Expanding.{expanded, none-expanded, old-place, new-place, more-expanded, all-expanded}
 use Rattle.layout.proofs.expand.expand_each.Statement.{statement}
 use Rattle.layout.proofs.expand.expand_each.Tie as tie
@@ -43,36 +45,49 @@ add-done c = omega arith
 sub-k : tie.Need-sub-k Inv-loop μ-loop
 sub-k c = omega arith
 
--- entry k's places lie in the slice
-places : (c : tie.After-expand-entry-arg Inv-loop μ-loop) →
-    let s = begin (c .before .before) in
-    let x = s .args in
-    let k = x .entries - (c .before .before .loop .done + 1) in
-    (x .start + k * x .widening .«from_size» ≤ x .start + k * (x .len + x .zeros + 1)) × (x .start + k * (x .len + x .zeros + 1) + x .widening .«to_size» ≤ length (old (c .before .before)))
-places c =
-    let s = begin (c .before .before) in
-    let m = s .args .widening in
-    let d = old (c .before .before) in
-    let k = s .args .entries - (c .before .before .loop .done + 1) in
-    rw (s .pre .1 .between) (old-place m (s .pre .0 .grows) d _ _ (s .pre .0 .room) k (omega arith), new-place m (s .pre .0 .grows) d _ _ (s .pre .0 .room) k (omega arith))
+-- the places of an entry lie in the slice, whichever it is
+module _ (a : tie.At-loop Inv-loop μ-loop) (k : ℕ) (some : k < begin a .args .entries) where
+  abbrev old-at : ℕ
+  old-at = k * begin a .args .widening .«from_size»
+
+  abbrev new-at : ℕ
+  new-at = k * (begin a .args .len + begin a .args .zeros + 1)
+
+  places : (begin a .args .start + old-at ≤ begin a .args .start + new-at) × (begin a .args .start + new-at + begin a .args .widening .«to_size» ≤ length (old a))
+  places =
+      let s = begin a in
+      let m = s .args .widening in
+      rw (s .pre .1 .between) (old-place m (s .pre .0 .grows) (old a) _ _ (s .pre .0 .room) k some, new-place m (s .pre .0 .grows) (old a) _ _ (s .pre .0 .room) k some)
+
+  old-fits : Fits w64 (begin a .args .start + old-at)
+  old-fits = let f = begin a .fits in omega (arith, places)
+
+  new-fits : Fits w64 (begin a .args .start + new-at)
+  new-fits = let f = begin a .fits in omega (arith, places)
+
+  old-small : Fits w64 old-at
+  old-small = omega (arith, old-fits)
+
+  new-small : Fits w64 new-at
+  new-small = omega (arith, new-fits)
+
+  movable : Movable (begin a .args .widening) (begin a .args .start + old-at) (begin a .args .start + new-at) (length (a .loop .«data»))
+  movable = record { grows = begin a .pre .0 .grows; onward = places .0; room = omega (arith, places, a .loop .inv .2) }
 
 mul-expand-entry : tie.Need-mul-expand-entry Inv-loop μ-loop
-mul-expand-entry c = let p = places c in omega arith
+mul-expand-entry c = old-small (c .before .before) _ (omega arith)
 
 add-expand-entry : tie.Need-add-expand-entry Inv-loop μ-loop
-add-expand-entry c = let p = places c in omega arith
+add-expand-entry c = old-fits (c .before .before) _ (omega arith)
 
 mul-expand-entry-2 : tie.Need-mul-expand-entry-2 Inv-loop μ-loop
-mul-expand-entry-2 c = let p = places c in omega arith
+mul-expand-entry-2 c = new-small (c .before .before) _ (omega arith)
 
 add-expand-entry-2 : tie.Need-add-expand-entry-2 Inv-loop μ-loop
-add-expand-entry-2 c = let p = places c in omega arith
+add-expand-entry-2 c = new-fits (c .before .before) _ (omega arith)
 
 expand-entry-requires : tie.Need-expand-entry-requires Inv-loop μ-loop
-expand-entry-requires c κs =
-    let p = places c in
-    let s = begin (c .before .before) in
-    (record { grows = s .pre .0 .grows; onward = p .0; room = omega arith }, s .pre .1)
+expand-entry-requires c κs = (movable (c .before .before) _ (omega arith), begin (c .before .before) .pre .1)
 
 loop-less : tie.Need-loop-less Inv-loop μ-loop
 loop-less c = omega arith
