@@ -13,12 +13,6 @@ use Rattle.value.proofs.Classes.{same-tests}
 use Rattle.value.proofs.beside_four.Statement.{statement}
 use Rattle.value.proofs.beside_four.Tie as tie
 
-beside-two-requires : tie.Need-beside-two-requires
-beside-two-requires c κs = search needs
-
-smaller-requires : tie.Need-smaller-requires
-smaller-requires c κs = search needs
-
 returns : tie.Need-returns
 unfolding holdsOne codeOf placeIn fold
 returns c =
@@ -29,4 +23,4 @@ returns c =
     ∙ same-tests (λ (n : ℕ). holdsOne 2 n || eqb (bitXor (bitAnd (bitOr n 32) 253) 120) 0) (holdsOne 4) tt x (omega arith)
 
 pub beside-four-spec : {M : Type 1} → statement M
-beside-four-spec = tie.close (tie.spec beside-two-requires smaller-requires returns)
+beside-four-spec = tie.close (tie.spec (λ c κs. search needs) (λ c κs. search needs) returns)

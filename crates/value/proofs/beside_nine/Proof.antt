@@ -13,18 +13,6 @@ use Rattle.value.proofs.Classes.{same-tests}
 use Rattle.value.proofs.beside_nine.Statement.{statement}
 use Rattle.value.proofs.beside_nine.Tie as tie
 
-smaller-requires : tie.Need-smaller-requires
-smaller-requires c κs = search needs
-
-beside-four-requires : tie.Need-beside-four-requires
-beside-four-requires c κs = search needs
-
-smaller-requires-2 : tie.Need-smaller-requires-2
-smaller-requires-2 c κs = search needs
-
-smaller-requires-3 : tie.Need-smaller-requires-3
-smaller-requires-3 c κs = search needs
-
 -- u w h l
 abbrev letter : ℕ → Bool
 letter n = eqb (bitXor (bitAnd (bitOr n 32) 253) 117) 0 || eqb (bitXor (bitAnd (bitOr n 32) 251) 104) 0
@@ -41,4 +29,4 @@ returns c =
     ∙ same-tests (λ (n : ℕ). holdsOne 4 n || (letter n || eqb (bitXor n 45) 0)) (holdsOne 9) tt x (omega arith)
 
 pub beside-nine-spec : {M : Type 1} → statement M
-beside-nine-spec = tie.close (tie.spec smaller-requires beside-four-requires smaller-requires-2 smaller-requires-3 returns)
+beside-nine-spec = tie.close (tie.spec (λ c κs. search needs) (λ c κs. search needs) (λ c κs. search needs) (λ c κs. search needs) returns)

@@ -23,18 +23,6 @@ abbrev μ-loop : tie.MeasureT-loop
 loop-holds : tie.Need-loop-holds Inv-loop μ-loop
 loop-holds c = (omega arith, holds-none Two)
 
-shared-slice-read-beside-two : tie.Need-shared-slice-read-beside-two Inv-loop μ-loop
-shared-slice-read-beside-two c = omega arith
-
-beside-two-requires : tie.Need-beside-two-requires Inv-loop μ-loop
-beside-two-requires c κs = search needs
-
-add-i : tie.Need-add-i Inv-loop μ-loop
-add-i c = omega arith
-
-loop-less : tie.Need-loop-less Inv-loop μ-loop
-loop-less c = omega arith
-
 loop-again : tie.Need-loop-again Inv-loop μ-loop
 loop-again c =
     let l = c .before .before .before in
@@ -54,9 +42,9 @@ is-binary-spec =
     Inv-loop
     μ-loop
     loop-holds
-    shared-slice-read-beside-two
-    beside-two-requires
-    add-i
-    loop-less
+    (λ c. omega arith)
+    (λ c κs. search needs)
+    (λ c. omega arith)
+    (λ c. omega arith)
     loop-again
     returns)

@@ -26,24 +26,6 @@ abbrev μ-loop : tie.MeasureT-loop
 loop-holds : tie.Need-loop-holds Inv-loop μ-loop
 loop-holds c = (omega arith, holds-none Four, holds-none Nine)
 
-shared-slice-read-beside-four : tie.Need-shared-slice-read-beside-four Inv-loop μ-loop
-shared-slice-read-beside-four c = omega arith
-
-beside-four-requires : tie.Need-beside-four-requires Inv-loop μ-loop
-beside-four-requires c κs = search needs
-
-shared-slice-read-beside-nine : tie.Need-shared-slice-read-beside-nine Inv-loop μ-loop
-shared-slice-read-beside-nine c = omega arith
-
-beside-nine-requires : tie.Need-beside-nine-requires Inv-loop μ-loop
-beside-nine-requires c κs = search needs
-
-add-i : tie.Need-add-i Inv-loop μ-loop
-add-i c = omega arith
-
-loop-less : tie.Need-loop-less Inv-loop μ-loop
-loop-less c = omega arith
-
 loop-again : tie.Need-loop-again Inv-loop μ-loop
 loop-again c =
     let l = c .before .before .before .before .before in
@@ -87,12 +69,12 @@ beyond-two-spec =
     Inv-loop
     μ-loop
     loop-holds
-    shared-slice-read-beside-four
-    beside-four-requires
-    shared-slice-read-beside-nine
-    beside-nine-requires
-    add-i
-    loop-less
+    (λ c. omega arith)
+    (λ c κs. search needs)
+    (λ c. omega arith)
+    (λ c κs. search needs)
+    (λ c. omega arith)
+    (λ c. omega arith)
     loop-again
     returns
     returns-2

@@ -4,24 +4,6 @@ use borrow.Author.Needs.{needs}
 use Rattle.value.proofs.States.bytes_required.Statement.{statement}
 use Rattle.value.proofs.States.bytes_required.Tie as tie
 
-enum-told : tie.Need-enum-told
-enum-told c = search needs
-
-add-result : tie.Need-add-result
-add-result c = search needs
-
-enum-told-2 : tie.Need-enum-told-2
-enum-told-2 c = search needs
-
-add-result-2 : tie.Need-add-result-2
-add-result-2 c = search needs
-
-enum-told-3 : tie.Need-enum-told-3
-enum-told-3 c = search needs
-
-add-result-3 : tie.Need-add-result-3
-add-result-3 c = search needs
-
 returns : tie.Need-returns
 returns c = rw (c .enum-told .given .1)
 
@@ -35,12 +17,12 @@ pub bytes-required-spec : {M : Type 1} → statement M
 bytes-required-spec =
     tie.close
     (tie.spec
-    enum-told
-    add-result
-    enum-told-2
-    add-result-2
-    enum-told-3
-    add-result-3
+    (λ c. search needs)
+    (λ c. search needs)
+    (λ c. search needs)
+    (λ c. search needs)
+    (λ c. search needs)
+    (λ c. search needs)
     returns
     returns-2
     returns-3)

@@ -6,17 +6,11 @@ use Rattle.value.proofs.Classes.{is-two}
 use Rattle.value.proofs.States.from_ascii.Statement.{statement}
 use Rattle.value.proofs.States.from_ascii.Tie as tie
 
-is-binary-requires : tie.Need-is-binary-requires
-is-binary-requires c κs = search needs
-
 returns : tie.Need-returns
 returns c = sym (is-two _ (sym (c .if1 .taken) ∙ c .before .is-binary .ensures))
 
 beyond-two-requires : tie.Need-beyond-two-requires
 beyond-two-requires c κs = sym (c .if1 .left) ∙ c .before .is-binary .ensures
 
-returns-2 : tie.Need-returns-2
-returns-2 c = search needs
-
 pub from-ascii-spec : {M : Type 1} → statement M
-from-ascii-spec = tie.close (tie.spec is-binary-requires beyond-two-requires returns returns-2)
+from-ascii-spec = tie.close (tie.spec (λ c κs. search needs) beyond-two-requires returns (λ c. search needs))

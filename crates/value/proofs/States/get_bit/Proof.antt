@@ -15,9 +15,6 @@ use Rattle.value.proofs.States.get_bit.Tie as tie
 within : (c : tie.After-bits) → (c .before .before .args .bit * c .bits .result / 8 + 1 ≤ length (now (c .before .before .args .«data»))) × (c .before .before .args .bit * c .bits .result ≤ 16384)
 within c = rw (c .bits .ensures) (ahead (c .before .before .args .self) (c .before .before .args .bit) (length (now (c .before .before .args .«data»))) (c .before .before .pre))
 
-bits-requires : tie.Need-bits-requires
-bits-requires c κs = search needs
-
 mul-from : tie.Need-mul-from
 mul-from c = omega (arith, within c)
 
@@ -39,9 +36,6 @@ cast-result c = omega (arith, mask-lt (c .before .before .before .args .bit * c 
 shr-result : tie.Need-shr-result
 shr-result c = mask-lt (c .before .before .before .args .bit * c .before .bits .result) 3
 
-mask-requires : tie.Need-mask-requires
-mask-requires c κs = search needs
-
 returns : tie.Need-returns
 returns c =
     let s = c .before .before .before .before in
@@ -52,7 +46,7 @@ pub get-bit-spec : {M : Type 1} → statement M
 get-bit-spec =
     tie.close
     (tie.spec
-    bits-requires
+    (λ c κs. search needs)
     mul-from
     sub-at
     cast-at
@@ -60,5 +54,5 @@ get-bit-spec =
     shared-slice-read-result
     cast-result
     shr-result
-    mask-requires
+    (λ c κs. search needs)
     returns)

@@ -6,12 +6,6 @@ use borrow.Author.Needs.{needs}
 use Rattle.value.proofs.States.join.Statement.{statement}
 use Rattle.value.proofs.States.join.Tie as tie
 
-mark-requires : tie.Need-mark-requires
-mark-requires c κs = search needs
-
-mark-requires-2 : tie.Need-mark-requires-2
-mark-requires-2 c κs = search needs
-
 returns : tie.Need-returns
 returns c = mark-inj _ _ (omega (arith, mark-join (c .before .before .before .args .a) (c .before .before .before .args .b)))
 
@@ -19,4 +13,4 @@ returns-2 : tie.Need-returns-2
 returns-2 c = mark-inj _ _ (omega (arith, mark-join (c .before .before .before .args .a) (c .before .before .before .args .b)))
 
 pub join-spec : {M : Type 1} → statement M
-join-spec = tie.close (tie.spec mark-requires mark-requires-2 returns returns-2)
+join-spec = tie.close (tie.spec (λ c κs. search needs) (λ c κs. search needs) returns returns-2)
