@@ -45,12 +45,6 @@ within c = omega (arith, c .before .loop .inv .0, c .before .loop .inv .1, c .lo
 add-to : tie.Need-add-to Inv-loop μ-loop
 add-to c = omega (arith, c .before .before .before .before .before .pre .short)
 
-sub-byte-of-bits : tie.Need-sub-byte-of-bits Inv-loop μ-loop
-sub-byte-of-bits c = omega arith
-
-part-byte-of-bits-start : tie.Need-part-byte-of-bits-start Inv-loop μ-loop
-part-byte-of-bits-start c = omega arith
-
 part-byte-of-bits-end : tie.Need-part-byte-of-bits-end Inv-loop μ-loop
 part-byte-of-bits-end c = within c
 
@@ -62,12 +56,6 @@ byte-of-bits-requires c κs =
     let v = now (s .args .value) in
     let l : length (take (f + 8 - f) (drop f v)) ≡ 8 = length-take-le (f + 8 - f) (drop f v) (rw length-drop (omega (arith, within i))) ∙ omega arith in
     record { one = record { codes = take-codes (f + 8 - f) (drop f v) (drop-codes f v (s .pre .codes)); short = omega arith }; full = l }
-
-wide-requires : tie.Need-wide-requires Inv-loop μ-loop
-wide-requires c κs = search needs
-
-loop-less : tie.Need-loop-less Inv-loop μ-loop
-loop-less c = omega arith
 
 loop-again : tie.Need-loop-again Inv-loop μ-loop
 loop-again c =
@@ -99,11 +87,11 @@ bits-from-ascii-spec =
     few-bits-requires
     loop-holds
     add-to
-    sub-byte-of-bits
-    part-byte-of-bits-start
+    (λ c. omega arith)
+    (λ c. omega arith)
     part-byte-of-bits-end
     byte-of-bits-requires
-    wide-requires
-    loop-less
+    (λ c κs. search needs)
+    (λ c. omega arith)
     loop-again
     returns)

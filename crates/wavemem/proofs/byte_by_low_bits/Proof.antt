@@ -12,8 +12,5 @@ levels-from-ascii-requires c κs = (one-word (c .before .pre .0), c .before .pre
 cast-result : tie.Need-cast-result
 cast-result c = omega (arith, c .levels-from-ascii .ensures, byte-small (c .before .before .pre .0))
 
-returns : tie.Need-returns
-returns c = search needs
-
 pub byte-by-low-bits-spec : {M : Type 1} → statement M
-byte-by-low-bits-spec = tie.close (tie.spec levels-from-ascii-requires cast-result returns)
+byte-by-low-bits-spec = tie.close (tie.spec levels-from-ascii-requires cast-result (λ c. search needs))

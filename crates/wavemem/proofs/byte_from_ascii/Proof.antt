@@ -21,24 +21,9 @@ Inv-loop value bits working₀ i₀ working i = (i ≤ length value) × (working
 abbrev μ-loop : tie.MeasureT-loop
 μ-loop value bits working₀ i₀ working i = length value - i
 
-bits-requires : tie.Need-bits-requires Inv-loop μ-loop
-bits-requires c κs = search needs
-
 loop-holds : tie.Need-loop-holds Inv-loop μ-loop
 unfolding number
 loop-holds c = (zero-le, refl)
-
-shared-slice-read-bit-char-to-num : tie.Need-shared-slice-read-bit-char-to-num Inv-loop μ-loop
-shared-slice-read-bit-char-to-num c = omega arith
-
-bit-char-to-num-requires : tie.Need-bit-char-to-num-requires Inv-loop μ-loop
-bit-char-to-num-requires c κs = search needs
-
-enum-known-code : tie.Need-enum-known-code Inv-loop μ-loop
-enum-known-code c = search needs
-
-enum-told : tie.Need-enum-told Inv-loop μ-loop
-enum-told c = search needs
 
 returns : tie.Need-returns Inv-loop μ-loop
 returns c =
@@ -51,9 +36,6 @@ returns c =
     (rw (← code-at v (a .loop .i)) (below-at 9 (codesOf (foldAll v)) (s .pre .codes .known) (a .loop .i) (codeOf (fold 0)) (rw (length-map, length-map) (omega arith))))
     (sym (f .bit-char-to-num .ensures) ∙ c .enum-told .given .1))
 
-add-i : tie.Need-add-i Inv-loop μ-loop
-add-i c = omega arith
-
 cast-working : tie.Need-cast-working Inv-loop μ-loop
 cast-working c =
     let a = c .before .before .before .before .before .before .before in
@@ -63,9 +45,6 @@ shl-working : tie.Need-shl-working Inv-loop μ-loop
 shl-working c =
     let a = c .before .before .before .before .before .before .before in
     omega (arith, a .bits .ensures, bits-small (a .before .before .args .states))
-
-loop-less : tie.Need-loop-less Inv-loop μ-loop
-loop-less c = omega arith
 
 loop-again : tie.Need-loop-again Inv-loop μ-loop
 loop-again c =
@@ -93,16 +72,16 @@ byte-from-ascii-spec =
     (tie.spec
     Inv-loop
     μ-loop
-    bits-requires
+    (λ c κs. search needs)
     loop-holds
-    shared-slice-read-bit-char-to-num
-    bit-char-to-num-requires
-    enum-known-code
-    enum-told
+    (λ c. omega arith)
+    (λ c κs. search needs)
+    (λ c. search needs)
+    (λ c. search needs)
     returns
-    add-i
+    (λ c. omega arith)
     cast-working
     shl-working
-    loop-less
+    (λ c. omega arith)
     loop-again
     returns-2)

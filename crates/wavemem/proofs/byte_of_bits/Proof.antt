@@ -14,9 +14,6 @@ use Rattle.wavemem.proofs.Packing.{byte-small}
 use Rattle.wavemem.proofs.byte_of_bits.Statement.{statement}
 use Rattle.wavemem.proofs.byte_of_bits.Tie as tie
 
-word-requires : tie.Need-word-requires
-word-requires c κs = search needs
-
 two-of-word-requires : tie.Need-two-of-word-requires
 two-of-word-requires c κs =
     let s = c .before .before in
@@ -37,4 +34,4 @@ cast-result : tie.Need-cast-result
 cast-result c = omega (arith, returns c, byte-small (c .before .before .before .pre .one))
 
 pub byte-of-bits-spec : {M : Type 1} → statement M
-byte-of-bits-spec = tie.close (tie.spec word-requires two-of-word-requires cast-result returns)
+byte-of-bits-spec = tie.close (tie.spec (λ c κs. search needs) two-of-word-requires cast-result returns)

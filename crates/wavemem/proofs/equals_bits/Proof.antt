@@ -37,9 +37,6 @@ add-if1 c = omega (arith, fits c)
 shared-slice-read-if1 : tie.Need-shared-slice-read-if1 Inv-loop μ-loop
 shared-slice-read-if1 c = fits (c .before)
 
-sub-byte-of-bits : tie.Need-sub-byte-of-bits Inv-loop μ-loop
-sub-byte-of-bits c = omega arith
-
 part-byte-of-bits-start : tie.Need-part-byte-of-bits-start Inv-loop μ-loop
 part-byte-of-bits-start c =
     let z : c .before .before .loop .from ≤ c .before .before .loop .from + 8 = omega arith in
@@ -82,7 +79,7 @@ equals-bits-spec =
     add-to
     add-if1
     shared-slice-read-if1
-    sub-byte-of-bits
+    (λ c. omega arith)
     part-byte-of-bits-start
     part-byte-of-bits-end
     byte-of-bits-requires

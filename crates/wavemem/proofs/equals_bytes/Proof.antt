@@ -17,9 +17,6 @@ Inv-loop states codes value bytes at per-byte from₀ k₀ from k = Agrees state
 abbrev μ-loop : tie.MeasureT-loop
 μ-loop states codes value bytes at per-byte from₀ k₀ from k = length value - from
 
-bits-in-a-byte-requires : tie.Need-bits-in-a-byte-requires Inv-loop μ-loop
-bits-in-a-byte-requires c κs = search needs
-
 loop-holds : tie.Need-loop-holds Inv-loop μ-loop
 loop-holds c = agrees-start _ (byte-turns (c .before .before .before .pre .0)) (omega arith)
 
@@ -44,9 +41,6 @@ add-if1 c = omega (arith, fits c)
 
 shared-slice-read-if1 : tie.Need-shared-slice-read-if1 Inv-loop μ-loop
 shared-slice-read-if1 c = fits (c .before)
-
-sub-byte-by-low-bits : tie.Need-sub-byte-by-low-bits Inv-loop μ-loop
-sub-byte-by-low-bits c = omega arith
 
 part-byte-by-low-bits-start : tie.Need-part-byte-by-low-bits-start Inv-loop μ-loop
 part-byte-by-low-bits-start c =
@@ -92,12 +86,12 @@ equals-bytes-spec =
     (tie.spec
     Inv-loop
     μ-loop
-    bits-in-a-byte-requires
+    (λ c κs. search needs)
     loop-holds
     add-to
     add-if1
     shared-slice-read-if1
-    sub-byte-by-low-bits
+    (λ c. omega arith)
     part-byte-by-low-bits-start
     part-byte-by-low-bits-end
     byte-by-low-bits-requires

@@ -18,12 +18,6 @@ use Rattle.wavemem.proofs.Packing.{perByte, all-whole, no-meta, first-f
 use Rattle.wavemem.proofs.equals_n_state_from_ascii.Statement.{statement}
 use Rattle.wavemem.proofs.equals_n_state_from_ascii.Tie as tie
 
-first-count-requires : tie.Need-first-count-requires
-first-count-requires c κs = search needs
-
-bits-in-a-byte-requires : tie.Need-bits-in-a-byte-requires
-bits-in-a-byte-requires c κs = search needs
-
 -- the function's entry, and whether the first byte is full
 abbrev start : tie.After-bits-in-a-byte → tie.Start
 start b = b .before .before .before .before
@@ -101,12 +95,6 @@ part-equals-whole-start c =
     let e = c .before .before .before .before .before in
     rw (count (e .before)) (first-fits (start (e .before) .pre) (short e))
 
-part-equals-whole-end : tie.Need-part-equals-whole-end
-part-equals-whole-end c = search needs
-
-add-equals-whole : tie.Need-add-equals-whole
-add-equals-whole c = search needs
-
 equals-whole-requires-2 : tie.Need-equals-whole-requires-2
 equals-whole-requires-2 c κs =
     let e = c .before .before .before .before .before .before in
@@ -123,8 +111,8 @@ pub equals-n-state-from-ascii-spec : {M : Type 1} → statement M
 equals-n-state-from-ascii-spec =
     tie.close
     (tie.spec
-    first-count-requires
-    bits-in-a-byte-requires
+    (λ c κs. search needs)
+    (λ c κs. search needs)
     equals-whole-requires
     returns
     shared-slice-read-if2
@@ -134,7 +122,7 @@ equals-n-state-from-ascii-spec =
     returns-3
     sub-equals-whole
     part-equals-whole-start
-    part-equals-whole-end
-    add-equals-whole
+    (λ c. search needs)
+    (λ c. search needs)
     equals-whole-requires-2
     returns-4)

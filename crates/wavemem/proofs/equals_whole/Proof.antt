@@ -30,14 +30,8 @@ lead : (c : tie.After-enum-told2)
     Passed Four (length (now (x .value))) (x .at) 8 n (x .at + n / 4)
 lead c = let f = four c .full in lead-four (four c) (omega arith)
 
-enum-told : tie.Need-enum-told
-enum-told c = search needs
-
 equals-bits-requires : tie.Need-equals-bits-requires
 equals-bits-requires c κs = rw (c .enum-told .given .1) at (c .before .before .before .before .pre)
-
-enum-told-2 : tie.Need-enum-told-2
-enum-told-2 c = search needs
 
 slice-aggregate-equals-bytes : tie.Need-slice-aggregate-equals-bytes
 slice-aggregate-equals-bytes c = let e = c .before .before in sym (front-length (four e) (lead e))
@@ -51,9 +45,6 @@ sub-equals-words c = lead (c .before .before .before .before) .within
 part-equals-words-start : tie.Need-part-equals-words-start
 part-equals-words-start c = lead (c .before .before .before .before) .within
 
-part-equals-words-end : tie.Need-part-equals-words-end
-part-equals-words-end c = search needs
-
 add-equals-words : tie.Need-add-equals-words
 add-equals-words c =
     let e = c .before .before .before .before .before in
@@ -61,9 +52,6 @@ add-equals-words c =
 
 equals-words-requires : tie.Need-equals-words-requires
 equals-words-requires c κs = let e = c .before .before .before .before .before in back-lent (four e) (lead e)
-
-enum-told-3 : tie.Need-enum-told-3
-enum-told-3 c = search needs
 
 equals-bytes-requires-2 : tie.Need-equals-bytes-requires-2
 equals-bytes-requires-2 c κs = (rw (c .before .enum-told3 .given .1) at (c .before .before .before .before .before .pre), by-low-bits)
@@ -100,17 +88,17 @@ pub equals-whole-spec : {M : Type 1} → statement M
 equals-whole-spec =
     tie.close
     (tie.spec
-    enum-told
+    (λ c. search needs)
     equals-bits-requires
-    enum-told-2
+    (λ c. search needs)
     slice-aggregate-equals-bytes
     equals-bytes-requires
     sub-equals-words
     part-equals-words-start
-    part-equals-words-end
+    (λ c. search needs)
     add-equals-words
     equals-words-requires
-    enum-told-3
+    (λ c. search needs)
     equals-bytes-requires-2
     returns
     returns-2

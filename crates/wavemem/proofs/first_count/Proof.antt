@@ -6,15 +6,6 @@ use Rattle.wavemem.proofs.Packing.{spans, per-small}
 use Rattle.wavemem.proofs.first_count.Statement.{statement}
 use Rattle.wavemem.proofs.first_count.Tie as tie
 
-cast-bytes-required : tie.Need-cast-bytes-required
-cast-bytes-required c = search needs
-
-bytes-required-requires : tie.Need-bytes-required-requires
-bytes-required-requires c κs = search needs
-
-bits-in-a-byte-requires : tie.Need-bits-in-a-byte-requires
-bits-in-a-byte-requires c κs = search needs
-
 add-result : tie.Need-add-result
 add-result c = omega (arith, per-small (c .before .before .args .states), c .bits-in-a-byte .ensures)
 
@@ -35,9 +26,9 @@ pub first-count-spec : {M : Type 1} → statement M
 first-count-spec =
     tie.close
     (tie.spec
-    cast-bytes-required
-    bytes-required-requires
-    bits-in-a-byte-requires
+    (λ c. search needs)
+    (λ c κs. search needs)
+    (λ c κs. search needs)
     add-result
     mul-result
     sub-result

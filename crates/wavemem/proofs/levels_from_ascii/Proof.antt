@@ -21,27 +21,15 @@ Inv-loop codes value bits working₀ i₀ working i = (i ≤ length value) × (w
 abbrev μ-loop : tie.MeasureT-loop
 μ-loop codes value bits working₀ i₀ working i = length value - i
 
-bits-requires : tie.Need-bits-requires Inv-loop μ-loop
-bits-requires c κs = search needs
-
 loop-holds : tie.Need-loop-holds Inv-loop μ-loop
 unfolding number
 loop-holds c = (zero-le, refl)
-
-shared-slice-read-low : tie.Need-shared-slice-read-low Inv-loop μ-loop
-shared-slice-read-low c = omega arith
 
 cast-wide : tie.Need-cast-wide Inv-loop μ-loop
 cast-wide c = omega (arith, mask-lt (getD (now (c .before .before .before .before .before .args .value)) (c .before .before .loop .i) 0) 5)
 
 element-copy-out-wide : tie.Need-element-copy-out-wide Inv-loop μ-loop
 element-copy-out-wide c = mask-lt (getD (now (c .before .before .before .before .before .args .value)) (c .before .before .loop .i) 0) 5
-
-wide-requires : tie.Need-wide-requires Inv-loop μ-loop
-wide-requires c κs = search needs
-
-add-i : tie.Need-add-i Inv-loop μ-loop
-add-i c = omega arith
 
 cast-working : tie.Need-cast-working Inv-loop μ-loop
 cast-working c =
@@ -52,9 +40,6 @@ shl-working : tie.Need-shl-working Inv-loop μ-loop
 shl-working c =
     let a = c .before .before .before .before .before in
     omega (arith, a .bits .ensures, bits-small (a .before .before .args .states))
-
-loop-less : tie.Need-loop-less Inv-loop μ-loop
-loop-less c = omega arith
 
 loop-again : tie.Need-loop-again Inv-loop μ-loop
 loop-again c =
@@ -82,15 +67,15 @@ levels-from-ascii-spec =
     (tie.spec
     Inv-loop
     μ-loop
-    bits-requires
+    (λ c κs. search needs)
     loop-holds
-    shared-slice-read-low
+    (λ c. omega arith)
     cast-wide
     element-copy-out-wide
-    wide-requires
-    add-i
+    (λ c κs. search needs)
+    (λ c. omega arith)
     cast-working
     shl-working
-    loop-less
+    (λ c. omega arith)
     loop-again
     returns)

@@ -4,20 +4,11 @@ use borrow.Author.Needs.{needs}
 use Rattle.wavemem.proofs.number_from_ascii.Statement.{statement}
 use Rattle.wavemem.proofs.number_from_ascii.Tie as tie
 
-enum-told : tie.Need-enum-told
-enum-told c = search needs
-
 bits-from-ascii-requires : tie.Need-bits-from-ascii-requires
 bits-from-ascii-requires c κs = rw (c .enum-told .given .1) at (c .before .before .before .pre)
 
-enum-told-2 : tie.Need-enum-told-2
-enum-told-2 c = search needs
-
 word-from-ascii-requires : tie.Need-word-from-ascii-requires
 word-from-ascii-requires c κs = rw (c .enum-told2 .given .1) at (c .before .before .before .pre)
-
-enum-told-3 : tie.Need-enum-told-3
-enum-told-3 c = search needs
 
 word-from-ascii-requires-2 : tie.Need-word-from-ascii-requires-2
 word-from-ascii-requires-2 c κs = rw (c .enum-told3 .given .1) at (c .before .before .before .pre)
@@ -35,11 +26,11 @@ pub number-from-ascii-spec : {M : Type 1} → statement M
 number-from-ascii-spec =
     tie.close
     (tie.spec
-    enum-told
+    (λ c. search needs)
     bits-from-ascii-requires
-    enum-told-2
+    (λ c. search needs)
     word-from-ascii-requires
-    enum-told-3
+    (λ c. search needs)
     word-from-ascii-requires-2
     returns
     returns-2

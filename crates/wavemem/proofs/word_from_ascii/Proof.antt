@@ -8,8 +8,5 @@ use Rattle.wavemem.proofs.word_from_ascii.Tie as tie
 levels-from-ascii-requires : tie.Need-levels-from-ascii-requires
 levels-from-ascii-requires c κs = (c .before .before .pre, by-low-bits)
 
-returns : tie.Need-returns
-returns c = search needs
-
 pub word-from-ascii-spec : {M : Type 1} → statement M
-word-from-ascii-spec = tie.close (tie.spec levels-from-ascii-requires returns)
+word-from-ascii-spec = tie.close (tie.spec levels-from-ascii-requires (λ c. search needs))

@@ -31,9 +31,6 @@ fits c = byte-fits (start (c .before) .pre) (c .before .loop .inv .passed) (c .l
 add-to : tie.Need-add-to Inv-loop μ-loop
 add-to c = omega (arith, start (c .before) .pre .short)
 
-sub-byte-of-bits : tie.Need-sub-byte-of-bits Inv-loop μ-loop
-sub-byte-of-bits c = omega arith
-
 part-byte-of-bits-start : tie.Need-part-byte-of-bits-start Inv-loop μ-loop
 part-byte-of-bits-start c =
     let z : c .before .loop .from ≤ c .before .loop .from + 8 = omega arith in
@@ -85,7 +82,7 @@ write-bits-spec =
     μ-loop
     loop-holds
     add-to
-    sub-byte-of-bits
+    (λ c. omega arith)
     part-byte-of-bits-start
     part-byte-of-bits-end
     byte-of-bits-requires

@@ -17,9 +17,6 @@ Inv-loop states codes value out₀ at per-byte from₀ k₀ out from k = Stored 
 abbrev μ-loop : tie.MeasureT-loop
 μ-loop states codes value out₀ at per-byte from₀ k₀ out from k = length value - from
 
-bits-in-a-byte-requires : tie.Need-bits-in-a-byte-requires Inv-loop μ-loop
-bits-in-a-byte-requires c κs = search needs
-
 loop-holds : tie.Need-loop-holds Inv-loop μ-loop
 loop-holds c = stored-start _ (byte-turns (c .before .before .before .pre .0)) (omega arith)
 
@@ -38,9 +35,6 @@ fits c = byte-fits (start (c .before) .pre .0) (c .before .loop .inv .passed) (c
 
 add-to : tie.Need-add-to Inv-loop μ-loop
 add-to c = omega (arith, per (c .before), per-small (start (c .before) .args .states), start (c .before) .pre .0 .short)
-
-sub-byte-by-low-bits : tie.Need-sub-byte-by-low-bits Inv-loop μ-loop
-sub-byte-by-low-bits c = omega arith
 
 part-byte-by-low-bits-start : tie.Need-part-byte-by-low-bits-start Inv-loop μ-loop
 part-byte-by-low-bits-start c =
@@ -96,10 +90,10 @@ write-bytes-spec =
     (tie.spec
     Inv-loop
     μ-loop
-    bits-in-a-byte-requires
+    (λ c κs. search needs)
     loop-holds
     add-to
-    sub-byte-by-low-bits
+    (λ c. omega arith)
     part-byte-by-low-bits-start
     part-byte-by-low-bits-end
     byte-by-low-bits-requires

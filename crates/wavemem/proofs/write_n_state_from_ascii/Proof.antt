@@ -14,12 +14,6 @@ use Rattle.wavemem.proofs.Packing.{perByte, packed-from-length, all-who
 use Rattle.wavemem.proofs.write_n_state_from_ascii.Statement.{statement}
 use Rattle.wavemem.proofs.write_n_state_from_ascii.Tie as tie
 
-first-count-requires : tie.Need-first-count-requires
-first-count-requires c κs = search needs
-
-bits-in-a-byte-requires : tie.Need-bits-in-a-byte-requires
-bits-in-a-byte-requires c κs = search needs
-
 -- the function's entry, and whether the first byte is full
 abbrev start : tie.After-bits-in-a-byte → tie.Start
 start b = b .before .before .before .before
@@ -35,9 +29,6 @@ short c e = c .if1 .left (count (c .before) ∙ e ∙ sym (c .before .bits-in-a-
 
 write-whole-requires : tie.Need-write-whole-requires
 write-whole-requires c κs = all-whole (start (c .before .before) .pre) (full (c .before))
-
-same-length : tie.Need-same-length
-same-length c = search needs
 
 returns : tie.Need-returns
 returns c =
@@ -60,12 +51,6 @@ slice-write-out c =
     let e = c .before .before in
     omega (arith, place-fits (start (e .before) .pre) (short e))
 
-add-result : tie.Need-add-result
-add-result c = search needs
-
-same-length-2 : tie.Need-same-length-2
-same-length-2 c = search needs
-
 returns-2 : tie.Need-returns-2
 returns-2 c =
     let a = c .before in
@@ -86,12 +71,6 @@ part-write-whole-start : tie.Need-part-write-whole-start
 part-write-whole-start c =
     let e = c .before .before .before in
     rw (count (e .before)) (first-fits (start (e .before) .pre) (short e))
-
-part-write-whole-end : tie.Need-part-write-whole-end
-part-write-whole-end c = search needs
-
-add-write-whole : tie.Need-add-write-whole
-add-write-whole c = search needs
 
 write-whole-requires-2 : tie.Need-write-whole-requires-2
 write-whole-requires-2 c κs =
@@ -131,21 +110,21 @@ pub write-n-state-from-ascii-spec : {M : Type 1} → statement M
 write-n-state-from-ascii-spec =
     tie.close
     (tie.spec
-    first-count-requires
-    bits-in-a-byte-requires
+    (λ c κs. search needs)
+    (λ c κs. search needs)
     write-whole-requires
-    same-length
+    (λ c. search needs)
     returns
     slice-aggregate-byte-from-ascii
     byte-from-ascii-requires
     slice-write-out
-    add-result
-    same-length-2
+    (λ c. search needs)
+    (λ c. search needs)
     returns-2
     sub-write-whole
     part-write-whole-start
-    part-write-whole-end
-    add-write-whole
+    (λ c. search needs)
+    (λ c. search needs)
     write-whole-requires-2
     same-length-3
     returns-3)

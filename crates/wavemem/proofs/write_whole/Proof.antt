@@ -28,14 +28,8 @@ four c = whole (start2 c) Four (c .enum-told2 .given .1)
 nine : (c : tie.After-enum-told3) → let x = start3 c .args in Whole Nine (now (x .value)) (length (now (x .out))) (x .at)
 nine c = whole (start3 c) Nine (c .enum-told3 .given .1)
 
-enum-told : tie.Need-enum-told
-enum-told c = search needs
-
 write-bits-requires : tie.Need-write-bits-requires
 write-bits-requires c κs = rw (c .before .enum-told .given .1) at (c .before .before .before .before .before .pre)
-
-enum-told-2 : tie.Need-enum-told-2
-enum-told-2 c = search needs
 
 slice-aggregate-write-bytes : tie.Need-slice-aggregate-write-bytes
 slice-aggregate-write-bytes c = let ok = four (c .before .before) in sym (front-length ok (lead-four ok refl))
@@ -43,23 +37,11 @@ slice-aggregate-write-bytes c = let ok = four (c .before .before) in sym (front-
 write-bytes-requires : tie.Need-write-bytes-requires
 write-bytes-requires c κs = let ok = four (c .before .before .before) in (front-whole ok (lead-four ok refl), by-low-bits)
 
-sub-write-words : tie.Need-sub-write-words
-sub-write-words c = search needs
-
-part-write-words-start : tie.Need-part-write-words-start
-part-write-words-start c = search needs
-
-part-write-words-end : tie.Need-part-write-words-end
-part-write-words-end c = search needs
-
 write-words-requires : tie.Need-write-words-requires
 write-words-requires c κs =
     let w = c .before .before .before .before in
     let e = w .before .before .before .before in
     second-lent (four e) (lead-four (four e) refl) (now (start2 e .args .out)) refl (w .write-bytes .ensures)
-
-enum-told-3 : tie.Need-enum-told-3
-enum-told-3 c = search needs
 
 slice-aggregate-write-bytes-2 : tie.Need-slice-aggregate-write-bytes-2
 slice-aggregate-write-bytes-2 c = let ok = nine (c .before .before) in sym (front-length ok (lead-nine ok refl))
@@ -67,31 +49,16 @@ slice-aggregate-write-bytes-2 c = let ok = nine (c .before .before) in sym (fron
 write-bytes-requires-2 : tie.Need-write-bytes-requires-2
 write-bytes-requires-2 c κs = let ok = nine (c .before .before .before) in (front-whole ok (lead-nine ok refl), by-low-bits)
 
-sub-write-chunks : tie.Need-sub-write-chunks
-sub-write-chunks c = search needs
-
-part-write-chunks-start : tie.Need-part-write-chunks-start
-part-write-chunks-start c = search needs
-
-part-write-chunks-end : tie.Need-part-write-chunks-end
-part-write-chunks-end c = search needs
-
 write-chunks-requires : tie.Need-write-chunks-requires
 write-chunks-requires c κs =
     let w = c .before .before .before .before in
     let e = w .before .before .before .before in
     second-lent (nine e) (lead-nine (nine e) refl) (now (start3 e .args .out)) refl (w .write-bytes2 .ensures)
 
-same-length : tie.Need-same-length
-same-length c = search needs
-
 returns : tie.Need-returns
 returns c =
     let w = c .before .before in
     rw (w .before .before .enum-told .given .1) (w .write-bits .ensures)
-
-same-length-2 : tie.Need-same-length-2
-same-length-2 c = search needs
 
 returns-2 : tie.Need-returns-2
 returns-2 c =
@@ -100,9 +67,6 @@ returns-2 c =
     let e = w .before .before .before .before in
     rw (e .enum-told2 .given .1)
     (both-stored (four e) (lead-four (four e) refl) (now (start2 e .args .out)) refl (w .write-bytes .ensures) (k .write-words .ensures))
-
-same-length-3 : tie.Need-same-length-3
-same-length-3 c = search needs
 
 returns-3 : tie.Need-returns-3
 returns-3 c =
@@ -116,25 +80,25 @@ pub write-whole-spec : {M : Type 1} → statement M
 write-whole-spec =
     tie.close
     (tie.spec
-    enum-told
+    (λ c. search needs)
     write-bits-requires
-    enum-told-2
+    (λ c. search needs)
     slice-aggregate-write-bytes
     write-bytes-requires
-    sub-write-words
-    part-write-words-start
-    part-write-words-end
+    (λ c. search needs)
+    (λ c. search needs)
+    (λ c. search needs)
     write-words-requires
-    enum-told-3
+    (λ c. search needs)
     slice-aggregate-write-bytes-2
     write-bytes-requires-2
-    sub-write-chunks
-    part-write-chunks-start
-    part-write-chunks-end
+    (λ c. search needs)
+    (λ c. search needs)
+    (λ c. search needs)
     write-chunks-requires
-    same-length
+    (λ c. search needs)
     returns
-    same-length-2
+    (λ c. search needs)
     returns-2
-    same-length-3
+    (λ c. search needs)
     returns-3)

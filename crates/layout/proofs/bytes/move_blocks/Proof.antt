@@ -22,24 +22,6 @@ abbrev μ-loop : tie.MeasureT-loop
 loop-holds : tie.Need-loop-holds Inv-loop μ-loop
 loop-holds c = (omega arith, rw (sub-self, part-nil, overlay-nil), refl)
 
-sub-left : tie.Need-sub-left Inv-loop μ-loop
-sub-left c = omega arith
-
-add-read-block : tie.Need-add-read-block Inv-loop μ-loop
-add-read-block c = omega arith
-
-read-block-requires : tie.Need-read-block-requires Inv-loop μ-loop
-read-block-requires c κs = omega arith
-
-add-write-block : tie.Need-add-write-block Inv-loop μ-loop
-add-write-block c = omega arith
-
-write-block-requires : tie.Need-write-block-requires Inv-loop μ-loop
-write-block-requires c κs = omega arith
-
-loop-less : tie.Need-loop-less Inv-loop μ-loop
-loop-less c = omega arith
-
 loop-again : tie.Need-loop-again Inv-loop μ-loop
 loop-again c =
     let a = c .before .before .before .before .before .before .before in
@@ -70,12 +52,12 @@ move-blocks-spec =
     Inv-loop
     μ-loop
     loop-holds
-    sub-left
-    add-read-block
-    read-block-requires
-    add-write-block
-    write-block-requires
-    loop-less
+    (λ c. omega arith)
+    (λ c. omega arith)
+    (λ c κs. omega arith)
+    (λ c. omega arith)
+    (λ c κs. omega arith)
+    (λ c. omega arith)
     loop-again
     same-length
     returns)

@@ -10,30 +10,6 @@ use borrow.Author.Needs.{needs}
 use Rattle.layout.proofs.bytes.move_halves.Statement.{statement}
 use Rattle.layout.proofs.bytes.move_halves.Tie as tie
 
-sub-rest : tie.Need-sub-rest
-sub-rest c = search needs
-
-read-block-requires : tie.Need-read-block-requires
-read-block-requires c κs = search needs
-
-add-read-block : tie.Need-add-read-block
-add-read-block c = search needs
-
-read-block-requires-2 : tie.Need-read-block-requires-2
-read-block-requires-2 c κs = search needs
-
-add-write-block : tie.Need-add-write-block
-add-write-block c = search needs
-
-write-block-requires : tie.Need-write-block-requires
-write-block-requires c κs = search needs
-
-write-block-requires-2 : tie.Need-write-block-requires-2
-write-block-requires-2 c κs = search needs
-
-same-length : tie.Need-same-length
-same-length c = search needs
-
 returns : tie.Need-returns
 returns c =
     let s = c .before .before .before .before .before .before .before .before .before .before .before .before .before in
@@ -52,12 +28,12 @@ pub move-halves-spec : {M : Type 1} → statement M
 move-halves-spec =
     tie.close
     (tie.spec
-    sub-rest
-    read-block-requires
-    add-read-block
-    read-block-requires-2
-    add-write-block
-    write-block-requires
-    write-block-requires-2
-    same-length
+    (λ c. search needs)
+    (λ c κs. search needs)
+    (λ c. search needs)
+    (λ c κs. search needs)
+    (λ c. search needs)
+    (λ c κs. search needs)
+    (λ c κs. search needs)
+    (λ c. search needs)
     returns)

@@ -9,18 +9,6 @@ use borrow.Author.Needs.{needs}
 use Rattle.layout.proofs.bytes.move_long.Statement.{statement}
 use Rattle.layout.proofs.bytes.move_long.Tie as tie
 
-read-block-requires : tie.Need-read-block-requires
-read-block-requires c κs = search needs
-
-move-blocks-requires : tie.Need-move-blocks-requires
-move-blocks-requires c κs = search needs
-
-write-block-requires : tie.Need-write-block-requires
-write-block-requires c κs = search needs
-
-same-length : tie.Need-same-length
-same-length c = search needs
-
 returns : tie.Need-returns
 returns c =
     let s = c .before .before .before .before .before .before .before .before .before .before .before in
@@ -31,4 +19,4 @@ returns c =
     ∙ ends-moved (now (x .«data»)) (x .p) (x .q) (x .n) (m .result) 32 (s .pre .0) (s .pre .1) (m .ensures .1) (s .pre .2)
 
 pub move-long-spec : {M : Type 1} → statement M
-move-long-spec = tie.close (tie.spec read-block-requires move-blocks-requires write-block-requires same-length returns)
+move-long-spec = tie.close (tie.spec (λ c κs. search needs) (λ c κs. search needs) (λ c κs. search needs) (λ c. search needs) returns)

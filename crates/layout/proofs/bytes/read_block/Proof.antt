@@ -20,21 +20,6 @@ abbrev μ-loop : tie.MeasureT-loop
 loop-holds : tie.Need-loop-holds Inv-loop μ-loop
 loop-holds c = (zero-le, sym (rw (part-nil, overlay-nil)))
 
-add-block : tie.Need-add-block Inv-loop μ-loop
-add-block c = omega arith
-
-shared-slice-read-block : tie.Need-shared-slice-read-block Inv-loop μ-loop
-shared-slice-read-block c = omega arith
-
-array-write-block : tie.Need-array-write-block Inv-loop μ-loop
-array-write-block c = omega arith
-
-add-i : tie.Need-add-i Inv-loop μ-loop
-add-i c = omega arith
-
-loop-less : tie.Need-loop-less Inv-loop μ-loop
-loop-less c = omega arith
-
 loop-again : tie.Need-loop-again Inv-loop μ-loop
 loop-again c =
     let a = c .before .before in
@@ -60,10 +45,10 @@ read-block-spec =
     Inv-loop
     μ-loop
     loop-holds
-    add-block
-    shared-slice-read-block
-    array-write-block
-    add-i
-    loop-less
+    (λ c. omega arith)
+    (λ c. omega arith)
+    (λ c. omega arith)
+    (λ c. omega arith)
+    (λ c. omega arith)
     loop-again
     returns)

@@ -23,21 +23,6 @@ abbrev μ-loop : tie.MeasureT-loop
 loop-holds : tie.Need-loop-holds Inv-loop μ-loop
 loop-holds c = (zero-le, sym (rw (part-nil, overlay-nil)), refl)
 
-array-read-data : tie.Need-array-read-data Inv-loop μ-loop
-array-read-data c = omega arith
-
-add-data : tie.Need-add-data Inv-loop μ-loop
-add-data c = omega arith
-
-slice-write-data : tie.Need-slice-write-data Inv-loop μ-loop
-slice-write-data c = omega arith
-
-add-i : tie.Need-add-i Inv-loop μ-loop
-add-i c = omega arith
-
-loop-less : tie.Need-loop-less Inv-loop μ-loop
-loop-less c = omega arith
-
 long : (c : tie.Start Inv-loop μ-loop) → length (c .args .t4) ≡ 32
 long c = search needs
 
@@ -70,11 +55,11 @@ write-block-spec =
     Inv-loop
     μ-loop
     loop-holds
-    array-read-data
-    add-data
-    slice-write-data
-    add-i
-    loop-less
+    (λ c. omega arith)
+    (λ c. omega arith)
+    (λ c. omega arith)
+    (λ c. omega arith)
+    (λ c. omega arith)
     loop-again
     same-length
     returns)

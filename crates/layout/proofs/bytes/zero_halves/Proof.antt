@@ -11,21 +11,6 @@ use borrow.Author.Needs.{needs}
 use Rattle.layout.proofs.bytes.zero_halves.Statement.{statement}
 use Rattle.layout.proofs.bytes.zero_halves.Tie as tie
 
-sub-push-zeros : tie.Need-sub-push-zeros
-sub-push-zeros c = search needs
-
-add-push-zeros : tie.Need-add-push-zeros
-add-push-zeros c = search needs
-
-push-zeros-requires : tie.Need-push-zeros-requires
-push-zeros-requires c κs = search needs
-
-push-zeros-requires-2 : tie.Need-push-zeros-requires-2
-push-zeros-requires-2 c κs = search needs
-
-same-length : tie.Need-same-length
-same-length c = search needs
-
 returns : tie.Need-returns
 returns c =
     let s = c .before .before .before .before .before .before .before .before .before in
@@ -42,9 +27,9 @@ pub zero-halves-spec : {M : Type 1} → statement M
 zero-halves-spec =
     tie.close
     (tie.spec
-    sub-push-zeros
-    add-push-zeros
-    push-zeros-requires
-    push-zeros-requires-2
-    same-length
+    (λ c. search needs)
+    (λ c. search needs)
+    (λ c κs. search needs)
+    (λ c κs. search needs)
+    (λ c. search needs)
     returns)

@@ -21,12 +21,6 @@ abbrev μ-loop : tie.MeasureT-loop
 loop-holds : tie.Need-loop-holds Inv-loop μ-loop
 loop-holds c = (zero-le, part-nil _ _)
 
-add-if1 : tie.Need-add-if1 Inv-loop μ-loop
-add-if1 c = omega arith
-
-shared-slice-read-if1 : tie.Need-shared-slice-read-if1 Inv-loop μ-loop
-shared-slice-read-if1 c = omega arith
-
 returns : tie.Need-returns Inv-loop μ-loop
 returns c =
     let a = c .before .before .before in
@@ -38,12 +32,6 @@ returns c =
     (sym (part-at (now (x .bytes)) (x .from) (x .count) (a .loop .j) 0 (omega arith))
     ∙ ap (λ (l : List ℕ). getD l (a .loop .j) 0) e
     ∙ getD-replicate (x .count) (a .loop .j) 0 0 (omega arith))))
-
-add-j : tie.Need-add-j Inv-loop μ-loop
-add-j c = omega arith
-
-loop-less : tie.Need-loop-less Inv-loop μ-loop
-loop-less c = omega arith
 
 loop-again : tie.Need-loop-again Inv-loop μ-loop
 loop-again c =
@@ -67,10 +55,10 @@ are-zeros-spec =
     Inv-loop
     μ-loop
     loop-holds
-    add-if1
-    shared-slice-read-if1
+    (λ c. omega arith)
+    (λ c. omega arith)
     returns
-    add-j
-    loop-less
+    (λ c. omega arith)
+    (λ c. omega arith)
     loop-again
     returns-2)

@@ -31,12 +31,6 @@ module _ (a : tie.After-entry-layout) where
       ≡ suc (a .entry-layout .result .size - a .entry-layout .result .len - 1 + lenOf (length (v a)) (start a .args .states))
   apart h = apart-by (start a .pre) (a .entry-layout .ensures .0) (a .entry-layout .ensures .1) h
 
-cast-entry-layout : tie.Need-cast-entry-layout
-cast-entry-layout c = search needs
-
-entry-layout-requires : tie.Need-entry-layout-requires
-entry-layout-requires c κs = search needs
-
 equals-n-state-from-ascii-requires : tie.Need-equals-n-state-from-ascii-requires
 equals-n-state-from-ascii-requires c κs =
     let a = c .before in
@@ -57,9 +51,6 @@ returns-2 : tie.Need-returns-2
 returns-2 c =
     let a = c .before .before .before in
     other-mark (start a .pre) _ (apart a (c .before .before .if1 .left)) (now (start a .args .bytes)) refl _ (a .entry-layout .ensures .2) (c .if2 .taken)
-
-add-are-zeros : tie.Need-add-are-zeros
-add-are-zeros c = search needs
 
 sub-are-zeros : tie.Need-sub-are-zeros
 sub-are-zeros c =
@@ -115,13 +106,13 @@ pub entry-equals-spec : {M : Type 1} → statement M
 entry-equals-spec =
     tie.close
     (tie.spec
-    cast-entry-layout
-    entry-layout-requires
+    (λ c. search needs)
+    (λ c κs. search needs)
     equals-n-state-from-ascii-requires
     returns
     shared-slice-read-if2
     returns-2
-    add-are-zeros
+    (λ c. search needs)
     sub-are-zeros
     sub-are-zeros-2
     are-zeros-requires

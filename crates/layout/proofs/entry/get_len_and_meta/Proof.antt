@@ -4,21 +4,6 @@ use borrow.Author.Needs.{needs}
 use Rattle.layout.proofs.entry.get_len_and_meta.Statement.{statement}
 use Rattle.layout.proofs.entry.get_len_and_meta.Tie as tie
 
-bytes-required-requires : tie.Need-bytes-required-requires
-bytes-required-requires c κs = search needs
-
-enum-told : tie.Need-enum-told
-enum-told c = search needs
-
-enum-told-2 : tie.Need-enum-told-2
-enum-told-2 c = search needs
-
-enum-told-3 : tie.Need-enum-told-3
-enum-told-3 c = search needs
-
-returns : tie.Need-returns
-returns c = search needs
-
 returns-2 : tie.Need-returns-2
 returns-2 c = (c .before .before .bytes-required .ensures, rw (c .enum-told2 .given .1))
 
@@ -29,10 +14,10 @@ pub get-len-and-meta-spec : {M : Type 1} → statement M
 get-len-and-meta-spec =
     tie.close
     (tie.spec
-    bytes-required-requires
-    enum-told
-    enum-told-2
-    enum-told-3
-    returns
+    (λ c κs. search needs)
+    (λ c. search needs)
+    (λ c. search needs)
+    (λ c. search needs)
+    (λ c. search needs)
     returns-2
     returns-3)

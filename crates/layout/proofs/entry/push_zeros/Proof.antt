@@ -20,18 +20,6 @@ abbrev μ-loop : tie.MeasureT-loop
 loop-holds : tie.Need-loop-holds Inv-loop μ-loop
 loop-holds c = (zero-le, sym (overlay-nil _ _), refl)
 
-add-out : tie.Need-add-out Inv-loop μ-loop
-add-out c = omega arith
-
-slice-write-out : tie.Need-slice-write-out Inv-loop μ-loop
-slice-write-out c = omega arith
-
-add-j : tie.Need-add-j Inv-loop μ-loop
-add-j c = omega arith
-
-loop-less : tie.Need-loop-less Inv-loop μ-loop
-loop-less c = omega arith
-
 loop-again : tie.Need-loop-again Inv-loop μ-loop
 loop-again c =
     let a = c .before in
@@ -40,9 +28,6 @@ loop-again c =
       ap (λ (l : List ℕ). set l (x .from + a .loop .j) 0) (a .loop .inv .1) ∙ overlay-fill (now (x .out)) (x .from) (a .loop .j) 0 (omega arith),
       rw length-set (a .loop .inv .2),
     )
-
-add-result : tie.Need-add-result Inv-loop μ-loop
-add-result c = omega arith
 
 same-length : tie.Need-same-length Inv-loop μ-loop
 same-length c = c .before .loop .inv .2
@@ -59,11 +44,11 @@ push-zeros-spec =
     Inv-loop
     μ-loop
     loop-holds
-    add-out
-    slice-write-out
-    add-j
-    loop-less
+    (λ c. omega arith)
+    (λ c. omega arith)
+    (λ c. omega arith)
+    (λ c. omega arith)
     loop-again
-    add-result
+    (λ c. omega arith)
     same-length
     returns)

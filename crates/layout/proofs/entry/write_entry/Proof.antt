@@ -12,21 +12,12 @@ use borrow.Author.Needs.{needs}
 use Rattle.layout.proofs.entry.write_entry.Statement.{statement}
 use Rattle.layout.proofs.entry.write_entry.Tie as tie
 
-cast-entry-layout : tie.Need-cast-entry-layout
-cast-entry-layout c = search needs
-
-entry-layout-requires : tie.Need-entry-layout-requires
-entry-layout-requires c κs = search needs
-
 write-mark-requires : tie.Need-write-mark-requires
 write-mark-requires c κs =
     let a = c .before in
     let x = a .before .before .before in
     let l = a .entry-layout .ensures in
     (len-le (x .pre) (l .0) (l .1), omega (arith, l .1, x .pre .fits))
-
-mark-within-requires : tie.Need-mark-within-requires
-mark-within-requires c κs = search needs
 
 write-n-state-from-ascii-requires : tie.Need-write-n-state-from-ascii-requires
 write-n-state-from-ascii-requires c κs =
@@ -58,10 +49,10 @@ pub write-entry-spec : {M : Type 1} → statement M
 write-entry-spec =
     tie.close
     (tie.spec
-    cast-entry-layout
-    entry-layout-requires
+    (λ c. search needs)
+    (λ c κs. search needs)
     write-mark-requires
-    mark-within-requires
+    (λ c κs. search needs)
     write-n-state-from-ascii-requires
     same-length
     returns)

@@ -20,18 +20,6 @@ returns c =
     let x = c .before .before in
     (omega arith, rw (eq-eqb (x .args .len) (x .args .size) (c .if1 .taken)) (sym (overlay-nil (now (x .args .out)) (x .args .at))))
 
-slice-write-out : tie.Need-slice-write-out
-slice-write-out c = search needs
-
-add-push-zeros : tie.Need-add-push-zeros
-add-push-zeros c = search needs
-
-sub-push-zeros : tie.Need-sub-push-zeros
-sub-push-zeros c = search needs
-
-sub-push-zeros-2 : tie.Need-sub-push-zeros-2
-sub-push-zeros-2 c = search needs
-
 push-zeros-requires : tie.Need-push-zeros-requires
 push-zeros-requires c κs = rw length-set (omega arith)
 
@@ -59,10 +47,10 @@ write-mark-spec =
     tie.close
     (tie.spec
     returns
-    slice-write-out
-    add-push-zeros
-    sub-push-zeros
-    sub-push-zeros-2
+    (λ c. search needs)
+    (λ c. search needs)
+    (λ c. search needs)
+    (λ c. search needs)
     push-zeros-requires
     same-length
     returns-2)

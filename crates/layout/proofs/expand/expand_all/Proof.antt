@@ -19,9 +19,6 @@ use Rattle.layout.proofs.Expanding.{widening-grows, all-widen}
 use Rattle.layout.proofs.expand.expand_all.Statement.{statement}
 use Rattle.layout.proofs.expand.expand_all.Tie as tie
 
-get-widening-requires : tie.Need-get-widening-requires
-get-widening-requires c κs = search needs
-
 expand-by-sizes-requires : tie.Need-expand-by-sizes-requires
 unfolding wideningOf
 expand-by-sizes-requires c κs =
@@ -30,9 +27,6 @@ expand-by-sizes-requires c κs =
     let x = s .args in
     subst (λ (m : Widening). AllMovable m (x .start) (x .entries) (length (now (x .«data»)))) (sym (e .get-widening .ensures))
     (record { grows = widening-grows (x .bits) (s .pre .0 .wide) (x .from) (x .to) (s .pre .0 .up) (s .pre .1); room = s .pre .0 .room })
-
-same-length : tie.Need-same-length
-same-length c = search needs
 
 returns : tie.Need-returns
 unfolding wideningOf
@@ -52,4 +46,4 @@ returns c =
     (below-part 256 d b (x .start) (x .entries * F)))
 
 pub expand-all-spec : {M : Type 1} → statement M
-expand-all-spec = tie.close (tie.spec get-widening-requires expand-by-sizes-requires same-length returns)
+expand-all-spec = tie.close (tie.spec (λ c κs. search needs) expand-by-sizes-requires (λ c. search needs) returns)

@@ -39,12 +39,6 @@ loop-holds c =
     let s = c .before in
     (omega arith, rw sub-zero (sym (none-expanded (s .args .widening) (s .pre .0 .grows) (now (s .args .«data»)) _ _ (s .pre .0 .room))), refl)
 
-add-done : tie.Need-add-done Inv-loop μ-loop
-add-done c = omega arith
-
-sub-k : tie.Need-sub-k Inv-loop μ-loop
-sub-k c = omega arith
-
 -- the places of an entry lie in the slice, whichever it is
 module _ (a : tie.At-loop Inv-loop μ-loop) (k : ℕ) (some : k < begin a .args .entries) where
   abbrev old-at : ℕ
@@ -89,9 +83,6 @@ add-expand-entry-2 c = new-fits (c .before .before) _ (omega arith)
 expand-entry-requires : tie.Need-expand-entry-requires Inv-loop μ-loop
 expand-entry-requires c κs = (movable (c .before .before) _ (omega arith), begin (c .before .before) .pre .1)
 
-loop-less : tie.Need-loop-less Inv-loop μ-loop
-loop-less c = omega arith
-
 loop-again : tie.Need-loop-again Inv-loop μ-loop
 loop-again c =
     let a = c .before .before .before .before .before in
@@ -131,14 +122,14 @@ expand-each-spec =
     add-to-size
     add-to-size-2
     loop-holds
-    add-done
-    sub-k
+    (λ c. omega arith)
+    (λ c. omega arith)
     mul-expand-entry
     add-expand-entry
     mul-expand-entry-2
     add-expand-entry-2
     expand-entry-requires
-    loop-less
+    (λ c. omega arith)
     loop-again
     same-length
     returns)

@@ -12,12 +12,6 @@ use Rattle.layout.proofs.Sizes.{widen-all-same}
 use Rattle.layout.proofs.expand.expand_entries.Statement.{statement}
 use Rattle.layout.proofs.expand.expand_entries.Tie as tie
 
-entry-size-requires : tie.Need-entry-size-requires
-entry-size-requires c κs = search needs
-
-entry-size-requires-2 : tie.Need-entry-size-requires-2
-entry-size-requires-2 c κs = search needs
-
 returns : tie.Need-returns
 returns c =
     let b = c .before in
@@ -34,11 +28,5 @@ expand-all-requires c κs =
     let s = b .before .before .before in
     (s .pre, λ e. c .before .if1 .left (b .before .entry-size .ensures ∙ e ∙ sym (b .entry-size2 .ensures)))
 
-same-length : tie.Need-same-length
-same-length c = search needs
-
-returns-2 : tie.Need-returns-2
-returns-2 c = search needs
-
 pub expand-entries-spec : {M : Type 1} → statement M
-expand-entries-spec = tie.close (tie.spec entry-size-requires entry-size-requires-2 returns expand-all-requires same-length returns-2)
+expand-entries-spec = tie.close (tie.spec (λ c κs. search needs) (λ c κs. search needs) returns expand-all-requires (λ c. search needs) (λ c. search needs))

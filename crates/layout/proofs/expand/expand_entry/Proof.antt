@@ -8,33 +8,6 @@ use borrow.Author.Needs.{needs}
 use Rattle.layout.proofs.expand.expand_entry.Statement.{statement}
 use Rattle.layout.proofs.expand.expand_entry.Tie as tie
 
-sub-first : tie.Need-sub-first
-sub-first c = search needs
-
-add-first : tie.Need-add-first
-add-first c = search needs
-
-add-at : tie.Need-add-at
-add-at c = search needs
-
-add-at-2 : tie.Need-add-at-2
-add-at-2 c = search needs
-
-slice-read-mark : tie.Need-slice-read-mark
-slice-read-mark c = search needs
-
-slice-read-level : tie.Need-slice-read-level
-slice-read-level c = search needs
-
-move-up-requires : tie.Need-move-up-requires
-move-up-requires c κs = search needs
-
-slice-write-data : tie.Need-slice-write-data
-slice-write-data c = search needs
-
-add-zero : tie.Need-add-zero
-add-zero c = search needs
-
 zero-requires : tie.Need-zero-requires
 zero-requires c κs =
     let s = c .before .before .before .before .before .before .before .before .before .before .before in
@@ -66,15 +39,15 @@ pub expand-entry-spec : {M : Type 1} → statement M
 expand-entry-spec =
     tie.close
     (tie.spec
-    sub-first
-    add-first
-    add-at
-    add-at-2
-    slice-read-mark
-    slice-read-level
-    move-up-requires
-    slice-write-data
-    add-zero
+    (λ c. search needs)
+    (λ c. search needs)
+    (λ c. search needs)
+    (λ c. search needs)
+    (λ c. search needs)
+    (λ c. search needs)
+    (λ c κs. search needs)
+    (λ c. search needs)
+    (λ c. search needs)
     zero-requires
     slice-write-data-2
     same-length

@@ -3,18 +3,6 @@ use borrow.Author.Needs.{needs}
 use Rattle.layout.proofs.expand.level_bits.Statement.{statement}
 use Rattle.layout.proofs.expand.level_bits.Tie as tie
 
-returns : tie.Need-returns
-returns c = search needs
-
-enum-told : tie.Need-enum-told
-enum-told c = search needs
-
-enum-told-2 : tie.Need-enum-told-2
-enum-told-2 c = search needs
-
-enum-told-3 : tie.Need-enum-told-3
-enum-told-3 c = search needs
-
 returns-2 : tie.Need-returns-2
 returns-2 c = rw (c .before .before .if1 .left, c .enum-told .given .1)
 
@@ -26,4 +14,4 @@ returns-4 c = rw (c .before .before .if1 .left, c .enum-told3 .given .1)
 
 pub level-bits-spec : {M : Type 1} → statement M
 level-bits-spec =
-    tie.close (tie.spec returns enum-told enum-told-2 enum-told-3 returns-2 returns-3 returns-4)
+    tie.close (tie.spec (λ c. search needs) (λ c. search needs) (λ c. search needs) (λ c. search needs) returns-2 returns-3 returns-4)

@@ -9,15 +9,6 @@ use borrow.Author.Needs.{needs}
 use Rattle.layout.proofs.number.equals_entry.Statement.{statement}
 use Rattle.layout.proofs.number.equals_entry.Tie as tie
 
-entry-equals-requires : tie.Need-entry-equals-requires
-entry-equals-requires c κs = search needs
-
-returns : tie.Need-returns
-returns c = search needs
-
-number-at-requires : tie.Need-number-at-requires
-number-at-requires c κs = search needs
-
 returns-2 : tie.Need-returns-2
 returns-2 c =
     let i = c .before in
@@ -27,4 +18,4 @@ returns-2 c =
     numbers-same (s .pre .0) (s .pre .1) (i .if1 .left) b (below-all 256 b (λ j. omega (arith, k .shared-slice-known2 .given j))) refl _ (c .number-at .ensures)
 
 pub equals-entry-spec : {M : Type 1} → statement M
-equals-entry-spec = tie.close (tie.spec entry-equals-requires returns number-at-requires returns-2)
+equals-entry-spec = tie.close (tie.spec (λ c κs. search needs) (λ c. search needs) (λ c κs. search needs) returns-2)

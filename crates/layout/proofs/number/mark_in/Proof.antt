@@ -9,21 +9,6 @@ use borrow.Author.Needs.{needs}
 use Rattle.layout.proofs.number.mark_in.Statement.{statement}
 use Rattle.layout.proofs.number.mark_in.Tie as tie
 
-mark-requires : tie.Need-mark-requires
-mark-requires c κs = search needs
-
-cast-result : tie.Need-cast-result
-cast-result c = search needs
-
-mul-result : tie.Need-mul-result
-mul-result c = search needs
-
-sub-result : tie.Need-sub-result
-sub-result c = search needs
-
-shl-result : tie.Need-shl-result
-shl-result c = search needs
-
 returns : tie.Need-returns
 returns c =
     let x = c .before in
@@ -33,4 +18,4 @@ returns c =
 
 pub mark-in-spec : {M : Type 1} → statement M
 mark-in-spec =
-    tie.close (tie.spec mark-requires cast-result mul-result sub-result shl-result returns)
+    tie.close (tie.spec (λ c κs. search needs) (λ c. search needs) (λ c. search needs) (λ c. search needs) (λ c. search needs) returns)

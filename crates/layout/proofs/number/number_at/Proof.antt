@@ -18,9 +18,6 @@ Inv-loop bytes at size number₀ j₀ n j = (j ≤ size) × (n ≡ number 256 (p
 abbrev μ-loop : tie.MeasureT-loop
 μ-loop bytes at size number₀ j₀ n j = size - j
 
-shared-slice-read-result : tie.Need-shared-slice-read-result Inv-loop μ-loop
-shared-slice-read-result c = omega arith
-
 cast-result : tie.Need-cast-result Inv-loop μ-loop
 cast-result c = omega (arith, c .shared-slice-known .given (c .before .before .args .at))
 
@@ -34,20 +31,8 @@ loop-holds : tie.Need-loop-holds Inv-loop μ-loop
 unfolding number
 loop-holds c = (zero-le, ap (number 256) (sym (part-nil _ _)))
 
-add-number : tie.Need-add-number Inv-loop μ-loop
-add-number c = omega arith
-
-shared-slice-read-number : tie.Need-shared-slice-read-number Inv-loop μ-loop
-shared-slice-read-number c = omega arith
-
 cast-number : tie.Need-cast-number Inv-loop μ-loop
 cast-number c = omega (arith, c .shared-slice-known2 .given (c .before .before .before .before .args .at + c .before .before .loop .j))
-
-add-j : tie.Need-add-j Inv-loop μ-loop
-add-j c = omega arith
-
-loop-less : tie.Need-loop-less Inv-loop μ-loop
-loop-less c = omega arith
 
 loop-again : tie.Need-loop-again Inv-loop μ-loop
 loop-again c =
@@ -70,14 +55,14 @@ number-at-spec =
     (tie.spec
     Inv-loop
     μ-loop
-    shared-slice-read-result
+    (λ c. omega arith)
     cast-result
     returns
     loop-holds
-    add-number
-    shared-slice-read-number
+    (λ c. omega arith)
+    (λ c. omega arith)
     cast-number
-    add-j
-    loop-less
+    (λ c. omega arith)
+    (λ c. omega arith)
     loop-again
     returns-2)

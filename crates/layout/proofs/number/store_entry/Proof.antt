@@ -8,21 +8,6 @@ use borrow.Author.Needs.{needs}
 use Rattle.layout.proofs.number.store_entry.Statement.{statement}
 use Rattle.layout.proofs.number.store_entry.Tie as tie
 
-write-entry-requires : tie.Need-write-entry-requires
-write-entry-requires c κs = search needs
-
-same-length : tie.Need-same-length
-same-length c = search needs
-
-returns : tie.Need-returns
-returns c = search needs
-
-write-number-requires : tie.Need-write-number-requires
-write-number-requires c κs = search needs
-
-same-length-2 : tie.Need-same-length-2
-same-length-2 c = search needs
-
 returns-2 : tie.Need-returns-2
 returns-2 c =
     let w = c .before .before in
@@ -34,9 +19,9 @@ pub store-entry-spec : {M : Type 1} → statement M
 store-entry-spec =
     tie.close
     (tie.spec
-    write-entry-requires
-    same-length
-    returns
-    write-number-requires
-    same-length-2
+    (λ c κs. search needs)
+    (λ c. search needs)
+    (λ c. search needs)
+    (λ c κs. search needs)
+    (λ c. search needs)
     returns-2)

@@ -26,12 +26,6 @@ abbrev μ-loop : tie.MeasureT-loop
 cast-out : tie.Need-cast-out Inv-loop μ-loop
 cast-out c = omega (arith, and-mask (c .before .args .number) 8)
 
-slice-write-out : tie.Need-slice-write-out Inv-loop μ-loop
-slice-write-out c = omega arith
-
-same-length : tie.Need-same-length Inv-loop μ-loop
-same-length c = search needs
-
 returns : tie.Need-returns Inv-loop μ-loop
 returns c =
     let x = c .before .args in
@@ -41,20 +35,8 @@ loop-holds : tie.Need-loop-holds Inv-loop μ-loop
 unfolding digits
 loop-holds c = (omega arith, rw (sub-self, overlay-nil), rw sub-self (sym (div-one _)), refl)
 
-sub-left : tie.Need-sub-left Inv-loop μ-loop
-sub-left c = omega arith
-
 cast-out-2 : tie.Need-cast-out-2 Inv-loop μ-loop
 cast-out-2 c = omega (arith, and-mask (c .before .loop .rest) 8)
-
-add-out : tie.Need-add-out Inv-loop μ-loop
-add-out c = omega arith
-
-slice-write-out-2 : tie.Need-slice-write-out-2 Inv-loop μ-loop
-slice-write-out-2 c = omega arith
-
-loop-less : tie.Need-loop-less Inv-loop μ-loop
-loop-less c = omega arith
 
 loop-again : tie.Need-loop-again Inv-loop μ-loop
 loop-again c =
@@ -89,15 +71,15 @@ write-number-spec =
     Inv-loop
     μ-loop
     cast-out
-    slice-write-out
-    same-length
+    (λ c. omega arith)
+    (λ c. search needs)
     returns
     loop-holds
-    sub-left
+    (λ c. omega arith)
     cast-out-2
-    add-out
-    slice-write-out-2
-    loop-less
+    (λ c. omega arith)
+    (λ c. omega arith)
+    (λ c. omega arith)
     loop-again
     same-length-2
     returns-2)

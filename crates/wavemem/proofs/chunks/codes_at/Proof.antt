@@ -24,24 +24,6 @@ abbrev μ-loop : tie.MeasureT-loop
 loop-holds : tie.Need-loop-holds Inv-loop μ-loop
 loop-holds c = (zero-le, sym (overlay-nil (replicate 32 0) 0))
 
-add-code-by-bits : tie.Need-add-code-by-bits Inv-loop μ-loop
-add-code-by-bits c = omega arith
-
-shared-slice-read-code-by-bits : tie.Need-shared-slice-read-code-by-bits Inv-loop μ-loop
-shared-slice-read-code-by-bits c = omega arith
-
-code-by-bits-requires : tie.Need-code-by-bits-requires Inv-loop μ-loop
-code-by-bits-requires c κs = search needs
-
-array-write-codes : tie.Need-array-write-codes Inv-loop μ-loop
-array-write-codes c = omega arith
-
-add-i : tie.Need-add-i Inv-loop μ-loop
-add-i c = omega arith
-
-loop-less : tie.Need-loop-less Inv-loop μ-loop
-loop-less c = omega arith
-
 -- how many codes there are
 count : (s : tie.Start Inv-loop μ-loop) → length (codesOf (foldAll (part (s .args .from) 32 (now (s .args .value))))) ≡ 32
 count s = length-codes (part (s .args .from) 32 (now (s .args .value))) ∙ part-length (now (s .args .value)) (s .args .from) 32 (s .pre .0)
@@ -74,11 +56,11 @@ codes-at-spec =
     Inv-loop
     μ-loop
     loop-holds
-    add-code-by-bits
-    shared-slice-read-code-by-bits
-    code-by-bits-requires
-    array-write-codes
-    add-i
-    loop-less
+    (λ c. omega arith)
+    (λ c. omega arith)
+    (λ c κs. search needs)
+    (λ c. omega arith)
+    (λ c. omega arith)
+    (λ c. omega arith)
     loop-again
     returns)

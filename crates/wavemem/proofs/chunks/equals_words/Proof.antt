@@ -43,9 +43,6 @@ levels-at-requires c κs =
 shared-slice-read-wide : tie.Need-shared-slice-read-wide Inv-loop μ-loop
 shared-slice-read-wide c = omega (arith, fits (c .before .before))
 
-wide-requires : tie.Need-wide-requires Inv-loop μ-loop
-wide-requires c κs = search needs
-
 -- what is compared
 compared : (l : tie.After-levels-at Inv-loop μ-loop)
     → let a = l .before .before in
@@ -76,9 +73,6 @@ add-wide c = omega (arith, fits (c .before .before .before .before))
 
 shared-slice-read-wide-2 : tie.Need-shared-slice-read-wide-2 Inv-loop μ-loop
 shared-slice-read-wide-2 c = omega (arith, fits (c .before .before .before .before .before))
-
-wide-requires-2 : tie.Need-wide-requires-2 Inv-loop μ-loop
-wide-requires-2 c κs = search needs
 
 returns-2 : tie.Need-returns-2 Inv-loop μ-loop
 returns-2 c =
@@ -120,11 +114,11 @@ equals-words-spec =
     loop-holds
     levels-at-requires
     shared-slice-read-wide
-    wide-requires
+    (λ c κs. search needs)
     returns
     add-wide
     shared-slice-read-wide-2
-    wide-requires-2
+    (λ c κs. search needs)
     returns-2
     add-from
     add-to

@@ -27,30 +27,6 @@ loop-holds : tie.Need-loop-holds Inv-loop μ-loop
 unfolding packedWith digits
 loop-holds c = (zero-le, sym (overlay-nil (replicate 16 0) 0))
 
-mul-joined : tie.Need-mul-joined Inv-loop μ-loop
-mul-joined c = omega arith
-
-array-read-joined : tie.Need-array-read-joined Inv-loop μ-loop
-array-read-joined c = omega arith
-
-mul-joined-2 : tie.Need-mul-joined-2 Inv-loop μ-loop
-mul-joined-2 c = omega arith
-
-add-joined : tie.Need-add-joined Inv-loop μ-loop
-add-joined c = omega arith
-
-array-read-joined-2 : tie.Need-array-read-joined-2 Inv-loop μ-loop
-array-read-joined-2 c = omega arith
-
-array-write-joined : tie.Need-array-write-joined Inv-loop μ-loop
-array-write-joined c = omega arith
-
-add-k : tie.Need-add-k Inv-loop μ-loop
-add-k c = omega arith
-
-loop-less : tie.Need-loop-less Inv-loop μ-loop
-loop-less c = omega arith
-
 -- how many levels there are
 levels : (s : tie.Start Inv-loop μ-loop) → length (s .args .t1) ≡ 32
 levels s = search needs
@@ -76,13 +52,13 @@ join-pairs-spec =
     Inv-loop
     μ-loop
     loop-holds
-    mul-joined
-    array-read-joined
-    mul-joined-2
-    add-joined
-    array-read-joined-2
-    array-write-joined
-    add-k
-    loop-less
+    (λ c. omega arith)
+    (λ c. omega arith)
+    (λ c. omega arith)
+    (λ c. omega arith)
+    (λ c. omega arith)
+    (λ c. omega arith)
+    (λ c. omega arith)
+    (λ c. omega arith)
     loop-again
     returns)

@@ -11,21 +11,6 @@ use Rattle.wavemem.proofs.Blocks.{word-digits}
 use Rattle.wavemem.proofs.chunks.levels_at.Statement.{statement}
 use Rattle.wavemem.proofs.chunks.levels_at.Tie as tie
 
-add-to : tie.Need-add-to
-add-to c = search needs
-
-sub-word : tie.Need-sub-word
-sub-word c = search needs
-
-part-word-start : tie.Need-part-word-start
-part-word-start c = search needs
-
-part-word-end : tie.Need-part-word-end
-part-word-end c = search needs
-
-word-requires : tie.Need-word-requires
-word-requires c κs = search needs
-
 -- the characters are the digits of the word
 characters : (w : tie.After-word) → let x = w .before .before .before .args in digits 256 8 (w .word .result) ≡ part (x .from) 8 (now (x .value))
 characters w =
@@ -43,10 +28,10 @@ pub levels-at-spec : {M : Type 1} → statement M
 levels-at-spec =
     tie.close
     (tie.spec
-    add-to
-    sub-word
-    part-word-start
-    part-word-end
-    word-requires
+    (λ c. search needs)
+    (λ c. search needs)
+    (λ c. search needs)
+    (λ c. search needs)
+    (λ c κs. search needs)
     four-of-word-requires
     returns)

@@ -22,21 +22,6 @@ abbrev μ-loop : tie.MeasureT-loop
 loop-holds : tie.Need-loop-holds Inv-loop μ-loop
 loop-holds c = (zero-le, sym (overlay-nil _ _), refl)
 
-array-read-out : tie.Need-array-read-out Inv-loop μ-loop
-array-read-out c = omega arith
-
-add-out : tie.Need-add-out Inv-loop μ-loop
-add-out c = omega arith
-
-slice-write-out : tie.Need-slice-write-out Inv-loop μ-loop
-slice-write-out c = omega arith
-
-add-k : tie.Need-add-k Inv-loop μ-loop
-add-k c = omega arith
-
-loop-less : tie.Need-loop-less Inv-loop μ-loop
-loop-less c = omega arith
-
 long : (s : tie.Start Inv-loop μ-loop) → length (s .args .t3) ≡ 16
 long s = search needs
 
@@ -65,11 +50,11 @@ write-block-spec =
     Inv-loop
     μ-loop
     loop-holds
-    array-read-out
-    add-out
-    slice-write-out
-    add-k
-    loop-less
+    (λ c. omega arith)
+    (λ c. omega arith)
+    (λ c. omega arith)
+    (λ c. omega arith)
+    (λ c. omega arith)
     loop-again
     same-length
     returns)

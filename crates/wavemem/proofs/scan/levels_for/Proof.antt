@@ -14,9 +14,6 @@ use Rattle.wavemem.proofs.scan.levels_for.Tie as tie
 returns : tie.Need-returns
 returns c = λ h k. absurd (omega arith)
 
-bits-requires : tie.Need-bits-requires
-bits-requires c κs = search needs
-
 cast-if2 : tie.Need-cast-if2
 cast-if2 c = omega (arith, c .bits .ensures, bits-small (c .before .before .before .args .states))
 
@@ -45,4 +42,4 @@ returns-3 c = λ h k. c .number-from-ascii .ensures
 pub levels-for-spec : {M : Type 1} → statement M
 levels-for-spec =
     tie.close
-    (tie.spec returns bits-requires cast-if2 mul-if2 returns-2 number-from-ascii-requires returns-3)
+    (tie.spec returns (λ c κs. search needs) cast-if2 mul-if2 returns-2 number-from-ascii-requires returns-3)

@@ -18,15 +18,6 @@ scan-short-requires c κs = c .if1 .taken
 returns : tie.Need-returns
 returns c = record { least = c .scan-short .ensures .least; levels = λ s e h k. c .scan-short .ensures .levels s e }
 
-from-ascii-requires : tie.Need-from-ascii-requires
-from-ascii-requires c κs = search needs
-
-enum-known-answer : tie.Need-enum-known-answer
-enum-known-answer c = search needs
-
-enum-told : tie.Need-enum-told
-enum-told c = search needs
-
 returns-2 : tie.Need-returns-2
 returns-2 c = record { least = sym (c .enum-told .given .1) ∙ c .before .before .from-ascii .ensures; levels = λ s e. absurd (foreign-least s e) }
 
@@ -51,4 +42,4 @@ returns-3 c =
 pub scan-spec : {M : Type 1} → statement M
 scan-spec =
     tie.close
-    (tie.spec scan-short-requires returns from-ascii-requires enum-known-answer enum-told returns-2 levels-for-requires returns-3)
+    (tie.spec scan-short-requires returns (λ c κs. search needs) (λ c. search needs) (λ c. search needs) returns-2 levels-for-requires returns-3)

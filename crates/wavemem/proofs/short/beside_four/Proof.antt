@@ -12,15 +12,6 @@ use Rattle.wavemem.proofs.Marks.{by-tests, zeros-are, marks-and}
 use Rattle.wavemem.proofs.short.beside_four.Statement.{statement}
 use Rattle.wavemem.proofs.short.beside_four.Tie as tie
 
-beside-two-requires : tie.Need-beside-two-requires
-beside-two-requires c κs = search needs
-
-set-bytes-requires : tie.Need-set-bytes-requires
-set-bytes-requires c κs = search needs
-
-set-bytes-requires-2 : tie.Need-set-bytes-requires-2
-set-bytes-requires-2 c κs = search needs
-
 returns : tie.Need-returns
 unfolding number holdsOne codeOf placeIn fold
 returns c =
@@ -33,4 +24,4 @@ returns c =
 
 pub beside-four-spec : {M : Type 1} → statement M
 beside-four-spec =
-    tie.close (tie.spec beside-two-requires set-bytes-requires set-bytes-requires-2 returns)
+    tie.close (tie.spec (λ c κs. search needs) (λ c κs. search needs) (λ c κs. search needs) returns)

@@ -12,18 +12,6 @@ use Rattle.wavemem.proofs.Marks.{by-tests, zeros-are, marks-and}
 use Rattle.wavemem.proofs.short.beside_nine.Statement.{statement}
 use Rattle.wavemem.proofs.short.beside_nine.Tie as tie
 
-beside-four-requires : tie.Need-beside-four-requires
-beside-four-requires c κs = search needs
-
-set-bytes-requires : tie.Need-set-bytes-requires
-set-bytes-requires c κs = search needs
-
-set-bytes-requires-2 : tie.Need-set-bytes-requires-2
-set-bytes-requires-2 c κs = search needs
-
-set-bytes-requires-3 : tie.Need-set-bytes-requires-3
-set-bytes-requires-3 c κs = search needs
-
 returns : tie.Need-returns
 unfolding number holdsOne codeOf placeIn fold
 returns c =
@@ -43,8 +31,8 @@ pub beside-nine-spec : {M : Type 1} → statement M
 beside-nine-spec =
     tie.close
     (tie.spec
-    beside-four-requires
-    set-bytes-requires
-    set-bytes-requires-2
-    set-bytes-requires-3
+    (λ c κs. search needs)
+    (λ c κs. search needs)
+    (λ c κs. search needs)
+    (λ c κs. search needs)
     returns)

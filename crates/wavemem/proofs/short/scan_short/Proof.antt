@@ -8,12 +8,6 @@ use Rattle.wavemem.proofs.Scans.{padded-scan}
 use Rattle.wavemem.proofs.short.scan_short.Statement.{statement}
 use Rattle.wavemem.proofs.short.scan_short.Tie as tie
 
-padded-word-requires : tie.Need-padded-word-requires
-padded-word-requires c κs = search needs
-
-scan-word-requires : tie.Need-scan-word-requires
-scan-word-requires c κs = search needs
-
 returns : tie.Need-returns
 returns c =
     let p = c .before in
@@ -23,4 +17,4 @@ returns c =
     (c .scan-word .result) (c .scan-word .ensures)
 
 pub scan-short-spec : {M : Type 1} → statement M
-scan-short-spec = tie.close (tie.spec padded-word-requires scan-word-requires returns)
+scan-short-spec = tie.close (tie.spec (λ c κs. search needs) (λ c κs. search needs) returns)

@@ -11,9 +11,6 @@ use Rattle.wavemem.proofs.Scans.{found, none-found}
 use Rattle.wavemem.proofs.short.scan_word.Statement.{statement}
 use Rattle.wavemem.proofs.short.scan_word.Tie as tie
 
-beside-two-requires : tie.Need-beside-two-requires
-beside-two-requires c κs = search needs
-
 two-of-word-requires : tie.Need-two-of-word-requires
 two-of-word-requires c κs =
     let a = c .before in
@@ -28,9 +25,6 @@ returns c =
     found u Two (c .two-of-word .result)
     (is-two u (all-held Two w (a .beside-two .result) (omega arith) (a .beside-two .ensures) (c .before .if1 .taken)))
     (c .two-of-word .ensures)
-
-beside-four-requires : tie.Need-beside-four-requires
-beside-four-requires c κs = search needs
 
 four-of-word-requires : tie.Need-four-of-word-requires
 four-of-word-requires c κs =
@@ -48,9 +42,6 @@ returns-2 c =
     (is-four u (not-held Two w (a .beside-two .result) (omega arith) (a .beside-two .ensures) (b .before .if1 .left))
     (all-held Four w (b .beside-four .result) (omega arith) (zeros-marks w (holdsOne 4) (b .beside-four .ensures)) (c .before .if2 .taken)))
     (c .four-of-word .ensures)
-
-beside-nine-requires : tie.Need-beside-nine-requires
-beside-nine-requires c κs = search needs
 
 nine-of-word-requires : tie.Need-nine-of-word-requires
 nine-of-word-requires c κs =
@@ -80,13 +71,13 @@ pub scan-word-spec : {M : Type 1} → statement M
 scan-word-spec =
     tie.close
     (tie.spec
-    beside-two-requires
+    (λ c κs. search needs)
     two-of-word-requires
     returns
-    beside-four-requires
+    (λ c κs. search needs)
     four-of-word-requires
     returns-2
-    beside-nine-requires
+    (λ c κs. search needs)
     nine-of-word-requires
     returns-3
     returns-4)
