@@ -20,14 +20,14 @@ use Rattle.value.proofs.Slices.{part-length, part-at, overlay-nil}
 use Rattle.value.proofs.Backward.{part-cons, take-part, drop-part, part-before, overlay-front, store-front, store-first}
 use Rattle.layout.specs.declared.expand.Widening.{Widening}
 use Rattle.layout.specs.Entry.{hasMeta, entrySize, markByte, unmarked, levelBytes, widenEntry, widenAll}
-use Rattle.layout.specs.Expand.{markBits, levelBits, wideningOf, levelsMoved, moved, movedAll, Grows, Counted}
+use Rattle.layout.specs.Expand.{markBits, levelBits, wideningOf, levelsMoved, movedEntry, movedEntries, Grows, Counted}
 use Rattle.layout.proofs.Sizes.{size-by, size-up, len-le, len-pos, mark-room, widen-moved}
 
 -- ---- one entry
 
 module _ (m : Widening) (grows : Grows m) where
-  pub moved-length : (v : List ℕ) → length v ≡ m .«from_size» → length (moved m v) ≡ m .«to_size»
-  unfolding moved levelsMoved
+  pub moved-length : (v : List ℕ) → length v ≡ m .«from_size» → length (movedEntry m v) ≡ m .«to_size»
+  unfolding movedEntry levelsMoved
   moved-length v l = rw (length-append, length-replicate, length-drop) (omega arith)
 
   levels-part : (d : List ℕ) (p : ℕ) → p + m .«from_size» ≤ length d
@@ -46,8 +46,8 @@ module _ (m : Widening) (grows : Grows m) where
   pub entry-moved : (d d₁ d₂ : List ℕ) (p q : ℕ) → p ≤ q → q + m .«to_size» ≤ length d
       → d₁ ≡ overlay d (q + (m .«to_size» - m .len)) (part (p + (m .«from_size» - m .len)) (m .len) d)
       → d₂ ≡ overlay (set d₁ (q + (m .«to_size» - m .len)) (bitAnd (getD d (p + (m .«from_size» - m .len)) 0) (m .«level_bits»))) (q + 1) (replicate (m .«to_size» - 1 - m .len) 0)
-      → set d₂ q (bitAnd (getD d p 0) (m .«mark_bits»)) ≡ overlay d q (moved m (part p (m .«from_size») d))
-  unfolding moved
+      → set d₂ q (bitAnd (getD d p 0) (m .«mark_bits»)) ≡ overlay d q (movedEntry m (part p (m .«from_size») d))
+  unfolding movedEntry
   entry-moved d d₁ d₂ p q o r e₁ e₂ =
       let F : ℕ = m .«from_size» in
       let i : ℕ = p + (F - m .len) in
@@ -71,11 +71,11 @@ module _ (m : Widening) (grows : Grows m) where
       ∙ store-front d (replicate z 0 ++ (x ∷ l)) q (q + 1) y refl (omega arith)
       ∙ ap₂ (λ (u : ℕ) (v : List ℕ). overlay d q (u ∷ (replicate z 0 ++ v))) f (sym (levels-part d p (omega arith)))
 
-  -- the same by the numbers of level bytes and zeros
+  -- by the numbers of level bytes and zeros
   pub entry-counted : (d d₁ d₂ : List ℕ) (p q len zeros : ℕ) → Counted m len zeros → p ≤ q → q + m .«to_size» ≤ length d
       → d₁ ≡ overlay d (q + (zeros + 1)) (part (p + (m .«from_size» - len)) len d)
       → d₂ ≡ overlay (set d₁ (q + (zeros + 1)) (bitAnd (getD d (p + (m .«from_size» - len)) 0) (m .«level_bits»))) (q + 1) (replicate zeros 0)
-      → set d₂ q (bitAnd (getD d p 0) (m .«mark_bits»)) ≡ overlay d q (moved m (part p (m .«from_size») d))
+      → set d₂ q (bitAnd (getD d p 0) (m .«mark_bits»)) ≡ overlay d q (movedEntry m (part p (m .«from_size») d))
   entry-counted d d₁ d₂ p q len zeros c o r e₁ e₂ =
       let F : ℕ = m .«from_size» in
       let L : ℕ → ℕ = λ n. bitAnd (getD d (p + (F - n)) 0) (m .«level_bits») in
@@ -91,11 +91,11 @@ module _ (m : Widening) (grows : Grows m) where
 -- n entries of which all but the first k are laid out anew
 abbrev pub expanded : Widening → List ℕ → ℕ → ℕ → ℕ → List ℕ
 expanded m d start n k =
-    overlay d (start + k * m .«to_size») (movedAll m (n - k) (part (start + k * m .«from_size») ((n - k) * m .«from_size») d))
+    overlay d (start + k * m .«to_size») (movedEntries m (n - k) (part (start + k * m .«from_size») ((n - k) * m .«from_size») d))
 
 module _ (m : Widening) (grows : Grows m) (d : List ℕ) (start n : ℕ) (room : start + n * m .«to_size» ≤ length d) where
   pub none-expanded : expanded m d start n n ≡ d
-  unfolding movedAll
+  unfolding movedEntries
   none-expanded = rw sub-self (overlay-nil d (start + n * m .«to_size»))
 
   -- the places of entry k within the slice
@@ -106,9 +106,9 @@ module _ (m : Widening) (grows : Grows m) (d : List ℕ) (start n : ℕ) (room :
   new-place k h = omega (arith, suc-mul k (m .«to_size»), mul-le-mul-right (m .«to_size») h)
 
   pub more-expanded : (k : ℕ) → k < n
-      → overlay (expanded m d start n (k + 1)) (start + k * m .«to_size») (moved m (part (start + k * m .«from_size») (m .«from_size») (expanded m d start n (k + 1))))
+      → overlay (expanded m d start n (k + 1)) (start + k * m .«to_size») (movedEntry m (part (start + k * m .«from_size») (m .«from_size») (expanded m d start n (k + 1))))
       ≡ expanded m d start n k
-  unfolding movedAll
+  unfolding movedEntries
   more-expanded k h =
       let F : ℕ = m .«from_size» in
       let T : ℕ = m .«to_size» in
@@ -119,18 +119,18 @@ module _ (m : Widening) (grows : Grows m) (d : List ℕ) (start n : ℕ) (room :
       let b : start + (k + 1) * T ≡ start + k * T + T = rw (add-one, suc-mul) (omega arith) in
       let old = old-place k h in
       let new = new-place k h in
-      let rest : List ℕ = movedAll m j (part (start + (k + 1) * F) (j * F) d) in
+      let rest : List ℕ = movedEntries m j (part (start + (k + 1) * F) (j * F) d) in
       let u : part p F (expanded m d start n (k + 1)) ≡ part p F d
       = part-before d rest (start + (k + 1) * T) p F (rw b (omega (arith, grows .wider))) (rw b new) in
-      let s : length (moved m (part p F d)) ≡ T = moved-length m grows (part p F d) (part-length d p F (omega (arith, grows .wider))) in
+      let s : length (movedEntry m (part p F d)) ≡ T = moved-length m grows (part p F d) (part-length d p F (omega (arith, grows .wider))) in
       let c : suc j * F ≡ F + j * F = rw suc-mul (omega arith) in
-      let t : moved m (part p F d) ++ rest ≡ movedAll m (n - k) (part p ((n - k) * F) d)
+      let t : movedEntry m (part p F d) ++ rest ≡ movedEntries m (n - k) (part p ((n - k) * F) d)
       = rw (e, c, take-part d p F (j * F) (omega (arith, grows .wider)), drop-part d p F (j * F) (omega (arith, grows .wider)), a) in
-      ap (λ (v : List ℕ). overlay (expanded m d start n (k + 1)) (start + k * T) (moved m v)) u
-      ∙ overlay-front d (start + k * T) (moved m (part p F d)) rest (start + (k + 1) * T) (rw (s, b)) (rw b new)
+      ap (λ (v : List ℕ). overlay (expanded m d start n (k + 1)) (start + k * T) (movedEntry m v)) u
+      ∙ overlay-front d (start + k * T) (movedEntry m (part p F d)) rest (start + (k + 1) * T) (rw (s, b)) (rw b new)
       ∙ ap (overlay d (start + k * T)) t
 
-  pub all-expanded : expanded m d start n 0 ≡ overlay d start (movedAll m n (part start (n * m .«from_size») d))
+  pub all-expanded : expanded m d start n 0 ≡ overlay d start (movedEntries m n (part start (n * m .«from_size») d))
   all-expanded = rw (sub-zero, zero-mul, zero-mul, add-zero)
 
 -- ---- an entry's move is widening
@@ -175,16 +175,16 @@ module _ (w : ℕ) (pos : 0 < w) (from to : States) (up : markOf from ≤ markOf
           let n : 0 < length v = omega (arith, len-pos w pos from, size-by w from false e) in
           rw (i, e) (byte-levels from v (below-at 256 v b 0 0 n) n)
 
-  pub moved-widens : (v : List ℕ) → length v ≡ entrySize w from → Below 256 v → moved (wideningOf w from to) v ≡ widenEntry w from to v
-  unfolding moved wideningOf
+  pub moved-widens : (v : List ℕ) → length v ≡ entrySize w from → Below 256 v → movedEntry (wideningOf w from to) v ≡ widenEntry w from to v
+  unfolding movedEntry wideningOf
   moved-widens v l b =
       let n : 0 < length v = omega (arith, len-pos w pos from, len-le w from) in
       ap₂ (λ (x : ℕ) (u : List ℕ). x ∷ (replicate (entrySize w to - 1 - lenOf w from) 0 ++ u)) (byte-mark from v (below-at 256 v b 0 0 n)) (levels-widen v l b)
       ∙ sym (widen-moved w from to v grown)
 
   pub all-widen : (n : ℕ) (bytes : List ℕ) → n * entrySize w from ≤ length bytes → Below 256 bytes
-      → movedAll (wideningOf w from to) n bytes ≡ widenAll w from to n bytes
-  unfolding movedAll widenAll wideningOf
+      → movedEntries (wideningOf w from to) n bytes ≡ widenAll w from to n bytes
+  unfolding movedEntries widenAll wideningOf
   all-widen zero bytes r b = refl
   all-widen (suc n) bytes r b =
       let s : ℕ = entrySize w from in

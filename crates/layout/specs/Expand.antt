@@ -39,13 +39,13 @@ levelsMoved m v =
     bitAnd (getD v first 0) (m .«level_bits») ∷ drop (first + 1) v
 
 -- the mark, zeros and the level bytes
-unfoldable pub moved : Widening → List ℕ → List ℕ
-moved m v = bitAnd (getD v 0 0) (m .«mark_bits») ∷ (replicate (m .«to_size» - 1 - m .len) 0 ++ levelsMoved m v)
+unfoldable pub movedEntry : Widening → List ℕ → List ℕ
+movedEntry m v = bitAnd (getD v 0 0) (m .«mark_bits») ∷ (replicate (m .«to_size» - 1 - m .len) 0 ++ levelsMoved m v)
 
 -- each of n entries moved
-unfoldable pub movedAll : Widening → ℕ → List ℕ → List ℕ
-movedAll m zero bytes = []
-movedAll m (suc n) bytes = moved m (take (m .«from_size») bytes) ++ movedAll m n (drop (m .«from_size») bytes)
+unfoldable pub movedEntries : Widening → ℕ → List ℕ → List ℕ
+movedEntries m zero bytes = []
+movedEntries m (suc n) bytes = movedEntry m (take (m .«from_size») bytes) ++ movedEntries m n (drop (m .«from_size») bytes)
 
 -- an entry has level bytes, and its new place a byte in front of them
 pub record Grows (m : Widening) : Type 0 where
@@ -54,7 +54,7 @@ pub record Grows (m : Widening) : Type 0 where
   pub wider : m .«from_size» ≤ m .«to_size»
   pub marked : m .len < m .«to_size»
 
--- the same of an entry at p, to be laid out at q in a slice of some length
+-- an entry at p that grows, to be laid out at q in a slice of some length
 pub record Movable (m : Widening) (p q length : ℕ) : Type 0 where
   pub grows : Grows m
   pub onward : p ≤ q

@@ -4,7 +4,7 @@ ghost use Prim.Native.Nat.{_*_};
 ghost use lib.ListN.{length};
 ghost use Rattle.value.specs.Slice.{part, overlay};
 ghost use Rattle.layout.specs.Entry.{entrySize, widenAll};
-ghost use Rattle.layout.specs.Expand.{markBits, levelBits, wideningOf, moved, movedAll, Movable, AllMovable, Counted, Widenable};
+ghost use Rattle.layout.specs.Expand.{markBits, levelBits, wideningOf, movedEntry, movedEntries, Movable, AllMovable, Counted, Widenable};
 use crate::bytes::move_up;
 use crate::bytes::zero;
 use crate::entry::entry_size;
@@ -70,7 +70,7 @@ fn get_widening(from: States, to: States, bits: u32) -> Widening
 // Lays the entry at p out at q: where they overlap, what is written has been read. `len` and `zeros` are what the sizes say.
 fn expand_entry(widening: Widening, data: &mut [u8], p: usize, q: usize, len: usize, zeros: usize)
     requires { ⌜ Movable widening p q (length (now «data»)) × Counted widening len zeros ⌝ }
-    ensures { λ _. ⌜ now («data» .exit) ≡ overlay (now («data» .entry)) q (moved widening (part p (widening .«from_size») (now («data» .entry)))) ⌝ }
+    ensures { λ _. ⌜ now («data» .exit) ≡ overlay (now («data» .entry)) q (movedEntry widening (part p (widening .«from_size») (now («data» .entry)))) ⌝ }
 {
     let first = p + (widening.from_size - len);
     let at = q + (zeros + 1);
@@ -92,7 +92,7 @@ fn expand_each(
     zeros: usize,
 )
     requires { ⌜ AllMovable widening start entries (length (now «data»)) × Counted widening len zeros ⌝ }
-    ensures { λ _. ⌜ now («data» .exit) ≡ overlay (now («data» .entry)) start (movedAll widening entries (part start (entries * widening .«from_size») (now («data» .entry)))) ⌝ }
+    ensures { λ _. ⌜ now («data» .exit) ≡ overlay (now («data» .entry)) start (movedEntries widening entries (part start (entries * widening .«from_size») (now («data» .entry)))) ⌝ }
 {
     let from_size = widening.from_size;
     let to_size = len + zeros + 1;
@@ -114,7 +114,7 @@ fn expand_each(
 // As many zeros as level bytes: Two to Four and Four to Nine at widths that fill bytes. Literal lengths are compiled apart.
 fn expand_doubled(widening: Widening, data: &mut [u8], start: usize, entries: usize, len: usize)
     requires { ⌜ AllMovable widening start entries (length (now «data»)) × Counted widening len len ⌝ }
-    ensures { λ _. ⌜ now («data» .exit) ≡ overlay (now («data» .entry)) start (movedAll widening entries (part start (entries * widening .«from_size») (now («data» .entry)))) ⌝ }
+    ensures { λ _. ⌜ now («data» .exit) ≡ overlay (now («data» .entry)) start (movedEntries widening entries (part start (entries * widening .«from_size») (now («data» .entry)))) ⌝ }
 {
     match len {
         8 => expand_each(widening, data, start, entries, 8, 8),
@@ -135,7 +135,7 @@ fn expand_others(
     zeros: usize,
 )
     requires { ⌜ AllMovable widening start entries (length (now «data»)) × Counted widening len zeros ⌝ }
-    ensures { λ _. ⌜ now («data» .exit) ≡ overlay (now («data» .entry)) start (movedAll widening entries (part start (entries * widening .«from_size») (now («data» .entry)))) ⌝ }
+    ensures { λ _. ⌜ now («data» .exit) ≡ overlay (now («data» .entry)) start (movedEntries widening entries (part start (entries * widening .«from_size») (now («data» .entry)))) ⌝ }
 {
     if zeros / 3 != len {
         return expand_each(widening, data, start, entries, len, zeros);
@@ -150,7 +150,7 @@ fn expand_others(
 
 fn expand_by_sizes(widening: Widening, data: &mut [u8], start: usize, entries: usize)
     requires { ⌜ AllMovable widening start entries (length (now «data»)) ⌝ }
-    ensures { λ _. ⌜ now («data» .exit) ≡ overlay (now («data» .entry)) start (movedAll widening entries (part start (entries * widening .«from_size») (now («data» .entry)))) ⌝ }
+    ensures { λ _. ⌜ now («data» .exit) ≡ overlay (now («data» .entry)) start (movedEntries widening entries (part start (entries * widening .«from_size») (now («data» .entry)))) ⌝ }
 {
     let len = widening.len;
     let zeros = widening.to_size - 1 - len;

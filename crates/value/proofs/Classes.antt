@@ -15,7 +15,7 @@ use Rattle.value.specs.declared.CharCode.the-variants as code
 use Rattle.value.specs.declared.StatesAnswer.{StatesAnswer}
 use Rattle.value.specs.declared.StatesAnswer.the-variants as answer
 use Rattle.value.specs.Slice.{any}
-use Rattle.value.specs.Level.{codeOf, letterOf, fold, foldAll, codesOf, placeIn, markOf, codesIn, hasNoCode, setOf, leastOf, joinAll}
+use Rattle.value.specs.Level.{letters, codeOf, letterOf, fold, foldAll, codesOf, placeIn, markOf, codesIn, hasNoCode, setOf, leastOf, joinAll}
 use Rattle.value.specs.Answer.{charCode, leastStates, holdsOne, holdsAll}
 use Rattle.value.proofs.Tests.{or-left, or-right, by-eq, allBelow, at-below, implies, implied, both, both-same}
 use Rattle.value.proofs.Slices.{any-snoc}
@@ -37,19 +37,26 @@ not-false false e = absurd (true≢false (sym e))
 pub each-byte : (when rule : ℕ → Bool) → T (allBelow (λ (n : ℕ). implies (when n) (rule n)) 256) → (c : ℕ) → c < 256 → when c ≡ true → rule c ≡ true
 each-byte when rule t c h e = implied (when c) (rule c) (at-below (λ (n : ℕ). implies (when n) (rule n)) 256 t c h) e
 
+-- is F the code of a character whose code is below N
+abbrev pub tells : ℕ → (ℕ → ℕ) → ℕ → Bool
+tells N F c = implies (ltb (codeOf (fold c)) N) (eqb (F c) (codeOf (fold c)))
+
+pub code-by : (N : ℕ) (F : ℕ → ℕ) → T (allBelow (tells N F) 256) → (c : ℕ) → c < 256 → codeOf (fold c) < N → F c ≡ codeOf (fold c)
+code-by N F t c h k =
+    eqb-true (F c) (codeOf (fold c))
+    (each-byte (λ (n : ℕ). ltb (codeOf (fold n)) N) (λ (n : ℕ). eqb (F n) (codeOf (fold n))) t c h (lt-ltb (codeOf (fold c)) N k))
+
 -- the table of codes by low bits
 abbrev pub lowBits : List ℕ
 lowBits = 9 ∷ 9 ∷ 9 ∷ 9 ∷ 9 ∷ 9 ∷ 9 ∷ 9 ∷ 4 ∷ 9 ∷ 9 ∷ 9 ∷ 7 ∷ 8 ∷ 9 ∷ 9 ∷ 0 ∷ 1 ∷ 9 ∷ 9 ∷ 9 ∷ 5 ∷ 9 ∷ 6 ∷ 2 ∷ 9 ∷ 3 ∷ 9 ∷ 9 ∷ 9 ∷ 9 ∷ 9 ∷ []
 
 pub low-bits : (c : ℕ) → c < 256 → codeOf (fold c) < 9 → getD lowBits (bitAnd c 31) 0 ≡ codeOf (fold c)
 unfolding codeOf placeIn fold
-low-bits c h k =
-    eqb-true (getD lowBits (bitAnd c 31) 0) (codeOf (fold c))
-    (each-byte (λ (n : ℕ). ltb (codeOf (fold n)) 9) (λ (n : ℕ). eqb (getD lowBits (bitAnd n 31) 0) (codeOf (fold n))) tt c h (lt-ltb (codeOf (fold c)) 9 k))
+low-bits = code-by 9 (λ (n : ℕ). getD lowBits (bitAnd n 31) 0) tt
 
--- the same by the low bits alone
-pub low-code : (c k r : ℕ) → c < 256 → bitAnd c 31 ≡ k → getD lowBits k 0 ≡ r → codeOf (fold c) < 9 → r ≡ codeOf (fold c)
-low-code c k r h e g n = sym g ∙ ap (λ (i : ℕ). getD lowBits i 0) (sym e) ∙ low-bits c h n
+-- the code of a known character whose low bits are known
+pub low-code : (c : ℕ) {k r : ℕ} → c < 256 → bitAnd c 31 ≡ k → getD lowBits k 0 ≡ r → codeOf (fold c) < 9 → r ≡ codeOf (fold c)
+low-code c h e g n = sym g ∙ ap (λ (i : ℕ). getD lowBits i 0) (sym e) ∙ low-bits c h n
 
 -- the low bits of the known characters but 0
 abbrev pub lowPlaces : List ℕ
@@ -63,15 +70,14 @@ other-low c h o k =
     (rw (lt-ltb (codeOf (fold c)) 9 k, o)))
 
 -- the letter of a code that is known
-pub letter-is : {n k l : ℕ} → n ≡ k → letterOf k ≡ l → l ≡ letterOf n
+pub letter-is : {n k l : ℕ} → n ≡ k → getD letters k 0 ≡ l → l ≡ letterOf n
+unfolding letterOf
 letter-is e g = sym g ∙ ap letterOf (sym e)
 
 -- 0 and 1
 pub binary-bit : (c : ℕ) → c < 256 → codeOf (fold c) < 2 → bitAnd c 1 ≡ codeOf (fold c)
 unfolding codeOf placeIn fold
-binary-bit c h k =
-    eqb-true (bitAnd c 1) (codeOf (fold c))
-    (each-byte (λ (n : ℕ). ltb (codeOf (fold n)) 2) (λ (n : ℕ). eqb (bitAnd n 1) (codeOf (fold n))) tt c h (lt-ltb (codeOf (fold c)) 2 k))
+binary-bit = code-by 2 (λ (n : ℕ). bitAnd n 1) tt
 
 -- two tests of a byte, computed at each
 pub same-tests : (f g : ℕ → Bool) → T (allBelow (λ (n : ℕ). implies true (both (f n) (g n))) 256) → (c : ℕ) → c < 256 → f c ≡ g c

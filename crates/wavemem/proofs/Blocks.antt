@@ -7,8 +7,7 @@ use Prim.Native.Nat.{ℕ, suc, _+_, _-_, _*_, _/_, _%_, _^_, _≤_, _<_}
 use native.Mathlib.Nat.{mod-eq-of-lt, zero-add}
 use native.Mathlib.Omega.{arith}
 use native.Mathlib.Numerals.{add-one}
-use borrow.Author.Tests.{eqb-true, lt-ltb}
-use lib.Dec.{eqb, ltb}
+use lib.Dec.{eqb}
 use lib.Bits.{mask-lt, and-mask, bitAnd, bitOr, bitXor, or-shifted, or-zero-r}
 use lib.Pow.{shl-exact}
 use lib.ListN.{length, getD, take, drop, set, replicate}
@@ -17,7 +16,7 @@ use Rattle.value.specs.declared.States.the-variants.{Four}
 use Rattle.value.specs.Digits.{number, digits, Below}
 use Rattle.value.specs.Slice.{part, overlay, same}
 use Rattle.value.specs.Level.{fold, foldAll, codeOf, codesOf, placeIn}
-use Rattle.value.proofs.Classes.{each-byte}
+use Rattle.value.proofs.Classes.{code-by}
 use Rattle.value.proofs.Digits.{number-lt, below-at}
 use Rattle.value.proofs.Backward.{below-part, part-cons, overlay-whole}
 use Rattle.value.proofs.Slices.{part-length, part-nil, overlay-one, overlay-store}
@@ -37,9 +36,7 @@ byBits c =
 
 pub by-bits : (c : ℕ) → c < 256 → codeOf (fold c) < 9 → byBits c ≡ codeOf (fold c)
 unfolding codeOf placeIn fold
-by-bits c h k =
-    eqb-true (byBits c) (codeOf (fold c))
-    (each-byte (λ (n : ℕ). ltb (codeOf (fold n)) 9) (λ (n : ℕ). eqb (byBits n) (codeOf (fold n))) tt c h (lt-ltb (codeOf (fold c)) 9 k))
+by-bits = code-by 9 byBits tt
 
 -- ---- an array that is filled from the front
 

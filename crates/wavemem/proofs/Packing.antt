@@ -26,7 +26,7 @@ use Rattle.value.proofs.Slices.{overlay-nil, overlay-one, overlay-overlay, over
 use Rattle.value.proofs.Levels.{len-bits, bits-pos}
 use Rattle.value.proofs.Classes.{lowBits, low-bits}
 use Rattle.value.proofs.Digits.{below-at, below-take, below-drop, pow-pow, number-lt, number-append, number-more, digits-length, digits-append}
-use Rattle.wavemem.specs.Packed.{packedWith, packedFrom, firstCount, Codes, OneWord, OneByte, ByLowBits, Whole, Packable}
+use Rattle.wavemem.specs.Packed.{packedWith, packedFrom, firstCount, Codes, OneWord, OneByte, ByLowBits, WholeBytes, Packable}
 
 pub code-is : (c n : ℕ) → charCode c ≡ code.Code n → n ≡ codeOf (fold c)
 unfolding charCode
@@ -59,7 +59,7 @@ module _ (room b : ℕ) (cs : List ℕ) (below : Below (2 ^ b) cs) (short : leng
       let k : c < 2 ^ b = rw is (below-at (2 ^ b) cs below i d more) in
       rw (so-far, shl-exact {a = n} (i * b) b room l f, or-shifted n b c k, number-more (2 ^ b) cs i d more, is)
 
--- the same with the code of the next character
+-- of the code of the next character
 module _ {s : States} {v : List ℕ} (ok : OneWord s v) (i : ℕ) (more : i < length v) where
   more-codes : i < length (codesOf (foldAll v))
   more-codes = rw (length-map, length-map) more
@@ -243,7 +243,7 @@ module _ {s : States} {v : List ℕ} {room at meta : ℕ} (ok : Packable s v roo
   first = firstCount s (length v)
 
   module _ (e : first ≡ perByte s) where
-    pub all-whole : Whole s v room at
+    pub all-whole : WholeBytes s v room at
     all-whole = record { codes = ok .codes; short = ok .short; fits = ok .fits; full = omega (arith, spans (length v) s, e) }
 
     -- no bits are free for meta data
@@ -279,7 +279,7 @@ module _ {s : States} {v : List ℕ} {room at meta : ℕ} (ok : Packable s v roo
     pub rest-size : lenOf (length v) s ≡ suc (lenOf (length (drop first v)) s)
     rest-size = rw (rest-length, len-full later s) (omega (arith, some))
 
-    pub rest-whole : Whole s (drop first v) room (at + 1)
+    pub rest-whole : WholeBytes s (drop first v) room (at + 1)
     rest-whole =
         let f = ok .fits in
         record {

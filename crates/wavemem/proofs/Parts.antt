@@ -19,7 +19,7 @@ use Rattle.value.specs.Level.{foldAll, codesOf, bitsOf, lenOf}
 use Rattle.value.proofs.Tests.{by-le}
 use Rattle.value.proofs.Backward.{part-cons}
 use Rattle.value.proofs.Slices.{part-nil, part-length, part-add, overlay-length, overlay-nil, overlay-one, overlay-overlay}
-use Rattle.wavemem.specs.Packed.{packedWith, packedFrom, Codes, FullByte, Whole}
+use Rattle.wavemem.specs.Packed.{packedWith, packedFrom, Codes, FullByte, WholeBytes}
 use Rattle.wavemem.proofs.Compare.{same-append}
 use Rattle.wavemem.proofs.Blocks.{high-byte, two-bytes, two-stored, two-compared}
 use Rattle.wavemem.proofs.Packing.{perByte, per-bits, len-none, length-codes, drop-codes, take-codes, packed-from-length, packed-one, packed-parts}
@@ -45,7 +45,7 @@ abbrev pub agree : States → List ℕ → ℕ → List ℕ → Bool
 agree s bytes at v = same (part at (lenOf (length v) s) bytes) (packedFrom s 0 v)
 
 -- a string that fills whole bytes, in two that do
-module _ {s : States} {v : List ℕ} {room at n from to : ℕ} (ok : Whole s v room at) (p : Passed s (length v) at n from to) where
+module _ {s : States} {v : List ℕ} {room at n from to : ℕ} (ok : WholeBytes s v room at) (p : Passed s (length v) at n from to) where
   pub front-length : length (take from v) ≡ from
   front-length = length-take-le from v (p .within)
 
@@ -55,7 +55,7 @@ module _ {s : States} {v : List ℕ} {room at n from to : ℕ} (ok : Whole s v r
   sizes : (lenOf from s + lenOf (length v - from) s ≡ lenOf (length v) s) × (lenOf (length v - from) s * perByte s ≡ length v - from)
   sizes = split s (length v) from (ok .full) (p .within) (p .full)
 
-  pub front-whole : Whole s (take from v) room at
+  pub front-whole : WholeBytes s (take from v) room at
   front-whole =
       record {
         codes = take-codes from v (ok .codes);
@@ -64,7 +64,7 @@ module _ {s : States} {v : List ℕ} {room at n from to : ℕ} (ok : Whole s v r
         full = rw front-length (p .full);
       }
 
-  pub back-whole : Whole s (drop from v) room to
+  pub back-whole : WholeBytes s (drop from v) room to
   back-whole =
       record {
         codes = drop-codes from v (ok .codes);
@@ -77,7 +77,7 @@ module _ {s : States} {v : List ℕ} {room at n from to : ℕ} (ok : Whole s v r
   pub back-is : take (length v - from) (drop from v) ≡ drop from v
   back-is = take-all (length v - from) (drop from v) (rw (length-drop from v) (omega arith))
 
-  pub back-lent : Whole s (take (length v - from) (drop from v)) room to × (length (take (length v - from) (drop from v)) % n ≡ 0)
+  pub back-lent : WholeBytes s (take (length v - from) (drop from v)) room to × (length (take (length v - from) (drop from v)) % n ≡ 0)
   back-lent = rw back-is (back-whole, rw length-drop (p .turns))
 
   both-sizes : to + lenOf (length (drop from v)) s ≡ at + lenOf (length v) s
@@ -109,12 +109,12 @@ module _ {s : States} {v : List ℕ} {room at n from to : ℕ} (ok : Whole s v r
       ∙ ap (λ (k : ℕ). same (part at (lenOf k s) bytes) (packedFrom s 0 (take from v)) && same (part to b bytes) (packedFrom s 0 (drop from v))) (sym front-length)
 
 -- two calls that store, of the characters before a place and of those behind it
-module _ {s : States} {v : List ℕ} {room at n from : ℕ} (ok : Whole s v room at) (p : Passed s (length v) at n from (at + lenOf from s)) (d : List ℕ) (long : length d ≡ room)
+module _ {s : States} {v : List ℕ} {room at n from : ℕ} (ok : WholeBytes s v room at) (p : Passed s (length v) at n from (at + lenOf from s)) (d : List ℕ) (long : length d ≡ room)
     {to : ℕ} {out : List ℕ} (first : (to ≡ at + lenOf (length (take from v)) s) × (out ≡ overlay d at (packedFrom s 0 (take from v)))) where
   behind : Passed s (length v) at n from to
   behind = record { within = p .within; turns = p .turns; full = p .full; place = rw (front-length ok p) at (first .0) }
 
-  pub second-lent : Whole s (take (length v - from) (drop from v)) (length out) to × (length (take (length v - from) (drop from v)) % n ≡ 0)
+  pub second-lent : WholeBytes s (take (length v - from) (drop from v)) (length out) to × (length (take (length v - from) (drop from v)) % n ≡ 0)
   second-lent = rw (front-stored ok behind d long (first .1), long) (back-lent ok behind)
 
   pub both-stored : {r : ℕ} {all : List ℕ}
@@ -141,7 +141,7 @@ len-add Two a n f g = omega arith
 len-add Four a n f g = omega arith
 len-add Nine a n f g = omega arith
 
-module _ {s : States} {v : List ℕ} {room at : ℕ} (ok : Whole s v room at) (n : ℕ) (full : lenOf n s * perByte s ≡ n) {from to : ℕ} (p : Passed s (length v) at n from to)
+module _ {s : States} {v : List ℕ} {room at : ℕ} (ok : WholeBytes s v room at) (n : ℕ) (full : lenOf n s * perByte s ≡ n) {from to : ℕ} (p : Passed s (length v) at n from to)
     (more : from < length v) where
   pub turn-within : from + n ≤ length v
   turn-within =
@@ -204,7 +204,7 @@ pub record Stored (s : States) (v d : List ℕ) (at n : ℕ) (out : List ℕ) (f
 pub stored-start : (s : States) {v d : List ℕ} {at n to : ℕ} → length v % n ≡ 0 → to ≡ at → Stored s v d at n d 0 to
 stored-start s {d = d} {at} e f = record { passed = passed-start s e f; bytes = rw packed-none (sym (overlay-nil d at)) }
 
-module _ {s : States} {v d : List ℕ} {at n : ℕ} (ok : Whole s v (length d) at) {out : List ℕ} {from to : ℕ} (h : Stored s v d at n out from to) where
+module _ {s : States} {v d : List ℕ} {at n : ℕ} (ok : WholeBytes s v (length d) at) {out : List ℕ} {from to : ℕ} (h : Stored s v d at n out from to) where
   pub stored-long : length out ≡ length d
   stored-long = front-stored ok (h .passed) d refl (h .bytes)
 
@@ -234,7 +234,7 @@ agrees-end {s} {v} {bytes} {from = from} h k =
     let e : from ≡ length v = omega (arith, h .passed .within) in
     sym (rw (e, drop-length v, len-none s, packed-none s, part-nil)) ∙ h .left
 
-module _ {s : States} {v bytes : List ℕ} {at n : ℕ} (ok : Whole s v (length bytes) at) {from to : ℕ} (h : Agrees s v bytes at n from to)
+module _ {s : States} {v bytes : List ℕ} {at n : ℕ} (ok : WholeBytes s v (length bytes) at) {from to : ℕ} (h : Agrees s v bytes at n from to)
     (full : lenOf n s * perByte s ≡ n) (more : from < length v) where
   -- the next turn's bytes
   abbrev next-same : Bool
@@ -259,10 +259,10 @@ byte-len Two = refl
 byte-len Four = refl
 byte-len Nine = refl
 
-pub byte-turns : {s : States} {v : List ℕ} {room at : ℕ} → Whole s v room at → length v % perByte s ≡ 0
+pub byte-turns : {s : States} {v : List ℕ} {room at : ℕ} → WholeBytes s v room at → length v % perByte s ≡ 0
 byte-turns {s} {v} ok = rw (← ok .full) (mul-mod-left (lenOf (length v) s) (perByte s))
 
-module _ {s : States} {v : List ℕ} {room at : ℕ} (ok : Whole s v room at) {from to : ℕ} (p : Passed s (length v) at (perByte s) from to) (more : from < length v) where
+module _ {s : States} {v : List ℕ} {room at : ℕ} (ok : WholeBytes s v room at) {from to : ℕ} (p : Passed s (length v) at (perByte s) from to) (more : from < length v) where
   pub byte-within : from + perByte s ≤ length v
   byte-within = turn-within ok (perByte s) (byte-full s) p more
 
@@ -296,14 +296,14 @@ module _ {s : States} {v : List ℕ} {room at : ℕ} (ok : Whole s v room at) {f
         and-true true = refl
         and-true false = refl
 
-pub byte-stored : {s : States} {v d : List ℕ} {at : ℕ} (ok : Whole s v (length d) at) {out : List ℕ} {from to next x : ℕ} → Stored s v d at (perByte s) out from to
+pub byte-stored : {s : States} {v d : List ℕ} {at : ℕ} (ok : WholeBytes s v (length d) at) {out : List ℕ} {from to next x : ℕ} → Stored s v d at (perByte s) out from to
     → from < length v → next ≡ to + 1 → x ≡ number (2 ^ bitsOf s) (codesOf (foldAll (take (from + perByte s - from) (drop from v))))
     → Stored s v d at (perByte s) (set out to x) (from + perByte s) next
 byte-stored {s} ok {out} {to = to} {x = x} h more q is =
     stored-on ok h (byte-full s) more (rw (byte-len s) q)
     (sym (overlay-one out to x (omega (arith, byte-fits ok (h .passed) more, stored-long ok h))) ∙ ap (overlay out to) (sym (byte-is ok (h .passed) more is)))
 
-module _ {s : States} {v bytes : List ℕ} {at : ℕ} (ok : Whole s v (length bytes) at) {from to : ℕ} (h : Agrees s v bytes at (perByte s) from to) (more : from < length v)
+module _ {s : States} {v bytes : List ℕ} {at : ℕ} (ok : WholeBytes s v (length bytes) at) {from to : ℕ} (h : Agrees s v bytes at (perByte s) from to) (more : from < length v)
     {x : ℕ} (is : x ≡ number (2 ^ bitsOf s) (codesOf (foldAll (take (from + perByte s - from) (drop from v))))) where
   pub byte-agrees : {next : ℕ} → next ≡ to + 1 → getD bytes to 0 ≡ x → Agrees s v bytes at (perByte s) (from + perByte s) next
   byte-agrees q e = agrees-on ok h (byte-full s) more (rw (byte-len s) q) (byte-same ok (h .passed) more is bytes refl ∙ eq-eqb (getD bytes to 0) x e)
@@ -313,7 +313,7 @@ module _ {s : States} {v bytes : List ℕ} {at : ℕ} (ok : Whole s v (length by
 
 -- ---- turns of eight characters of the set Four, x their number
 
-module _ {v : List ℕ} {room at : ℕ} (ok : Whole Four v room at) {from to : ℕ} (p : Passed Four (length v) at 8 from to) (more : from < length v)
+module _ {v : List ℕ} {room at : ℕ} (ok : WholeBytes Four v room at) {from to : ℕ} (p : Passed Four (length v) at 8 from to) (more : from < length v)
     {x : ℕ} (is : x ≡ number 4 (codesOf (foldAll (part from 8 v)))) where
   word-length : length (part from 8 v) ≡ 8
   word-length = part-length v from 8 (turn-within ok 8 refl p more)
@@ -332,8 +332,8 @@ module _ {v : List ℕ} {room at : ℕ} (ok : Whole Four v room at) {from to : �
   word-same bytes e = rw word-bytes (two-compared bytes to (x / 256) (bitAnd x 255) (omega (arith, turn-fits ok 8 refl p more)))
 
 -- as many characters in front as turns leave
-pub lead-nine : {v : List ℕ} {room at to : ℕ} → Whole Nine v room at → to ≡ at + lenOf (length v % 32) Nine → Passed Nine (length v) at 32 (length v % 32) to
+pub lead-nine : {v : List ℕ} {room at to : ℕ} → WholeBytes Nine v room at → to ≡ at + lenOf (length v % 32) Nine → Passed Nine (length v) at 32 (length v % 32) to
 lead-nine ok e = let f = ok .full in record { within = omega arith; turns = omega arith; full = omega arith; place = e }
 
-pub lead-four : {v : List ℕ} {room at to : ℕ} → Whole Four v room at → to ≡ at + lenOf (length v % 8) Four → Passed Four (length v) at 8 (length v % 8) to
+pub lead-four : {v : List ℕ} {room at to : ℕ} → WholeBytes Four v room at → to ≡ at + lenOf (length v % 8) Four → Passed Four (length v) at 8 (length v % 8) to
 lead-four ok e = let f = ok .full in record { within = omega arith; turns = omega arith; full = omega arith; place = e }

@@ -49,7 +49,7 @@ pub record FullByte (s : States) (value : List ℕ) : Type 0 where
   pub full : length value ≡ 8 / bitsOf s
 
 -- characters that fill whole bytes, to be packed without meta data
-pub record Whole (s : States) (value : List ℕ) (room at : ℕ) : Type 0 where
+pub record WholeBytes (s : States) (value : List ℕ) (room at : ℕ) : Type 0 where
   pub codes : Codes s (codesOf (foldAll value))
   pub short : length value ≤ 4096
   pub fits : at + lenOf (length value) s ≤ room

@@ -6,7 +6,7 @@ ghost use Rattle.value.specs.declared.States.{States};
 ghost use Rattle.value.specs.Digits.{number, Below};
 ghost use Rattle.value.specs.Slice.{part, overlay, same};
 ghost use Rattle.value.specs.Level.{fold, foldAll, codeOf, codesOf, lenOf};
-ghost use Rattle.wavemem.specs.Packed.{packedWith, packedFrom, Whole};
+ghost use Rattle.wavemem.specs.Packed.{packedWith, packedFrom, WholeBytes};
 use crate::short::four_of_word;
 use crate::word;
 use value::wide;
@@ -69,7 +69,7 @@ fn write_block(out: &mut [u8], at: usize, block: [u8; 16])
 
 // `write_bytes` of a string of the set Nine, 32 characters to 16 bytes.
 pub fn write_chunks(value: &[u8], out: &mut [u8], at: usize) -> usize
-    requires { ⌜ Whole States.Nine (now value) (length (now out)) at × (length (now value) % 32 ≡ 0) ⌝ }
+    requires { ⌜ WholeBytes States.Nine (now value) (length (now out)) at × (length (now value) % 32 ≡ 0) ⌝ }
     ensures { λ r. ⌜ r ≡ at + lenOf (length (now (value .entry))) States.Nine ⌝ }
     ensures { λ _. ⌜ now (out .exit) ≡ overlay (now (out .entry)) at (packedFrom States.Nine 0 (now (value .entry))) ⌝ }
 {
@@ -96,7 +96,7 @@ fn levels_at(value: &[u8], from: usize) -> u64
 
 // `write_bytes` of a string of the set Four, eight characters to two bytes.
 pub fn write_words(value: &[u8], out: &mut [u8], at: usize) -> usize
-    requires { ⌜ Whole States.Four (now value) (length (now out)) at × (length (now value) % 8 ≡ 0) ⌝ }
+    requires { ⌜ WholeBytes States.Four (now value) (length (now out)) at × (length (now value) % 8 ≡ 0) ⌝ }
     ensures { λ r. ⌜ r ≡ at + lenOf (length (now (value .entry))) States.Four ⌝ }
     ensures { λ _. ⌜ now (out .exit) ≡ overlay (now (out .entry)) at (packedFrom States.Four 0 (now (value .entry))) ⌝ }
 {
@@ -114,7 +114,7 @@ pub fn write_words(value: &[u8], out: &mut [u8], at: usize) -> usize
 
 // `equals_bytes` of such a string.
 pub fn equals_words(value: &[u8], bytes: &[u8], at: usize) -> bool
-    requires { ⌜ Whole States.Four (now value) (length (now bytes)) at × (length (now value) % 8 ≡ 0) ⌝ }
+    requires { ⌜ WholeBytes States.Four (now value) (length (now bytes)) at × (length (now value) % 8 ≡ 0) ⌝ }
     ensures { λ r. ⌜ r ≡ same (part at (lenOf (length (now (value .entry))) States.Four) (now (bytes .entry))) (packedFrom States.Four 0 (now (value .entry))) ⌝ }
 {
     let mut from = 0;

@@ -5,7 +5,7 @@ ghost use lib.ListN.{length};
 ghost use Rattle.value.specs.Digits.{number};
 ghost use Rattle.value.specs.Slice.{part, overlay, same};
 ghost use Rattle.value.specs.Level.{foldAll, codesOf, bitsOf, lenOf};
-ghost use Rattle.wavemem.specs.Packed.{packedFrom, firstCount, OneWord, OneByte, FullByte, ByLowBits, Whole, Packable};
+ghost use Rattle.wavemem.specs.Packed.{packedFrom, firstCount, OneWord, OneByte, FullByte, ByLowBits, WholeBytes, Packable};
 use value::CharCode;
 use value::States;
 use value::wide;
@@ -49,7 +49,7 @@ fn byte_from_ascii(states: States, value: &[u8]) -> u8
     working
 }
 
-// The same of a full byte, by the table, which a loop over whole bytes reads faster.
+// The byte of so few characters, by the table, which a loop over whole bytes reads faster.
 fn byte_by_low_bits(states: States, codes: &[u8; 32], value: &[u8]) -> u8
     requires { ⌜ OneByte states (now value) × ByLowBits (now codes) ⌝ }
     ensures { λ r. ⌜ r ≡ number (2 ^ bitsOf states) (codesOf (foldAll (now (value .entry)))) ⌝ }
@@ -134,7 +134,7 @@ pub fn number_from_ascii(states: States, value: &[u8]) -> u64
 
 // Stores the levels of a string that fills whole bytes. Returns the place behind them.
 fn write_bytes(states: States, codes: &[u8; 32], value: &[u8], out: &mut [u8], at: usize) -> usize
-    requires { ⌜ Whole states (now value) (length (now out)) at × ByLowBits (now codes) ⌝ }
+    requires { ⌜ WholeBytes states (now value) (length (now out)) at × ByLowBits (now codes) ⌝ }
     ensures { λ r. ⌜ r ≡ at + lenOf (length (now (value .entry))) states ⌝ }
     ensures { λ _. ⌜ now (out .exit) ≡ overlay (now (out .entry)) at (packedFrom states 0 (now (value .entry))) ⌝ }
 {
@@ -150,9 +150,9 @@ fn write_bytes(states: States, codes: &[u8; 32], value: &[u8], out: &mut [u8], a
     at + k
 }
 
-// The same of a string of 0 and 1, eight characters to a byte: apart, so that it is compiled for eight.
+// `write_bytes` of a string of 0 and 1: apart, so that it is compiled for eight characters to a byte.
 fn write_bits(value: &[u8], out: &mut [u8], at: usize) -> usize
-    requires { ⌜ Whole States.Two (now value) (length (now out)) at ⌝ }
+    requires { ⌜ WholeBytes States.Two (now value) (length (now out)) at ⌝ }
     ensures { λ r. ⌜ r ≡ at + lenOf (length (now (value .entry))) States.Two ⌝ }
     ensures { λ _. ⌜ now (out .exit) ≡ overlay (now (out .entry)) at (packedFrom States.Two 0 (now (value .entry))) ⌝ }
 {
@@ -169,7 +169,7 @@ fn write_bits(value: &[u8], out: &mut [u8], at: usize) -> usize
 
 // Whether the bytes from a place on are those that `write_bytes` would store there.
 fn equals_bytes(states: States, codes: &[u8; 32], value: &[u8], bytes: &[u8], at: usize) -> bool
-    requires { ⌜ Whole states (now value) (length (now bytes)) at × ByLowBits (now codes) ⌝ }
+    requires { ⌜ WholeBytes states (now value) (length (now bytes)) at × ByLowBits (now codes) ⌝ }
     ensures { λ r. ⌜ r ≡ same (part at (lenOf (length (now (value .entry))) states) (now (bytes .entry))) (packedFrom states 0 (now (value .entry))) ⌝ }
 {
     let per_byte = states.bits_in_a_byte();
@@ -186,9 +186,9 @@ fn equals_bytes(states: States, codes: &[u8; 32], value: &[u8], bytes: &[u8], at
     true
 }
 
-// The same of a string of 0 and 1.
+// `equals_bytes` of a string of 0 and 1.
 fn equals_bits(value: &[u8], bytes: &[u8], at: usize) -> bool
-    requires { ⌜ Whole States.Two (now value) (length (now bytes)) at ⌝ }
+    requires { ⌜ WholeBytes States.Two (now value) (length (now bytes)) at ⌝ }
     ensures { λ r. ⌜ r ≡ same (part at (lenOf (length (now (value .entry))) States.Two) (now (bytes .entry))) (packedFrom States.Two 0 (now (value .entry))) ⌝ }
 {
     let mut from = 0;
@@ -206,7 +206,7 @@ fn equals_bits(value: &[u8], bytes: &[u8], at: usize) -> bool
 
 // `write_bytes` for each set apart, so that each is compiled for its own number of bits.
 fn write_whole(states: States, value: &[u8], out: &mut [u8], at: usize) -> usize
-    requires { ⌜ Whole states (now value) (length (now out)) at ⌝ }
+    requires { ⌜ WholeBytes states (now value) (length (now out)) at ⌝ }
     ensures { λ r. ⌜ r ≡ at + lenOf (length (now (value .entry))) states ⌝ }
     ensures { λ _. ⌜ now (out .exit) ≡ overlay (now (out .entry)) at (packedFrom states 0 (now (value .entry))) ⌝ }
 {
@@ -228,7 +228,7 @@ fn write_whole(states: States, value: &[u8], out: &mut [u8], at: usize) -> usize
 
 // `equals_bytes` for each set apart.
 fn equals_whole(states: States, value: &[u8], bytes: &[u8], at: usize) -> bool
-    requires { ⌜ Whole states (now value) (length (now bytes)) at ⌝ }
+    requires { ⌜ WholeBytes states (now value) (length (now bytes)) at ⌝ }
     ensures { λ r. ⌜ r ≡ same (part at (lenOf (length (now (value .entry))) states) (now (bytes .entry))) (packedFrom states 0 (now (value .entry))) ⌝ }
 {
     let codes = value::LOW_BITS;

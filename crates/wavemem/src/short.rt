@@ -55,7 +55,7 @@ fn squeeze_2(x: u64) -> u64
     (z | (z >> 24)) & 0xffff
 }
 
-// The same of four bits.
+// Levels of four bits.
 fn squeeze_4(x: u64) -> u64
     requires { ⌜ Below 16 (digits 256 8 x) ⌝ }
     ensures { λ r. ⌜ r ≡ number 16 (digits 256 8 x) ⌝ }
@@ -112,7 +112,7 @@ fn beside_two(w: u64) -> u64
     (w ^ 0x3030_3030_3030_3030) & 0xfefe_fefe_fefe_fefe
 }
 
-// The same for 0 1 x z, by top bits.
+// The top bit of each byte that is no character 0 1 x z.
 fn beside_four(w: u64) -> u64
     ensures { λ r. ⌜ r ≡ marks (map (holdsOne 4) (digits 256 8 w)) ⌝ }
 {
@@ -120,7 +120,7 @@ fn beside_four(w: u64) -> u64
     set_bytes(beside_two(w)) & set_bytes(xz)
 }
 
-// The same for 0 1 x z h u w l -. The compiler shares what it has of `beside_four` already.
+// The top bit of each foreign byte. The compiler shares what it has of `beside_four` already.
 fn beside_nine(w: u64) -> u64
     ensures { λ r. ⌜ r ≡ marks (map (holdsOne 9) (digits 256 8 w)) ⌝ }
 {
@@ -159,7 +159,7 @@ fn scan_word(w: u64) -> Scanned
     }
 }
 
-// The same of a string: characters 0 in front change neither.
+// The least set of a string, and the number of its levels: characters 0 in front change neither.
 pub fn scan_short(value: &[u8]) -> Scanned
     requires { ⌜ length (now value) ≤ 8 ⌝ }
     ensures { λ r. ⌜ Scan (now (value .entry)) r ⌝ }

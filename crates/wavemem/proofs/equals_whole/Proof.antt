@@ -9,7 +9,7 @@ use denote.Ref.{now}
 use lib.ListN.{length, drop}
 use Rattle.value.specs.declared.States.{States}
 use Rattle.value.specs.declared.States.the-variants.{Four}
-use Rattle.wavemem.specs.Packed.{Whole}
+use Rattle.wavemem.specs.Packed.{WholeBytes}
 use Rattle.wavemem.proofs.Packing.{by-low-bits}
 use Rattle.wavemem.proofs.Parts.{Passed, agree, lead-four, front-length, front-whole, back-is, back-lent, both-compared}
 use Rattle.wavemem.proofs.equals_whole.Statement.{statement}
@@ -19,19 +19,16 @@ use Rattle.wavemem.proofs.equals_whole.Tie as tie
 abbrev start : tie.After-enum-told2 → tie.Start
 start c = c .before .before .before .before
 
-four : (c : tie.After-enum-told2) → let x = start c .args in Whole Four (now (x .value)) (length (now (x .bytes))) (x .at)
+four : (c : tie.After-enum-told2) → let x = start c .args in WholeBytes Four (now (x .value)) (length (now (x .bytes))) (x .at)
 four c =
     let x = start c .args in
-    subst (λ (t : States). Whole t (now (x .value)) (length (now (x .bytes))) (x .at)) (c .enum-told2 .given .1) (start c .pre)
+    subst (λ (t : States). WholeBytes t (now (x .value)) (length (now (x .bytes))) (x .at)) (c .enum-told2 .given .1) (start c .pre)
 
 lead : (c : tie.After-enum-told2)
     → let x = start c .args in
     let n = length (now (x .value)) % 8 in
     Passed Four (length (now (x .value))) (x .at) 8 n (x .at + n / 4)
 lead c = let f = four c .full in lead-four (four c) (omega arith)
-
-equals-bits-requires : tie.Need-equals-bits-requires
-equals-bits-requires c κs = rw (c .enum-told .given .1) at (c .before .before .before .before .pre)
 
 slice-aggregate-equals-bytes : tie.Need-slice-aggregate-equals-bytes
 slice-aggregate-equals-bytes c = let e = c .before .before in sym (front-length (four e) (lead e))
@@ -56,9 +53,6 @@ equals-words-requires c κs = let e = c .before .before .before .before .before 
 equals-bytes-requires-2 : tie.Need-equals-bytes-requires-2
 equals-bytes-requires-2 c κs = (rw (c .before .enum-told3 .given .1) at (c .before .before .before .before .before .pre), by-low-bits)
 
-returns : tie.Need-returns
-returns c = rw (c .before .enum-told .given .1) (c .equals-bits .ensures)
-
 -- the comparison of the whole, by that of the characters in front
 compared : (w : tie.After-equals-bytes)
     → let e = w .before .before .before in
@@ -81,15 +75,12 @@ returns-3 c =
     let w = c .before in
     rw (w .before .before .before .enum-told2 .given .1) (sym (compared w ∙ rw (c .if1 .left)))
 
-returns-4 : tie.Need-returns-4
-returns-4 c = rw (c .before .before .enum-told3 .given .1) (c .equals-bytes2 .ensures)
-
 pub equals-whole-spec : {M : Type 1} → statement M
 equals-whole-spec =
     tie.close
     (tie.spec
     (λ c. search needs)
-    equals-bits-requires
+    (λ c κs. rw (c .enum-told .given .1) at (c .before .before .before .before .pre))
     (λ c. search needs)
     slice-aggregate-equals-bytes
     equals-bytes-requires
@@ -100,7 +91,7 @@ equals-whole-spec =
     equals-words-requires
     (λ c. search needs)
     equals-bytes-requires-2
-    returns
+    (λ c. rw (c .before .enum-told .given .1) (c .equals-bits .ensures))
     returns-2
     returns-3
-    returns-4)
+    (λ c. rw (c .before .before .enum-told3 .given .1) (c .equals-bytes2 .ensures)))

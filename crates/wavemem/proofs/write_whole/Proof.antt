@@ -6,15 +6,15 @@ use denote.Ref.{now}
 use lib.ListN.{length}
 use Rattle.value.specs.declared.States.{States}
 use Rattle.value.specs.declared.States.the-variants.{Four, Nine}
-use Rattle.wavemem.specs.Packed.{Whole}
+use Rattle.wavemem.specs.Packed.{WholeBytes}
 use Rattle.wavemem.proofs.Packing.{by-low-bits}
 use Rattle.wavemem.proofs.Parts.{lead-four, lead-nine, front-length, front-whole, second-lent, both-stored}
 use Rattle.wavemem.proofs.write_whole.Statement.{statement}
 use Rattle.wavemem.proofs.write_whole.Tie as tie
 
 -- the string under a set that is told
-whole : (c : tie.Start) (s : States) → c .args .states ≡ s → Whole s (now (c .args .value)) (length (now (c .args .out))) (c .args .at)
-whole c s e = subst (λ (t : States). Whole t (now (c .args .value)) (length (now (c .args .out))) (c .args .at)) e (c .pre)
+whole : (c : tie.Start) (s : States) → c .args .states ≡ s → WholeBytes s (now (c .args .value)) (length (now (c .args .out))) (c .args .at)
+whole c s e = subst (λ (t : States). WholeBytes t (now (c .args .value)) (length (now (c .args .out))) (c .args .at)) e (c .pre)
 
 abbrev start2 : tie.After-enum-told2 → tie.Start
 start2 c = c .before .before .before .before
@@ -22,10 +22,10 @@ start2 c = c .before .before .before .before
 abbrev start3 : tie.After-enum-told3 → tie.Start
 start3 c = c .before .before .before .before
 
-four : (c : tie.After-enum-told2) → let x = start2 c .args in Whole Four (now (x .value)) (length (now (x .out))) (x .at)
+four : (c : tie.After-enum-told2) → let x = start2 c .args in WholeBytes Four (now (x .value)) (length (now (x .out))) (x .at)
 four c = whole (start2 c) Four (c .enum-told2 .given .1)
 
-nine : (c : tie.After-enum-told3) → let x = start3 c .args in Whole Nine (now (x .value)) (length (now (x .out))) (x .at)
+nine : (c : tie.After-enum-told3) → let x = start3 c .args in WholeBytes Nine (now (x .value)) (length (now (x .out))) (x .at)
 nine c = whole (start3 c) Nine (c .enum-told3 .given .1)
 
 write-bits-requires : tie.Need-write-bits-requires

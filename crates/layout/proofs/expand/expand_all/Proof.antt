@@ -13,7 +13,7 @@ use Rattle.value.proofs.Slices.{part-length}
 use Rattle.value.proofs.Backward.{below-part}
 use Rattle.layout.specs.declared.expand.Widening.{Widening}
 use Rattle.layout.specs.Entry.{entrySize}
-use Rattle.layout.specs.Expand.{wideningOf, movedAll, AllMovable}
+use Rattle.layout.specs.Expand.{wideningOf, movedEntries, AllMovable}
 use Rattle.layout.proofs.Sizes.{size-up}
 use Rattle.layout.proofs.Expanding.{widening-grows, all-widen}
 use Rattle.layout.proofs.expand.expand_all.Statement.{statement}
@@ -40,7 +40,7 @@ returns c =
     let b : Below 256 d = below-all 256 d (λ i. e .before .slice-known .given i .fits) in
     let t = part-length d (x .start) (x .entries * F) r in
     c .before .before .expand-by-sizes .ensures
-    ∙ ap (λ (k : Widening). overlay d (x .start) (movedAll k (x .entries) (part (x .start) (x .entries * k .«from_size») d))) (e .get-widening .ensures)
+    ∙ ap (λ (k : Widening). overlay d (x .start) (movedEntries k (x .entries) (part (x .start) (x .entries * k .«from_size») d))) (e .get-widening .ensures)
     ∙ ap (overlay d (x .start))
     (all-widen (x .bits) (s .pre .0 .wide) (x .from) (x .to) (s .pre .0 .up) (s .pre .1) (x .entries) (part (x .start) (x .entries * F) d) (omega arith)
     (below-part 256 d b (x .start) (x .entries * F)))

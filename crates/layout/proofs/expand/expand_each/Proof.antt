@@ -9,7 +9,7 @@ use lib.ListN.{length}
 use Rattle.value.specs.Slice.{part, overlay}
 use mir.Syntax.{w64}
 use mir.Val.{Fits}
-use Rattle.layout.specs.Expand.{moved, Movable}
+use Rattle.layout.specs.Expand.{movedEntry, Movable}
 use Rattle.layout.proofs.Expanding.{expanded, none-expanded, old-place, new-place, more-expanded, all-expanded}
 use Rattle.layout.proofs.expand.expand_each.Statement.{statement}
 use Rattle.layout.proofs.expand.expand_each.Tie as tie
@@ -94,8 +94,8 @@ loop-again c =
     let w = c .before .before .expand-entry in (
       omega arith,
       w .ensures
-          ∙ ap (λ (t : ℕ). overlay (a .loop .«data») (x .start + k * t) (moved m (part (x .start + k * m .«from_size») (m .«from_size») (a .loop .«data»)))) (s .pre .1 .between)
-          ∙ ap (λ (l : List ℕ). overlay l (x .start + k * m .«to_size») (moved m (part (x .start + k * m .«from_size») (m .«from_size») l)))
+          ∙ ap (λ (t : ℕ). overlay (a .loop .«data») (x .start + k * t) (movedEntry m (part (x .start + k * m .«from_size») (m .«from_size») (a .loop .«data»)))) (s .pre .1 .between)
+          ∙ ap (λ (l : List ℕ). overlay l (x .start + k * m .«to_size») (movedEntry m (part (x .start + k * m .«from_size») (m .«from_size») l)))
           (a .loop .inv .1 ∙ ap (expanded m (old a) (x .start) (x .entries)) f)
           ∙ more-expanded m (s .pre .0 .grows) (old a) (x .start) (x .entries) (s .pre .0 .room) k (omega arith),
       w .kept .1 .0 ∙ a .loop .inv .2,

@@ -3,15 +3,6 @@ use borrow.Author.Needs.{needs}
 use Rattle.layout.proofs.expand.level_bits.Statement.{statement}
 use Rattle.layout.proofs.expand.level_bits.Tie as tie
 
-returns-2 : tie.Need-returns-2
-returns-2 c = rw (c .before .before .if1 .left, c .enum-told .given .1)
-
-returns-3 : tie.Need-returns-3
-returns-3 c = rw (c .before .before .if1 .left, c .enum-told2 .given .1)
-
-returns-4 : tie.Need-returns-4
-returns-4 c = rw (c .before .before .if1 .left, c .enum-told3 .given .1)
-
 pub level-bits-spec : {M : Type 1} → statement M
 level-bits-spec =
-    tie.close (tie.spec (λ c. search needs) (λ c. search needs) (λ c. search needs) (λ c. search needs) returns-2 returns-3 returns-4)
+    tie.close (tie.spec (λ c. search needs) (λ c. search needs) (λ c. search needs) (λ c. search needs) (λ c. rw (c .before .before .if1 .left, c .enum-told .given .1)) (λ c. rw (c .before .before .if1 .left, c .enum-told2 .given .1)) (λ c. rw (c .before .before .if1 .left, c .enum-told3 .given .1)))

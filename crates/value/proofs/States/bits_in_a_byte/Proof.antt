@@ -4,15 +4,6 @@ use borrow.Author.Needs.{needs}
 use Rattle.value.proofs.States.bits_in_a_byte.Statement.{statement}
 use Rattle.value.proofs.States.bits_in_a_byte.Tie as tie
 
-returns : tie.Need-returns
-returns c = rw (c .enum-told .given .1)
-
-returns-2 : tie.Need-returns-2
-returns-2 c = rw (c .enum-told2 .given .1)
-
-returns-3 : tie.Need-returns-3
-returns-3 c = rw (c .enum-told3 .given .1)
-
 pub bits-in-a-byte-spec : {M : Type 1} → statement M
 bits-in-a-byte-spec =
-    tie.close (tie.spec (λ c. search needs) (λ c. search needs) (λ c. search needs) returns returns-2 returns-3)
+    tie.close (tie.spec (λ c. search needs) (λ c. search needs) (λ c. search needs) (λ c. rw (c .enum-told .given .1)) (λ c. rw (c .enum-told2 .given .1)) (λ c. rw (c .enum-told3 .given .1)))

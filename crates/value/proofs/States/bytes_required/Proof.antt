@@ -4,15 +4,6 @@ use borrow.Author.Needs.{needs}
 use Rattle.value.proofs.States.bytes_required.Statement.{statement}
 use Rattle.value.proofs.States.bytes_required.Tie as tie
 
-returns : tie.Need-returns
-returns c = rw (c .enum-told .given .1)
-
-returns-2 : tie.Need-returns-2
-returns-2 c = rw (c .enum-told2 .given .1)
-
-returns-3 : tie.Need-returns-3
-returns-3 c = rw (c .enum-told3 .given .1)
-
 pub bytes-required-spec : {M : Type 1} → statement M
 bytes-required-spec =
     tie.close
@@ -23,6 +14,6 @@ bytes-required-spec =
     (λ c. search needs)
     (λ c. search needs)
     (λ c. search needs)
-    returns
-    returns-2
-    returns-3)
+    (λ c. rw (c .enum-told .given .1))
+    (λ c. rw (c .enum-told2 .given .1))
+    (λ c. rw (c .enum-told3 .given .1)))
