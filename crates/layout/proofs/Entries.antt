@@ -18,7 +18,7 @@ use Rattle.value.proofs.Levels.{mark-inj, mark-small, bits-up, len-room}
 use Rattle.value.proofs.Digits.{pow-pow, number-lt, number-inj, digits-length, base-pos, digits-below, number-digits, digits-inj, digits-high, digits-zeros}
 use Rattle.layout.specs.Entry.{hasMeta, entrySize, entryOf, markByte, unmarked, levelBytes, widenEntry}
 use Rattle.layout.proofs.Sizes.{Marked, size-by, size-pos, len-pos, len-le, mark-bits, mark-room, widen-same, widen-moved}
-use Rattle.layout.proofs.EntryLaws.{Codes, EntryLaws}
+use Rattle.layout.proofs.EntryLaws.{Coded, EntryLaws}
 
 pos256 : (n : ℕ) → 0 < 256 ^ n
 pos256 n = base-pos 256 (omega arith) n
@@ -62,16 +62,16 @@ marked-inj n m k u v hm hk hu hv e =
 -- ---- the levels of an entry as a number
 
 -- of any number of bits
-pub value-lt : (w : ℕ) (M own : States) (cs : List ℕ) → Codes w own cs → markOf own ≤ markOf M
+pub value-lt : {w : ℕ} {own : States} {cs : List ℕ} (M : States) → Coded w own cs → markOf own ≤ markOf M
     → (k : ℕ) → w * bitsOf M ≤ k → number (2 ^ bitsOf own) cs < 2 ^ k
-value-lt w M own cs c h k r =
+value-lt {w} {own} {cs} M c h k r =
     let b : ℕ = bitsOf own in
     let f : length cs * b ≤ k = rw (c .long) (omega (arith, mul-le-mul-left w (bits-up own M h))) in
     lt-of-lt-of-le (rw (pow-pow 2 b (length cs)) at (number-lt (2 ^ b) cs (c .below))) (pow-mono f)
 
-value-inj : (w : ℕ) (m k : States) (cs ds : List ℕ) → Codes w m cs → Codes w k ds → m ≡ k
+value-inj : {w : ℕ} {m k : States} {cs ds : List ℕ} → Coded w m cs → Coded w k ds → m ≡ k
     → number (2 ^ bitsOf m) cs ≡ number (2 ^ bitsOf k) ds → cs ≡ ds
-value-inj w m k cs ds c d e q =
+value-inj {m = m} {k} {cs} {ds} c d e q =
     number-inj (2 ^ bitsOf k) cs ds (c .long ∙ sym (d .long)) (rw e at (c .below)) (d .below)
     (ap (λ (s : States). number (2 ^ bitsOf s) cs) (sym e) ∙ q)
 
@@ -94,56 +94,56 @@ module _ (w : ℕ) (pos : 0 < w) where
   unfolding entryOf
   entry-plain M own cs e = rw (e, zero-mul, zero-add)
 
-  value-bytes : (M own : States) (cs : List ℕ) → Codes w own cs → markOf own ≤ markOf M → number (2 ^ bitsOf own) cs < 256 ^ lenOf w M
-  value-bytes M own cs c h = rw (bytes-pow (lenOf w M)) (value-lt w M own cs c h (8 * lenOf w M) (len-room w M))
+  value-bytes : {own : States} {cs : List ℕ} (M : States) → Coded w own cs → markOf own ≤ markOf M → number (2 ^ bitsOf own) cs < 256 ^ lenOf w M
+  value-bytes M c h = rw (bytes-pow (lenOf w M)) (value-lt M c h (8 * lenOf w M) (len-room w M))
 
-  value-free : (M : States) → Marked M → (n : ℕ) → entrySize w M ≡ suc n → (own : States) (cs : List ℕ) → Codes w own cs → markOf own ≤ markOf M
+  value-free : {own : States} {cs : List ℕ} (M : States) → Marked M → (n : ℕ) → entrySize w M ≡ suc n → Coded w own cs → markOf own ≤ markOf M
       → number (2 ^ bitsOf own) cs < 64 * 256 ^ n
-  value-free M m n e own cs c h = rw (← mark-weight n) (value-lt w M own cs c h (8 * suc n - 2) (omega (arith, mark-bits w pos M m)))
+  value-free M m n e c h = rw (← mark-weight n) (value-lt M c h (8 * suc n - 2) (omega (arith, mark-bits w pos M m)))
 
   -- the number of an entry
-  pub entry-lt : (M own : States) (cs : List ℕ) → Codes w own cs → markOf own ≤ markOf M
+  entry-lt : {own : States} {cs : List ℕ} (M : States) → Coded w own cs → markOf own ≤ markOf M
       → markOf own * 2 ^ (8 * entrySize w M - 2) + number (2 ^ bitsOf own) cs < 256 ^ entrySize w M
-  entry-lt M own cs c h =
+  entry-lt {own} {cs} M c h =
       let N = number (2 ^ bitsOf own) cs in
       let n = entrySize w M - 1 in
       let s : entrySize w M ≡ suc n = omega (arith, size-pos w pos M) in
       by-le 1 (markOf own)
-      (λ m. rw (s, mark-weight n) (marked-lt n (markOf own) N (mark-small own) (value-free M (omega arith) n s own cs c h)))
+      (λ m. rw (s, mark-weight n) (marked-lt n (markOf own) N (mark-small own) (value-free M (omega arith) n s c h)))
       (λ m.
       let z : markOf own ≡ 0 = omega arith in
-      rw (z, zero-mul, zero-add) (lt-of-lt-of-le (value-bytes M own cs c h) (pow-le-pow-right (omega arith) (len-le w M))))
+      rw (z, zero-mul, zero-add) (lt-of-lt-of-le (value-bytes M c h) (pow-le-pow-right (omega arith) (len-le w M))))
 
-  pub entry-number : (M own : States) (cs : List ℕ) → Codes w own cs → markOf own ≤ markOf M
+  pub entry-number : {own : States} {cs : List ℕ} (M : States) → Coded w own cs → markOf own ≤ markOf M
       → number 256 (entryOf w M own cs) ≡ markOf own * 2 ^ (8 * entrySize w M - 2) + number (2 ^ bitsOf own) cs
   unfolding entryOf
-  entry-number M own cs c h = number-digits 256 (omega arith) (entrySize w M) _ ∙ mod-eq-of-lt (entry-lt M own cs c h)
+  entry-number M c h = number-digits 256 (omega arith) (entrySize w M) _ ∙ mod-eq-of-lt (entry-lt M c h)
 
   -- ---- an entry says its own set and its levels
 
-  distinct-marked : (M : States) → Marked M → (m k : States) (cs ds : List ℕ) → Codes w m cs → Codes w k ds → markOf m ≤ markOf M → markOf k ≤ markOf M
+  distinct-marked : {m k : States} {cs ds : List ℕ} (M : States) → Marked M → Coded w m cs → Coded w k ds → markOf m ≤ markOf M → markOf k ≤ markOf M
       → entryOf w M m cs ≡ entryOf w M k ds → (m ≡ k) × (cs ≡ ds)
-  distinct-marked M o m k cs ds c d hm hk e =
+  distinct-marked {m} {k} {cs} {ds} M o c d hm hk e =
       let n : ℕ = entrySize w M - 1 in
       let s : entrySize w M ≡ suc n = omega (arith, size-pos w pos M) in
       let p = marked-inj n (markOf m) (markOf k) (number (2 ^ bitsOf m) cs) (number (2 ^ bitsOf k) ds) (mark-small m) (mark-small k)
-      (value-free M o n s m cs c hm) (value-free M o n s k ds d hk)
+      (value-free M o n s c hm) (value-free M o n s d hk)
       (sym (entry-at M m cs n s) ∙ e ∙ entry-at M k ds n s) in
       let q = mark-inj m k (p .0) in
-      (q, value-inj w m k cs ds c d q (p .1))
+      (q, value-inj c d q (p .1))
 
-  pub distinct : (M m k : States) (cs ds : List ℕ) → Codes w m cs → Codes w k ds → markOf m ≤ markOf M → markOf k ≤ markOf M
+  pub distinct : (M m k : States) (cs ds : List ℕ) → Coded w m cs → Coded w k ds → markOf m ≤ markOf M → markOf k ≤ markOf M
       → entryOf w M m cs ≡ entryOf w M k ds → (m ≡ k) × (cs ≡ ds)
   distinct Two m k cs ds c d hm hk e =
       let q = mark-inj m k (omega arith) in
       let s : entrySize w Two ≡ lenOf w Two = size-by w Two false refl in (
         q,
-        value-inj w m k cs ds c d q
-            (digits-inj 256 (omega arith) (entrySize w Two) (rw s (value-bytes Two m cs c hm)) (rw s (value-bytes Two k ds d hk))
+        value-inj c d q
+            (digits-inj 256 (omega arith) (entrySize w Two) (rw s (value-bytes Two c hm)) (rw s (value-bytes Two d hk))
             (sym (entry-plain Two m cs (omega arith)) ∙ e ∙ entry-plain Two k ds (omega arith))),
       )
-  distinct Four m k cs ds c d hm hk e = distinct-marked Four (omega arith) m k cs ds c d hm hk e
-  distinct Nine m k cs ds c d hm hk e = distinct-marked Nine (omega arith) m k cs ds c d hm hk e
+  distinct Four m k cs ds c d hm hk e = distinct-marked Four (omega arith) c d hm hk e
+  distinct Nine m k cs ds c d hm hk e = distinct-marked Nine (omega arith) c d hm hk e
 
   -- ---- widening
 
@@ -174,16 +174,16 @@ module _ (w : ℕ) (pos : 0 < w) where
   marked-rest Four m v = refl
   marked-rest Nine m v = refl
 
-  parts-marked : (from own : States) (cs : List ℕ) → Marked from → Codes w own cs → markOf own ≤ markOf from → Parts from own cs
+  parts-marked : {own : States} {cs : List ℕ} (from : States) → Marked from → Coded w own cs → markOf own ≤ markOf from → Parts from own cs
   unfolding levelBytes digits
-  parts-marked from own cs o c h = go (hasMeta w from) refl
+  parts-marked {own} {cs} from o c h = go (hasMeta w from) refl
     where
       go : (x : Bool) → hasMeta w from ≡ x → Parts from own cs
       go true e =
           let v : ℕ = number (2 ^ bitsOf own) cs in
           let l : ℕ = lenOf w from in
           let q : entryOf w from own cs ≡ markOf own * 64 ∷ digits 256 l v
-          = wide from own cs 0 l (size-by w from true e ∙ omega arith) (value-bytes from own cs c h) in
+          = wide from own cs 0 l (size-by w from true e ∙ omega arith) (value-bytes from c h) in
           record {
             mark = marked-byte from o (entryOf w from own cs) ∙ rw q (omega arith);
             levels = rw (e, q);
@@ -193,7 +193,7 @@ module _ (w : ℕ) (pos : 0 < w) where
           let n : ℕ = lenOf w from - 1 in
           let l : lenOf w from ≡ suc n = omega (arith, len-pos w pos from) in
           let s : entrySize w from ≡ suc n = size-by w from false e ∙ l in
-          let f : v < 64 * 256 ^ n = value-free from o n s own cs c h in
+          let f : v < 64 * 256 ^ n = value-free from o n s c h in
           let g : v / 256 ^ n < 64 = head-free n (markOf own) v (mark-small own) f in
           let q : entryOf w from own cs ≡ (markOf own * 64 + v / 256 ^ n) ∷ digits 256 n v
           = entry-at from own cs n s ∙ marked-digits n (markOf own) v (mark-small own) f in
@@ -203,28 +203,28 @@ module _ (w : ℕ) (pos : 0 < w) where
             levels = rw (e, marked-rest from o (entryOf w from own cs), q, z) (ap (λ (k : ℕ). digits 256 k v) (sym l));
           }
 
-  parts : (from own : States) (cs : List ℕ) → Codes w own cs → markOf own ≤ markOf from → Parts from own cs
+  parts : {own : States} {cs : List ℕ} (from : States) → Coded w own cs → markOf own ≤ markOf from → Parts from own cs
   unfolding markByte levelBytes unmarked
-  parts Two own cs c h =
+  parts {own} {cs} Two c h =
       let z : markOf own ≡ 0 = omega arith in
       record { mark = rw z; levels = entry-plain Two own cs z ∙ rw (size-by w Two false refl) }
-  parts Four own cs c h = parts-marked Four own cs (omega arith) c h
-  parts Nine own cs c h = parts-marked Nine own cs (omega arith) c h
+  parts Four c h = parts-marked Four (omega arith) c h
+  parts Nine c h = parts-marked Nine (omega arith) c h
 
-  pub widened : (from to own : States) (cs : List ℕ) → Codes w own cs → markOf own ≤ markOf from → markOf from ≤ markOf to
+  pub widened : (from to own : States) (cs : List ℕ) → Coded w own cs → markOf own ≤ markOf from → markOf from ≤ markOf to
       → widenEntry w from to (entryOf w from own cs) ≡ entryOf w to own cs
   unfolding entryOf
   widened from to own cs c h k =
       by-eq (entrySize w from) (entrySize w to) (λ e. widen-same w from to (entryOf w from own cs) e ∙ rw e)
       (λ n.
-      let p = parts from own cs c h in
+      let p = parts from c h in
       let z : ℕ = entrySize w to - 1 - lenOf w from in
       widen-moved w from to (entryOf w from own cs) n
       ∙ ap₂ (λ (b : ℕ) (l : List ℕ). b ∷ (replicate z 0 ++ l)) (p .mark) (p .levels)
-      ∙ sym (wide to own cs z (lenOf w from) (omega (arith, mark-room w from to k n)) (value-bytes from own cs c h)))
+      ∙ sym (wide to own cs z (lenOf w from) (omega (arith, mark-room w from to k n)) (value-bytes from c h)))
 
   -- so widening twice is widening once
-  pub widened-twice : (from mid to own : States) (cs : List ℕ) → Codes w own cs
+  pub widened-twice : (from mid to own : States) (cs : List ℕ) → Coded w own cs
       → markOf own ≤ markOf from → markOf from ≤ markOf mid → markOf mid ≤ markOf to
       → widenEntry w mid to (widenEntry w from mid (entryOf w from own cs)) ≡ widenEntry w from to (entryOf w from own cs)
   widened-twice from mid to own cs c h j k =

@@ -40,7 +40,7 @@ module _ {M own : States} {v : List ℕ} {room at : ℕ} (ok : Writable M own v 
   abbrev levels : ℕ
   levels = number (2 ^ bitsOf own) (codesOf (foldAll v))
 
-  coded : laws.Codes (length v) own (codesOf (foldAll v))
+  coded : laws.Coded (length v) own (codesOf (foldAll v))
   coded = record { long = length-codes v; below = ok .codes .below }
 
   pub one-word : OneWord own v
@@ -59,11 +59,11 @@ module _ {M own : States} {v : List ℕ} {room at : ℕ} (ok : Writable M own v 
       by-le 1 (markOf own)
       (λ h.
       or-shifted-r (markOf own) (8 * size - 2) levels
-      (value-lt (length v) M own (codesOf (foldAll v)) coded (ok .under) (8 * size - 2) (omega (arith, mark-bits (length v) (ok .wide) M (omega (arith, ok .under))))))
+      (value-lt M coded (ok .under) (8 * size - 2) (omega (arith, mark-bits (length v) (ok .wide) M (omega (arith, ok .under))))))
       (λ h.
       let z : markOf own ≡ 0 = omega arith in
       rw (z, zero-mul) (or-zero-r levels ∙ sym (zero-add levels)))
-      ∙ sym (entry-number (length v) (ok .wide) M own (codesOf (foldAll v)) coded (ok .under))
+      ∙ sym (entry-number (length v) (ok .wide) M coded (ok .under))
 
 -- `(number << 8) | byte`
 pub number-next : (b : List ℕ) → Below 256 b → (at j n : ℕ) → j < 8 → at + j < length b → n ≡ number 256 (part at j b)

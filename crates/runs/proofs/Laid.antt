@@ -20,7 +20,7 @@ use Rattle.fst.specs.Record.{Lent, Kept, keptIn, keptOf}
 use Rattle.fst.specs.Change.{repeats, appended, stored}
 use Rattle.runs.specs.All.{All}
 use Rattle.runs.specs.Runs.{byValue, leftIn, Step, indexOf, entriesOf, laidOut, endsLike, joined, Seen, seen}
-use Rattle.layout.proofs.EntryLaws.{Codes, EntryLaws}
+use Rattle.layout.proofs.EntryLaws.{Coded, EntryLaws}
 
 -- ---- entries in order
 
@@ -33,7 +33,7 @@ sameEntry w M s t = same (entryFor w M s) (entryFor w M t)
 
 -- a step of w levels under its set, in small letters, that a record with the largest set M can hold
 pub record Sound (w : ℕ) (M : States) (s : Step) : Type 0 where
-  pub codes : Codes w (s .set) (codesOf (s .string))
+  pub codes : Coded w (s .set) (codesOf (s .string))
   pub letters : Below 9 (codesOf (s .string))
   pub within : markOf (s .set) ≤ markOf M
 

@@ -18,7 +18,7 @@ use Rattle.value.proofs.Tests.{by-le}
 use Rattle.value.proofs.Levels.{bits-up, mark-small, set-mark, len-room, none-foreign, text-codes}
 use Rattle.fst.specs.declared.Encoding.the-variants.{BitVector}
 use Rattle.layout.specs.Entry.{entrySize, entryOf}
-use Rattle.layout.proofs.EntryLaws.{Codes}
+use Rattle.layout.proofs.EntryLaws.{Coded}
 use Rattle.layout.proofs.Sizes.{Marked, size-pos, mark-bits}
 use Rattle.layout.proofs.Entries.{marked-digits, sized}
 use Rattle.layout.proofs.EntryParts.{len-fits}
@@ -33,7 +33,7 @@ over b w k h =
 bytes-over : (b w n : ℕ) → w * b ≤ 8 * n → 256 ^ n ≡ 2 ^ (8 * n - w * b) * (2 ^ b) ^ w
 bytes-over b w n h = pow-pow 2 8 n ∙ ap (λ (k : ℕ). 2 ^ k) (mul-comm n 8) ∙ over b w (8 * n) h
 
-module _ {w : ℕ} {own : States} {cs : List ℕ} (pos : 1 ≤ w) (M : States) (c : Codes w own cs) (h : markOf own ≤ markOf M) where
+module _ {w : ℕ} {own : States} {cs : List ℕ} (pos : 1 ≤ w) (M : States) (c : Coded w own cs) (h : markOf own ≤ markOf M) where
   abbrev B : ℕ
   B = 2 ^ bitsOf own
 
@@ -150,6 +150,6 @@ module _ {w : ℕ} {own : States} {cs : List ℕ} (pos : 1 ≤ w) (M : States) (
   code-sound b = rw codes-back (none-foreign cs b)
 
 -- the text of a string's entry is the string
-pub text-back : {w : ℕ} {own : States} → 1 ≤ w → (M : States) (s : List ℕ) → Codes w own (codesOf s) → markOf own ≤ markOf M → Below 9 (codesOf s)
+pub text-back : {w : ℕ} {own : States} → 1 ≤ w → (M : States) (s : List ℕ) → Coded w own (codesOf s) → markOf own ≤ markOf M → Below 9 (codesOf s)
     → textIn (BitVector w M) (entryOf w M own (codesOf s)) ≡ s
 text-back pos M s c h b = rw (codes-back pos M c h) (text-codes s b)

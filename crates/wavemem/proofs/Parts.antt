@@ -141,8 +141,8 @@ len-add Two a n f g = omega arith
 len-add Four a n f g = omega arith
 len-add Nine a n f g = omega arith
 
-module _ {s : States} {v : List ℕ} {room at : ℕ} (ok : WholeBytes s v room at) (n : ℕ) (full : lenOf n s * perByte s ≡ n) {from to : ℕ} (p : Passed s (length v) at n from to)
-    (more : from < length v) where
+module _ {s : States} {v : List ℕ} {room at : ℕ} (ok : WholeBytes s v room at) {n from to : ℕ} (p : Passed s (length v) at n from to)
+    (full : lenOf n s * perByte s ≡ n) (more : from < length v) where
   pub turn-within : from + n ≤ length v
   turn-within =
       by-le n (length v - from) (λ h. omega arith)
@@ -211,7 +211,7 @@ module _ {s : States} {v d : List ℕ} {at n : ℕ} (ok : WholeBytes s v (length
   pub stored-on : lenOf n s * perByte s ≡ n → from < length v → {next : ℕ} {new : List ℕ} → next ≡ to + lenOf n s
       → new ≡ overlay out to (packedFrom s 0 (part from n v)) → Stored s v d at n new (from + n) next
   stored-on full more q e =
-      record { passed = turn-passed ok n full (h .passed) more q; bytes = e ∙ turn-stored ok n full (h .passed) more d refl (h .bytes) }
+      record { passed = turn-passed ok (h .passed) full more q; bytes = e ∙ turn-stored ok (h .passed) full more d refl (h .bytes) }
 
   pub stored-end : length v ≤ from → (to ≡ at + lenOf (length v) s) × (out ≡ overlay d at (packedFrom s 0 v))
   stored-end left =
@@ -242,10 +242,10 @@ module _ {s : States} {v bytes : List ℕ} {at n : ℕ} (ok : WholeBytes s v (le
 
   pub agrees-on : {next : ℕ} → next ≡ to + lenOf n s → next-same ≡ true → Agrees s v bytes at n (from + n) next
   agrees-on q t =
-      record { passed = turn-passed ok n full (h .passed) more q; left = rw q (sym (sym (h .left) ∙ turn-compared ok n full (h .passed) more bytes refl ∙ rw t)) }
+      record { passed = turn-passed ok (h .passed) full more q; left = rw q (sym (sym (h .left) ∙ turn-compared ok (h .passed) full more bytes refl ∙ rw t)) }
 
   pub agrees-not : next-same ≡ false → false ≡ agree s bytes at v
-  agrees-not t = sym (sym (h .left) ∙ turn-compared ok n full (h .passed) more bytes refl ∙ rw t)
+  agrees-not t = sym (sym (h .left) ∙ turn-compared ok (h .passed) full more bytes refl ∙ rw t)
 
 -- ---- turns of one byte
 
@@ -264,10 +264,10 @@ byte-turns {s} {v} ok = rw (← ok .full) (mul-mod-left (lenOf (length v) s) (pe
 
 module _ {s : States} {v : List ℕ} {room at : ℕ} (ok : WholeBytes s v room at) {from to : ℕ} (p : Passed s (length v) at (perByte s) from to) (more : from < length v) where
   pub byte-within : from + perByte s ≤ length v
-  byte-within = turn-within ok (perByte s) (byte-full s) p more
+  byte-within = turn-within ok p (byte-full s) more
 
   pub byte-fits : to < room
-  byte-fits = omega (arith, turn-fits ok (perByte s) (byte-full s) p more, byte-len s)
+  byte-fits = omega (arith, turn-fits ok p (byte-full s) more, byte-len s)
 
   -- the characters that are lent, and x their number
   pub byte-lent : FullByte s (take (from + perByte s - from) (drop from v))
@@ -275,7 +275,7 @@ module _ {s : States} {v : List ℕ} {room at : ℕ} (ok : WholeBytes s v room a
   byte-lent =
       let z : from + perByte s - from ≡ perByte s = omega arith in
       let l : length (part from (perByte s) v) ≡ perByte s = part-length v from (perByte s) byte-within in
-      rw z (record { one = record { codes = turn-codes ok (perByte s) (byte-full s) p more; short = rw l (omega (arith, per-bits s)) }; full = l })
+      rw z (record { one = record { codes = turn-codes ok p (byte-full s) more; short = rw l (omega (arith, per-bits s)) }; full = l })
 
   module _ {x : ℕ} (is : x ≡ number (2 ^ bitsOf s) (codesOf (foldAll (take (from + perByte s - from) (drop from v))))) where
     pub byte-is : packedFrom s 0 (part from (perByte s) v) ≡ x ∷ []
@@ -284,7 +284,7 @@ module _ {s : States} {v : List ℕ} {room at : ℕ} (ok : WholeBytes s v room a
         let z : from + perByte s - from ≡ perByte s = omega arith in
         let u = part from (perByte s) v in
         let l : length (codesOf (foldAll u)) ≡ perByte s = length-codes u ∙ part-length v from (perByte s) byte-within in
-        packed-one (bitsOf s) 0 (codesOf (foldAll u)) (turn-codes ok (perByte s) (byte-full s) p more .below)
+        packed-one (bitsOf s) 0 (codesOf (foldAll u)) (turn-codes ok p (byte-full s) more .below)
         (rw l (omega (arith, per-bits s))) (rw l (omega (arith, per-bits s))) refl (omega arith) (λ h. absurd (omega arith))
         ∙ ap (λ (y : ℕ). y ∷ []) (or-zero-r _ ∙ sym (rw z at is))
 
@@ -316,20 +316,20 @@ module _ {s : States} {v bytes : List ℕ} {at : ℕ} (ok : WholeBytes s v (leng
 module _ {v : List ℕ} {room at : ℕ} (ok : WholeBytes Four v room at) {from to : ℕ} (p : Passed Four (length v) at 8 from to) (more : from < length v)
     {x : ℕ} (is : x ≡ number 4 (codesOf (foldAll (part from 8 v)))) where
   word-length : length (part from 8 v) ≡ 8
-  word-length = part-length v from 8 (turn-within ok 8 refl p more)
+  word-length = part-length v from 8 (turn-within ok p refl more)
 
   word-bytes : packedFrom Four 0 (part from 8 v) ≡ x / 256 ∷ bitAnd x 255 ∷ []
-  word-bytes = two-bytes (part from 8 v) word-length (turn-codes ok 8 refl p more .below) x is
+  word-bytes = two-bytes (part from 8 v) word-length (turn-codes ok p refl more .below) x is
 
   pub word-stored : (out : List ℕ) → length out ≡ room → set (set out to (bitAnd (x / 256) 255)) (to + 1) (bitAnd x 255) ≡ overlay out to (packedFrom Four 0 (part from 8 v))
   word-stored out e =
-      ap (λ (y : ℕ). set (set out to y) (to + 1) (bitAnd x 255)) (high-byte (part from 8 v) word-length (turn-codes ok 8 refl p more .below) x is)
-      ∙ two-stored out to (x / 256) (bitAnd x 255) (omega (arith, turn-fits ok 8 refl p more))
+      ap (λ (y : ℕ). set (set out to y) (to + 1) (bitAnd x 255)) (high-byte (part from 8 v) word-length (turn-codes ok p refl more .below) x is)
+      ∙ two-stored out to (x / 256) (bitAnd x 255) (omega (arith, turn-fits ok p refl more))
       ∙ ap (overlay out to) (sym word-bytes)
 
   pub word-same : (bytes : List ℕ) → length bytes ≡ room
       → same (part to 2 bytes) (packedFrom Four 0 (part from 8 v)) ≡ eqb (getD bytes to 0) (x / 256) && eqb (getD bytes (to + 1) 0) (bitAnd x 255)
-  word-same bytes e = rw word-bytes (two-compared bytes to (x / 256) (bitAnd x 255) (omega (arith, turn-fits ok 8 refl p more)))
+  word-same bytes e = rw word-bytes (two-compared bytes to (x / 256) (bitAnd x 255) (omega (arith, turn-fits ok p refl more)))
 
 -- as many characters in front as turns leave
 pub lead-nine : {v : List ℕ} {room at to : ℕ} → WholeBytes Nine v room at → to ≡ at + lenOf (length v % 32) Nine → Passed Nine (length v) at 32 (length v % 32) to

@@ -31,14 +31,14 @@ abbrev start : tie.At-loop Inv-loop μ-loop → tie.Start Inv-loop μ-loop
 start a = a .before .before .before
 
 within : (c : tie.In-loop Inv-loop μ-loop) → c .before .loop .from + 8 ≤ length (now (start (c .before) .args .value))
-within c = turn-within (start (c .before) .pre .0) 8 refl (c .before .loop .inv .passed) (c .loop-test .taken)
+within c = turn-within (start (c .before) .pre .0) (c .before .loop .inv .passed) refl (c .loop-test .taken)
 
 fits : (c : tie.In-loop Inv-loop μ-loop) → c .before .loop .to + 2 ≤ length (now (start (c .before) .args .bytes))
-fits c = turn-fits (start (c .before) .pre .0) 8 refl (c .before .loop .inv .passed) (c .loop-test .taken)
+fits c = turn-fits (start (c .before) .pre .0) (c .before .loop .inv .passed) refl (c .loop-test .taken)
 
 levels-at-requires : tie.Need-levels-at-requires Inv-loop μ-loop
 levels-at-requires c κs =
-    (within c, turn-codes (start (c .before) .pre .0) 8 refl (c .before .loop .inv .passed) (c .loop-test .taken) .below)
+    (within c, turn-codes (start (c .before) .pre .0) (c .before .loop .inv .passed) refl (c .loop-test .taken) .below)
 
 shared-slice-read-wide : tie.Need-shared-slice-read-wide Inv-loop μ-loop
 shared-slice-read-wide c = omega (arith, fits (c .before .before))

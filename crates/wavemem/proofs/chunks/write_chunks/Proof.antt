@@ -29,10 +29,10 @@ long : (a : tie.At-loop Inv-loop μ-loop) → length (a .loop .out) ≡ length (
 long a = stored-long (start a .pre .0) (a .loop .inv)
 
 within : (c : tie.In-loop Inv-loop μ-loop) → c .before .loop .from + 32 ≤ length (now (start (c .before) .args .value))
-within c = turn-within (start (c .before) .pre .0) 32 refl (c .before .loop .inv .passed) (c .loop-test .taken)
+within c = turn-within (start (c .before) .pre .0) (c .before .loop .inv .passed) refl (c .loop-test .taken)
 
 fits : (c : tie.In-loop Inv-loop μ-loop) → c .before .loop .to + 16 ≤ length (now (start (c .before) .args .out))
-fits c = turn-fits (start (c .before) .pre .0) 32 refl (c .before .loop .inv .passed) (c .loop-test .taken)
+fits c = turn-fits (start (c .before) .pre .0) (c .before .loop .inv .passed) refl (c .loop-test .taken)
 
 codes-at-requires : tie.Need-codes-at-requires Inv-loop μ-loop
 codes-at-requires c κs = (within c, start (c .before) .pre .0 .codes .known)
@@ -40,7 +40,7 @@ codes-at-requires c κs = (within c, start (c .before) .pre .0 .codes .known)
 join-pairs-requires : tie.Need-join-pairs-requires Inv-loop μ-loop
 join-pairs-requires c κs =
     let i = c .before in
-    rw (c .codes-at .ensures) (turn-codes (start (i .before) .pre .0) 32 refl (i .before .loop .inv .passed) (i .loop-test .taken) .below)
+    rw (c .codes-at .ensures) (turn-codes (start (i .before) .pre .0) (i .before .loop .inv .passed) refl (i .loop-test .taken) .below)
 
 write-block-requires : tie.Need-write-block-requires Inv-loop μ-loop
 write-block-requires c κs =

@@ -29,14 +29,14 @@ long : (a : tie.At-loop Inv-loop μ-loop) → length (a .loop .out) ≡ length (
 long a = stored-long (start a .pre .0) (a .loop .inv)
 
 within : (c : tie.In-loop Inv-loop μ-loop) → c .before .loop .from + 8 ≤ length (now (start (c .before) .args .value))
-within c = turn-within (start (c .before) .pre .0) 8 refl (c .before .loop .inv .passed) (c .loop-test .taken)
+within c = turn-within (start (c .before) .pre .0) (c .before .loop .inv .passed) refl (c .loop-test .taken)
 
 fits : (c : tie.In-loop Inv-loop μ-loop) → c .before .loop .to + 2 ≤ length (now (start (c .before) .args .out))
-fits c = turn-fits (start (c .before) .pre .0) 8 refl (c .before .loop .inv .passed) (c .loop-test .taken)
+fits c = turn-fits (start (c .before) .pre .0) (c .before .loop .inv .passed) refl (c .loop-test .taken)
 
 levels-at-requires : tie.Need-levels-at-requires Inv-loop μ-loop
 levels-at-requires c κs =
-    (within c, turn-codes (start (c .before) .pre .0) 8 refl (c .before .loop .inv .passed) (c .loop-test .taken) .below)
+    (within c, turn-codes (start (c .before) .pre .0) (c .before .loop .inv .passed) refl (c .loop-test .taken) .below)
 
 cast-out : tie.Need-cast-out Inv-loop μ-loop
 cast-out c = search (needs, low-byte)
