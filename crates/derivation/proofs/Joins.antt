@@ -20,9 +20,9 @@ use Rattle.derivation.specs.declared.DerivedBitVecSignal.{DerivedBitVecS
 use Rattle.derivation.specs.declared.InputNumber.the-variants.{At, Missing}
 use Rattle.derivation.specs.declared.Side.{Side}
 use Rattle.derivation.specs.declared.Side.the-variants.{Left, Right}
-use Rattle.derivation.specs.Piece.{packedOf, extractOf, piecesOf, namesOf, pieceWidth, isBadDerivation, adjoin, merged, merging, pieceAdded, nameAdded, pieceOf, derivationWith, isBadRange, isOverfull, addPiece}
+use Rattle.derivation.specs.Piece.{Sized, addPiece, adjoin, derivationWith, extractOf, isBadDerivation, isBadRange, isOverfull, merged, merging, nameAdded, namesOf, packedOf, pieceAdded, pieceOf, pieceWidth, piecesOf}
 use Rattle.derivation.specs.Answer.{inputNumber, merges, hasNoRoom, Joining, Named, withPieces, withNames}
-use Rattle.derivation.proofs.Pieces.{packed-all, place-le, name-known, name-new, sum-added, Sized, Sound, sound, refused-full, accepted}
+use Rattle.derivation.proofs.Pieces.{packed-all, place-le, name-known, name-new, sum-added, Sound, sound, refused-full, accepted}
 
 -- ---- the number of a name
 

@@ -20,7 +20,7 @@ use Rattle.derivation.specs.declared.Extract.{Extract}
 use Rattle.derivation.specs.declared.DerivedBitVecSignal.{DerivedBitVecSignal}
 use Rattle.derivation.specs.declared.Side.{Side}
 use Rattle.derivation.specs.declared.Side.the-variants.{Left, Right}
-use Rattle.derivation.specs.Piece.{packedOf, extractOf, endOf, piecesOf, namesOf, isBadPiece, pieceWidth, isBadDerivation, adjoin, merged, merging, pieceAdded, nameAdded, pieceOf, derivationWith, isBadRange, isOverfull, addPiece}
+use Rattle.derivation.specs.Piece.{Sized, packedOf, extractOf, endOf, piecesOf, namesOf, isBadPiece, pieceWidth, isBadDerivation, adjoin, merged, merging, pieceAdded, nameAdded, pieceOf, derivationWith, isBadRange, isOverfull, addPiece}
 
 -- ---- packing
 
@@ -140,11 +140,6 @@ module _ (inputs : ℕ) (e : Extract) where
   pub is-good-piece : 0 < e .width → e .signal < inputs → endOf e ≤ 4096 → isBadPiece inputs e ≡ false
   unfolding isBadPiece
   is-good-piece w s t = simp (ne-eqb (e .width) 0 (λ z. omega arith), lt-leb inputs (e .signal) s, le-ltb 4096 (endOf e) t)
-
--- a derivation has place for 8 names and 64 pieces
-pub record Sized (d : DerivedBitVecSignal) : Type 0 where
-  pub names : length (d .inputs) ≡ 8
-  pub bits : length (d .bits) ≡ 64
 
 -- a derivation that is not bad
 pub record Sound (d : DerivedBitVecSignal) : Type 0 where

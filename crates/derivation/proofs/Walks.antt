@@ -19,10 +19,9 @@ use Rattle.value.proofs.Slices.{overlay-nil, overlay-store}
 use Rattle.derivation.specs.declared.Extract.{Extract}
 use Rattle.derivation.specs.declared.DerivedBitVecSignal.{DerivedBitVecSignal}
 use Rattle.derivation.specs.declared.InputNumber.the-variants.{At, Missing}
-use Rattle.derivation.specs.Piece.{extractOf, piecesOf, pieceWidth, isBadPiece}
+use Rattle.derivation.specs.Piece.{Sized, extractOf, isBadPiece, pieceWidth, piecesOf}
 use Rattle.derivation.specs.Answer.{inputNumber}
 use Rattle.derivation.proofs.DerivedBitVecSignal.{the-type}
-use Rattle.derivation.proofs.Pieces.{Sized}
 use Rattle.derivation.proofs.Joins.{count-is, piece-at}
 
 -- a derivation in the code has its places

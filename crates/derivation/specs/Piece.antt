@@ -29,6 +29,11 @@ packedOf e = e .signal * 2 ^ 48 + e .width * 2 ^ 32 + e .lsb
 unfoldable pub extractOf : ℕ → Extract
 extractOf n = record { signal = n / 2 ^ 48; width = n / 2 ^ 32 % 2 ^ 16; lsb = n % 2 ^ 32 }
 
+-- a derivation has place for 8 names and 64 pieces
+pub record Sized (d : DerivedBitVecSignal) : Type 0 where
+  pub names : length (d .inputs) ≡ 8
+  pub bits : length (d .bits) ≡ 64
+
 -- one above a piece's msb
 abbrev pub endOf : Extract → ℕ
 endOf e = e .lsb + e .width

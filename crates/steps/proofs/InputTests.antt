@@ -17,13 +17,12 @@ use Rattle.value.specs.Slice.{any, part}
 use Rattle.value.specs.declared.States.{States}
 use Rattle.value.proofs.Lists.{Clear, at-any, clear-all, clear-more}
 use Rattle.value.proofs.Slices.{any-at, any-none, part-length}
-use Rattle.fst.specs.Record.{Kept, fitsBytes, isBadBytes, maximum, usedSize}
+use Rattle.fst.specs.Record.{Kept, fitsBytes, hasNoText, isBadBytes, maximum, usedSize}
 use Rattle.fst.specs.declared.Description.{Description}
 use Rattle.fst.specs.declared.Encoding.{Encoding}
 use Rattle.fst.specs.declared.Encoding.the-variants.{BitVector, Event, Real}
 use Rattle.fst.proofs.Records.{Fits, fits-room, not-bad}
 use Rattle.signal.specs.Decode.{hasBadMark, markIn}
-use Rattle.signal.specs.Read.{hasNoText}
 use Rattle.steps.specs.Inputs.{inputKept, inputsOf, isBadInput, isLate, keptAll, lentTo}
 use Rattle.steps.specs.declared.Input.{Input}
 use Rattle.steps.specs.declared.Inputs.{Inputs}
@@ -31,23 +30,13 @@ use Rattle.steps.proofs.Inputs.{the-type}
 
 -- ---- an input that is not 2
 
-module _ (bytes indices : List ℕ) (i : Input) (h : isBadInput bytes indices i ≡ false) where
-  abbrev d : Description
-  d = i .description
+abbrev pub Stands : List ℕ → List ℕ → Input → Type 0
+Stands bytes indices i = Standing (i .description) (lentTo bytes indices i)
 
-  pub input-fits : Fits d (lentTo bytes indices i)
-  input-fits = fits-room d (lentTo bytes indices i) (not-bad d (lentTo bytes indices i) h .1)
-
-  -- its used bytes by themselves
-  pub input-stands : isBadBytes d 0 (part (i .«byte_start») (usedSize d) bytes) ≡ false
-  unfolding isBadBytes fitsBytes
-  input-stands =
-      let f = input-fits in
-      let l : length (part (i .«byte_start») (usedSize d) bytes) ≡ usedSize d = part-length bytes (i .«byte_start») (usedSize d) (f .bytes) in
-      rw (not-bad d (lentTo bytes indices i) h .0, le-leb (d .count) maximum (f .count), l, le-leb (0 + usedSize d) (usedSize d) (omega arith))
-
-  pub input-count : length (part (i .«index_start») (d .count) indices) ≡ d .count
-  input-count = part-length indices (i .«index_start») (d .count) (input-fits .indices)
+-- its used bytes by themselves
+pub used-stands : {d : Description} {l : Lent} → Standing d l → isBadBytes d 0 (part (l .byteStart) (usedSize d) (l .bytes)) ≡ false
+unfolding isBadBytes fitsBytes
+used-stands {d} s = rw (s .width, le-leb (d .count) maximum (s .room .count), bytes-used s, le-leb (0 + usedSize d) (usedSize d) (omega arith))
 
 pub late-told : (l : List ℕ) → 0 < length l → not (eqb (getD l 0 0) 0) ≡ isLate l
 late-told [] h = absurd (omega arith)
@@ -95,7 +84,7 @@ module _ (inputs : Inputs) (full : length (inputs .slots) ≡ 8) where
 
 -- what stands for no input
 abbrev pub noInput : Input
-noInput = record { description = record { encoding = Event; count = 0 }; «byte_start» = 0; «index_start» = 0 }
+noInput = record { description = empty Event; «byte_start» = 0; «index_start» = 0 }
 
 -- inputs in the code have their places
 pub slotted : (inputs : Inputs) (vs : List Val) → Is (row the-type) inputs vs → length (inputs .slots) ≡ 8

@@ -12,12 +12,11 @@ use Rattle.value.specs.Level.{bitsOf, lenOf, markOf, setAt}
 use Rattle.value.specs.declared.States.{States}
 use Rattle.value.proofs.Digits.{digits-length}
 use Rattle.value.proofs.Levels.{mark-set, mark-small}
-use Rattle.fst.specs.Record.{largestIn}
+use Rattle.fst.specs.Record.{hasNoText, largestIn, widthOf}
 use Rattle.fst.specs.declared.Encoding.{Encoding}
 use Rattle.fst.specs.declared.Encoding.the-variants.{BitVector, Event, Real}
 use Rattle.signal.specs.Decode.{codesAt, hasBadMark, levelPart, levelsIn, markIn, setIn}
 use Rattle.signal.specs.Parts.{Levels, Whole, ownStates}
-use Rattle.signal.specs.Read.{hasNoText, widthOf}
 use Rattle.signal.proofs.Decoding.{codes-below}
 use Rattle.signal.proofs.Reading.{Owned, owned, some, vector}
 

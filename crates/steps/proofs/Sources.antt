@@ -10,12 +10,11 @@ use Rattle.value.specs.Level.{markOf}
 use Rattle.value.specs.Slice.{any}
 use Rattle.value.proofs.Lists.{any-map}
 use Rattle.value.proofs.Tests.{and-left, from-T, or-left, or-right, to-T}
-use Rattle.fst.specs.Record.{fits, fitsBytes, isBadBytes, keptIn, largestIn}
+use Rattle.fst.specs.Record.{fits, fitsBytes, hasNoText, isBadBytes, keptIn, largestIn}
 use Rattle.fst.proofs.Records.{Fits, not-bad}
 use Rattle.runs.specs.All.{All}
 use Rattle.runs.proofs.All.{all-of}
 use Rattle.signal.specs.Decode.{hasBadMark}
-use Rattle.signal.specs.Read.{hasNoText}
 use Rattle.signal.proofs.Entries.{entries-each}
 use Rattle.signal.proofs.Reading.{inside, whole}
 use Rattle.steps.specs.Inputs.{entryIsBad, inputKept, inputsOf, isBadInput, lentTo, markIsBad}
@@ -49,17 +48,10 @@ pub record Source (bytes indices : List ℕ) (i : Input) : Type 0 where
   pub vector : hasNoText (i .description .encoding) ≡ false
   pub marked : markIsBad (inputKept bytes indices i) ≡ false
 
-stands-bytes : (bytes indices : List ℕ) (i : Input) → isBadInput bytes indices i ≡ false → isBadBytes (i .description) (i .«byte_start») bytes ≡ false
-unfolding isBadBytes fits
-stands-bytes bytes indices i h =
-    let n = not-bad (i .description) (lentTo bytes indices i) h in
-    let f : fitsBytes (i .description) (i .«byte_start») bytes ≡ true = from-T _ (and-left (fitsBytes (i .description) (i .«byte_start») bytes) _ (to-T _ (n .1))) in
-    rw (n .0, f)
-
 -- it shows one of its entries
 module _ {bytes indices : List ℕ} (c : Cursor) (s : Source bytes indices (c .input)) (b : Begun c) (w : Within c) where
   pub shows : Shows bytes indices c
-  shows = record { fits = input-fits bytes indices (c .input) (s .stands); begun = b; within = w }
+  shows = record { stands = standing (s .stands); begun = b; within = w }
 
   good-mark : hasBadMark (c .input .description .encoding) (shownBytes bytes c) ≡ false
   unfolding keptIn
@@ -70,15 +62,8 @@ module _ {bytes indices : List ℕ} (c : Cursor) (s : Source bytes indices (c .i
 
   pub showing : Showing bytes c
   showing =
-      let k : c .begun - 1 < c .input .description .count = omega arith in
-      let n = stands-bytes bytes indices (c .input) (s .stands) in
-      record {
-        begun = b;
-        vector = s .vector;
-        inside = inside (c .input .description) bytes (c .input .«byte_start») (c .begun - 1) n k;
-        whole = whole (c .input .description) bytes (c .input .«byte_start») (c .begun - 1) n k;
-        marked = good-mark;
-      }
+      let e = has-entry (record { sound = s .stands; below = omega arith }) in
+      record { begun = b; vector = s .vector; inside = inside e; whole = whole e; marked = good-mark }
 
   -- a good mark is not above the largest set's
   pub set-within : markOf (setNow bytes c) ≤ markOf (largestIn (c .input .description .encoding))
@@ -86,23 +71,20 @@ module _ {bytes indices : List ℕ} (c : Cursor) (s : Source bytes indices (c .i
 
 -- ---- all of them
 
-abbrev pub Fitting : List ℕ → List ℕ → Input → Type 0
-Fitting bytes indices i = Fits (i .description) (lentTo bytes indices i)
-
 -- at most eight inputs, which lie within the lent slices
-pub record Standing (inputs : Inputs) (bytes indices : List ℕ) : Type 0 where
+pub record AllStand (inputs : Inputs) (bytes indices : List ℕ) : Type 0 where
   pub few : inputs .count ≤ 8
   pub slots : length (inputs .slots) ≡ 8
-  pub fit : All (Fitting bytes indices) (inputsOf inputs)
+  pub each : All (Stands bytes indices) (inputsOf inputs)
 
 module _ {inputs : Inputs} {bytes indices : List ℕ} where
-  pub standing : inputs .count ≤ 8 → length (inputs .slots) ≡ 8 → any (isBadInput bytes indices) (inputsOf inputs) ≡ false → Standing inputs bytes indices
-  standing few slots h =
+  pub all-stand : inputs .count ≤ 8 → length (inputs .slots) ≡ 8 → any (isBadInput bytes indices) (inputsOf inputs) ≡ false → AllStand inputs bytes indices
+  all-stand few slots h =
       record {
         few = few;
         slots = slots;
-        fit = all-of _ (Fitting bytes indices) (λ i s. input-fits bytes indices i s) (inputsOf inputs) (all-none (isBadInput bytes indices) (inputsOf inputs) h);
+        each = all-of _ (Stands bytes indices) (λ i s. standing s) (inputsOf inputs) (all-none (isBadInput bytes indices) (inputsOf inputs) h);
       }
 
-  pub indexable : Standing inputs bytes indices → Indexable inputs indices
-  indexable G = record { few = G .few; reach = all-of (Fitting bytes indices) (Reaches indices) (λ i s. s .indices) (inputsOf inputs) (G .fit) }
+  pub indexable : AllStand inputs bytes indices → Indexable inputs indices
+  indexable G = record { few = G .few; reach = all-of (Stands bytes indices) (Reaches indices) (λ i s. s .room .indices) (inputsOf inputs) (G .each) }

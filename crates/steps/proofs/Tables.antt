@@ -13,12 +13,11 @@ use Rattle.value.specs.declared.States.{States}
 use Rattle.value.specs.declared.States.the-variants.{Two}
 use Rattle.value.proofs.Levels.{set-mark}
 use Rattle.value.proofs.Tests.{by-eq}
-use Rattle.fst.specs.Record.{largestIn, sizeOf}
+use Rattle.fst.specs.Record.{hasNoText, largestIn, sizeOf, widthOf}
 use Rattle.fst.specs.declared.Encoding.{Encoding}
 use Rattle.fst.specs.declared.Encoding.the-variants.{BitVector, Event, Real}
 use Rattle.signal.specs.Decode.{codesAt, entryAt, markIn}
 use Rattle.signal.specs.Parts.{Levels}
-use Rattle.signal.specs.Read.{hasNoText, widthOf}
 use Rattle.steps.specs.Inputs.{inputKept, keptAll}
 use Rattle.steps.specs.Stepping.{Cursor, Showing, cursor, levelsNow, setNow, shownBytes}
 use Rattle.steps.specs.Table.{SizedAt, TableOf, Tables, entryShown, inputIn, inputsIn}

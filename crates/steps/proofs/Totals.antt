@@ -11,8 +11,8 @@ use Rattle.value.specs.Slice.{sum}
 use Rattle.runs.specs.All.{All}
 use Rattle.runs.specs.Runs.{joined}
 use Rattle.runs.proofs.All.{all-of}
-use Rattle.signal.specs.declared.NextIndex.{NextIndex}
-use Rattle.signal.specs.declared.NextIndex.the-variants.{Absent, At}
+use Rattle.fst.specs.declared.NextIndex.{NextIndex}
+use Rattle.fst.specs.declared.NextIndex.the-variants.{Absent, At}
 use Rattle.steps.specs.Inputs.{inputKept, inputsOf, keptAll}
 use Rattle.steps.specs.Room.{Few, roomFor, totalOver}
 use Rattle.steps.specs.Steps.{Moment, Track, countOf, keptSteps, momentsFrom, momentsOf, moved, shownIn, smallest, unbegun}
@@ -20,7 +20,7 @@ use Rattle.steps.specs.declared.Input.{Input}
 use Rattle.steps.specs.declared.Inputs.{Inputs}
 use Rattle.steps.proofs.InputTests.{noInput}
 use Rattle.steps.proofs.Rooms.{room-fewer}
-use Rattle.steps.proofs.Sources.{Fitting, Standing}
+use Rattle.steps.proofs.Sources.{AllStand}
 use Rattle.steps.proofs.Tracks.{shown-count}
 use Rattle.steps.proofs.Walk.{joined-length}
 
@@ -57,14 +57,14 @@ moments-bound zero i ts = omega arith
 moments-bound (suc n) Absent ts = omega arith
 moments-bound (suc n) (At i) ts = let us = map (moved i) ts in omega (arith, moments-bound n (smallest us) us)
 
-come-all : (bytes indices : List ℕ) (is : List Input) → All (Fitting bytes indices) is → sum (map countOf (map unbegun (map shownIn (map (inputKept bytes indices) is)))) ≡ totalOver is
+come-all : (bytes indices : List ℕ) (is : List Input) → All (Stands bytes indices) is → sum (map countOf (map unbegun (map shownIn (map (inputKept bytes indices) is)))) ≡ totalOver is
 unfolding sum totalOver
 come-all bytes indices [] a = refl
 come-all bytes indices (i ∷ is) a = rw (shown-count bytes indices i (a .0), come-all bytes indices is (a .1))
 
-module _ {inputs : Inputs} {bytes indices : List ℕ} (G : Standing inputs bytes indices) where
+module _ {inputs : Inputs} {bytes indices : List ℕ} (G : AllStand inputs bytes indices) where
   pub few-each : All Few (inputsOf inputs)
-  few-each = all-of (Fitting bytes indices) Few (λ i s. s .count) (inputsOf inputs) (G .fit)
+  few-each = all-of (Stands bytes indices) Few (λ i s. s .room .count) (inputsOf inputs) (G .each)
 
   pub steps-bound : {S : Type 0} (yields : Moment → S) (like : S → S → Bool) → length (keptSteps yields like (keptAll bytes indices inputs)) ≤ totalOver (inputsOf inputs)
   unfolding keptSteps momentsOf
@@ -76,7 +76,7 @@ module _ {inputs : Inputs} {bytes indices : List ℕ} (G : Standing inputs bytes
         fold-bound like [] (map yields ms),
         length-map ms yields,
         moments-bound (sum (map countOf ts)) (smallest ts) ts,
-        come-all bytes indices (inputsOf inputs) (G .fit),
+        come-all bytes indices (inputsOf inputs) (G .each),
       )
 
 -- ---- the room of the steps, by the numbers that the code has

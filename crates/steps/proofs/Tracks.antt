@@ -21,8 +21,8 @@ use Rattle.fst.proofs.LastEntry.{part-part}
 use Rattle.fst.proofs.Records.{Fits}
 use Rattle.signal.specs.Decode.{Indexed, entriesFrom, entriesIn, entryAt}
 use Rattle.signal.specs.Offset.{headOf}
-use Rattle.signal.specs.declared.NextIndex.{NextIndex}
-use Rattle.signal.specs.declared.NextIndex.the-variants.{Absent, At}
+use Rattle.fst.specs.declared.NextIndex.{NextIndex}
+use Rattle.fst.specs.declared.NextIndex.the-variants.{Absent, At}
 use Rattle.signal.proofs.Entries.{entries-count, entry-is, indexed}
 use Rattle.steps.specs.Inputs.{inputKept, lentTo}
 use Rattle.steps.specs.Stepping.{Cursor, advanced, begunAt, cursors, nextIn, shownBytes, soonest}
@@ -143,14 +143,14 @@ module _ (bytes indices : List ℕ) where
   -- ---- what they show
 
   -- its entries in number
-  pub shown-count : (i : Input) → Fits (i .description) (lentTo bytes indices i) → length (shownOf i) ≡ i .description .count
+  pub shown-count : (i : Input) → Stands bytes indices i → length (shownOf i) ≡ i .description .count
   unfolding keptIn
   shown-count i f =
-      length-map (entriesIn (inputKept bytes indices i)) shownBy ∙ entries-count (inputKept bytes indices i) ∙ part-length indices (i .«index_start») (i .description .count) (f .indices)
+      length-map (entriesIn (inputKept bytes indices i)) shownBy ∙ entries-count (inputKept bytes indices i) ∙ indices-used f
 
   -- an input that has begun, and whose entries lie within the slices
   pub record Shows (c : Cursor) : Type 0 where
-    pub fits : Fits (c .input .description) (lentTo bytes indices (c .input))
+    pub stands : Stands bytes indices (c .input)
     pub begun : Begun c
     pub within : Within c
 
@@ -160,10 +160,10 @@ module _ (bytes indices : List ℕ) where
 
     pub r-indices : length (r .indices) ≡ c .input .description .count
     unfolding keptIn
-    r-indices = part-length indices (c .input .«index_start») (c .input .description .count) (h .fits .indices)
+    r-indices = indices-used (h .stands)
 
     -- its bytes among all
-    pub bytes-told : entryAt (c .input .description) 0 (r .bytes) (c .begun - 1) ≡ shownBytes bytes c
+    pub bytes-told : entryAt (c .input .description .encoding) 0 (r .bytes) (c .begun - 1) ≡ shownBytes bytes c
     unfolding keptIn entryAt
     bytes-told =
         let z = sizeOf (c .input .description .encoding) in

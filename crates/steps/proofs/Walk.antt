@@ -15,15 +15,15 @@ use Rattle.runs.specs.All.{All}
 use Rattle.runs.specs.Runs.{endsLike, joined}
 use Rattle.runs.proofs.All.{all-both, all-map, all-of}
 use Rattle.runs.proofs.Joined.{joined-grows, length-snoc}
-use Rattle.signal.specs.declared.NextIndex.{NextIndex}
-use Rattle.signal.specs.declared.NextIndex.the-variants.{Absent, At}
+use Rattle.fst.specs.declared.NextIndex.{NextIndex}
+use Rattle.fst.specs.declared.NextIndex.the-variants.{Absent, At}
 use Rattle.steps.specs.Inputs.{inputsOf, keptAll}
 use Rattle.steps.specs.Stepping.{Cursor, Reaches, advanced, begunAt, cursors, cursorsOf, nextIn, soonest}
 use Rattle.steps.specs.Steps.{Moment, Track, keptSteps, momentsFrom, momentsOf, moved, nowOf, shownIn, smallest, unbegun}
 use Rattle.steps.specs.declared.Input.{Input}
 use Rattle.steps.specs.declared.Inputs.{Inputs}
 use Rattle.steps.proofs.Loops.{cursors-length, next-within}
-use Rattle.steps.proofs.Sources.{Fitting, Standing, all-inputs, indexable, showing}
+use Rattle.steps.proofs.Sources.{AllStand, all-inputs, indexable, showing}
 use Rattle.steps.proofs.Tracks.{Within, come-less, moves-told, shown-count, shownOf, soonest-told, toCome, tracks, tracks-start}
 
 -- ---- cursors as they start and move on
@@ -44,13 +44,13 @@ begun-within indices c r w i = go (nextIn indices c) refl
 
 -- ---- how many steps there can be
 
-come-bound : (bytes indices : List ℕ) (cs : List Cursor) → All (λ c. Fitting bytes indices (c .input)) cs → toCome (tracks bytes indices cs) ≤ length cs * 1048576
+come-bound : (bytes indices : List ℕ) (cs : List Cursor) → All (λ c. Stands bytes indices (c .input)) cs → toCome (tracks bytes indices cs) ≤ length cs * 1048576
 unfolding sum
 come-bound bytes indices [] a = omega arith
 come-bound bytes indices (c ∷ cs) a =
     let n = shown-count bytes indices (c .input) (a .0) in
     let l = length-drop (c .begun) (shownOf bytes indices (c .input)) in
-    omega (arith, come-bound bytes indices cs (a .1), a .0 .count)
+    omega (arith, come-bound bytes indices cs (a .1), a .0 .room .count)
 
 pub joined-length : {A : Type 0} (like : A → A → Bool) (l : List A) (x : A) → length (joined like l x) ≤ suc (length l)
 unfolding joined
@@ -98,7 +98,7 @@ module _ {S : Type 0} {yields : Moment → S} {like : S → S → Bool} {inputs 
   walk-done {left = zero} W = W .rest
   walk-done {left = suc n} W = W .rest
 
-  module _ (G : Standing inputs bytes indices) where
+  module _ (G : AllStand inputs bytes indices) where
     pub walk-start : (p : List ℕ) → p ≡ replicate 8 0
         → Walk yields like inputs bytes indices p (soonest indices (cursorsOf inputs p)) [] (toCome (tracks bytes indices (cursorsOf inputs p)))
     unfolding keptSteps momentsOf
@@ -118,7 +118,7 @@ module _ {S : Type 0} {yields : Moment → S} {like : S → S → Bool} {inputs 
               (sym (soonest-told bytes indices (cursorsOf inputs p)))
               ∙ ap (λ (ts : List Track). foldl (joined like) [] (map yields (momentsFrom (toCome ts) (smallest ts) ts))) t;
           bounded =
-              let b = come-bound bytes indices cs₀ (all-inputs (Fitting bytes indices) is (replicate 8 0) (G .fit)) in
+              let b = come-bound bytes indices cs₀ (all-inputs (Stands bytes indices) is (replicate 8 0) (G .each)) in
               let n = cursors-length is (replicate 8 0) l in
               rw c (omega arith);
         }

@@ -5,17 +5,16 @@ use lib.ListN.{take}
 use mathlib.Core.Bool.{Bool, false, true}
 use mathlib.Core.List.{List, [], _∷_, map}
 use Rattle.value.specs.Slice.{any}
-use Rattle.fst.specs.Record.{Kept, Lent, isBad, keptIn}
+use Rattle.fst.specs.Record.{Kept, Lent, hasNoText, isBad, keptIn}
 use Rattle.fst.specs.declared.Encoding.{Encoding}
 use Rattle.signal.specs.Decode.{Indexed, entriesIn, hasBadMark}
 use Rattle.signal.specs.Offset.{falls}
-use Rattle.signal.specs.Read.{hasNoText}
 use Rattle.steps.specs.declared.Input.{Input}
 use Rattle.steps.specs.declared.Inputs.{Inputs}
 
 -- "Input records share one lent byte slice and one index list, each with its starts"
 abbrev pub lentTo : List ℕ → List ℕ → Input → Lent
-lentTo bytes indices i = record { bytes = bytes; byteStart = i .«byte_start»; indices = indices; indexStart = i .«index_start» }
+lentTo bytes indices i = lent bytes (i .«byte_start») indices (i .«index_start»)
 
 abbrev pub inputsOf : Inputs → List Input
 inputsOf inputs = take (inputs .count) (inputs .slots)
@@ -31,7 +30,7 @@ abbrev pub keptAll : List ℕ → List ℕ → Inputs → List Kept
 keptAll bytes indices inputs = map (inputKept bytes indices) (inputsOf inputs)
 
 abbrev pub encodingOf : Kept → Encoding
-encodingOf k = k .description .encoding
+encodingOf k = k .encoding
 
 -- "an input not a bit vector"
 abbrev pub isNoBitVector : Kept → Bool

@@ -26,6 +26,6 @@ isFirst test.Late = false
 isFirst test.Falling = false
 isFirst test.BadMark = false
 
--- a record by its description, used bytes and indices
+-- a record by its description, used bytes and time indices
 abbrev pub keptWith : Description → List ℕ → List ℕ → Kept
-keptWith d used indices = record { description = d; bytes = used; indices = indices }
+keptWith d used indices = record { encoding = d .encoding; bytes = used; indices = indices }

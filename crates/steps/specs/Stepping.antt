@@ -12,9 +12,9 @@ use Rattle.runs.specs.All.{All}
 use Rattle.signal.specs.Decode.{entryAt, hasBadMark, levelsIn, setIn}
 use Rattle.signal.specs.Offset.{headOf}
 use Rattle.signal.specs.Parts.{Inside, Whole}
-use Rattle.signal.specs.Read.{hasNoText, widthOf}
-use Rattle.signal.specs.declared.NextIndex.{NextIndex}
-use Rattle.signal.specs.declared.NextIndex.the-variants.{Absent, At}
+use Rattle.fst.specs.Record.{hasNoText, widthOf}
+use Rattle.fst.specs.declared.NextIndex.{NextIndex}
+use Rattle.fst.specs.declared.NextIndex.the-variants.{Absent, At}
 use Rattle.steps.specs.Inputs.{inputsOf}
 use Rattle.steps.specs.Steps.{smaller}
 use Rattle.steps.specs.declared.Input.{Input}
@@ -70,7 +70,7 @@ pub record Advanced (inputs : Inputs) (indices : List ℕ) (i : ℕ) (p q : List
 
 -- the entry that an input shows: its bytes, its set and its levels
 abbrev pub shownBytes : List ℕ → Cursor → List ℕ
-shownBytes bytes c = entryAt (c .input .description) (c .input .«byte_start») bytes (c .begun - 1)
+shownBytes bytes c = entryAt (c .input .description .encoding) (c .input .«byte_start») bytes (c .begun - 1)
 
 abbrev pub setNow : List ℕ → Cursor → States
 setNow bytes c = setIn (c .input .description .encoding) (shownBytes bytes c)
@@ -85,7 +85,7 @@ widthNow c = widthOf (c .input .description .encoding)
 pub record Showing (bytes : List ℕ) (c : Cursor) : Type 0 where
   pub begun : 1 ≤ c .begun
   pub vector : hasNoText (c .input .description .encoding) ≡ false
-  pub inside : Inside (c .input .description) (c .input .«byte_start») bytes (c .begun - 1)
+  pub inside : Inside (c .input .description .encoding) (c .input .«byte_start») bytes (c .begun - 1)
   pub whole : Whole (c .input .description .encoding) (shownBytes bytes c)
   pub marked : hasBadMark (c .input .description .encoding) (shownBytes bytes c) ≡ false
 

@@ -12,8 +12,8 @@ use Rattle.fst.specs.Record.{Kept}
 use Rattle.runs.specs.Runs.{joined}
 use Rattle.signal.specs.Decode.{Indexed, entriesIn, levelsIn, setIn}
 use Rattle.signal.specs.Offset.{headOf}
-use Rattle.signal.specs.declared.NextIndex.{NextIndex}
-use Rattle.signal.specs.declared.NextIndex.the-variants.{Absent, At}
+use Rattle.fst.specs.declared.NextIndex.{NextIndex}
+use Rattle.fst.specs.declared.NextIndex.the-variants.{Absent, At}
 
 -- an entry as an input shows it
 pub record Shown : Type 0 where

@@ -7,10 +7,9 @@ use mathlib.Core.List.{List, [], _∷_, map}
 use mathlib.Core.Path.{_≡_}
 use Rattle.value.specs.Level.{setAt}
 use Rattle.value.specs.Slice.{part}
-use Rattle.fst.specs.Record.{sizeOf}
+use Rattle.fst.specs.Record.{hasNoText, sizeOf}
 use Rattle.fst.specs.declared.Encoding.the-variants.{BitVector}
 use Rattle.runs.specs.All.{All}
-use Rattle.signal.specs.Read.{hasNoText}
 use Rattle.steps.specs.Inputs.{inputsOf}
 use Rattle.steps.specs.declared.Input.{Input}
 use Rattle.steps.specs.declared.Inputs.{Inputs}
@@ -37,7 +36,7 @@ sizeAt starts i = getD starts (16 + i) 0
 abbrev pub inputIn : List ℕ → List ℕ → ℕ → Input
 inputIn numbers starts i =
     record {
-      description = record { encoding = BitVector (widthAt numbers i) (setAt (markAt numbers i)); count = countAt numbers i };
+      description = described (BitVector (widthAt numbers i) (setAt (markAt numbers i))) (countAt numbers i);
       «byte_start» = byteStartAt starts i;
       «index_start» = indexStartAt starts i;
     }

@@ -6,7 +6,6 @@ ghost use Prim.Native.Nat.{ℕ, _+_, _≤_, min};
 ghost use lib.ListN.{length};
 ghost use Rattle.value.specs.Slice.{part, any};
 ghost use Rattle.fst.specs.Record.{usedSize, isBadBytes};
-ghost use Rattle.signal.specs.Read.{hasNoText};
 ghost use Rattle.steps.specs.Inputs.{inputsOf, isBadInput, isLate, markIsBad};
 ghost use Rattle.steps.specs.Refusals.{failsBy, isFirst, keptWith};
 use crate::Input;
@@ -18,7 +17,6 @@ use fst::record::is_bad;
 use signal::decode::mark_in;
 use signal::offset::falls;
 use signal::read::entry_at;
-use signal::read::size_of;
 
 // How many slots hold inputs.
 pub fn used_slots(inputs: Inputs) -> usize
@@ -38,7 +36,7 @@ pub fn used_part<'a>(input: Input, bytes: &'a [u8]) -> &'a [u8]
     let start = input.byte_start;
     let description = input.description;
     let encoding = description.encoding;
-    let n = description.count as usize * size_of(encoding);
+    let n = description.count as usize * encoding.size();
     &bytes[start..start + n]
 }
 
@@ -64,19 +62,6 @@ fn is_bad_input(input: Input, bytes: &[u8], indices: &[u32]) -> bool
         indices,
         input.index_start,
     )
-}
-
-fn has_no_text(encoding: Encoding) -> bool
-    ensures { λ r. ⌜ r ≡ hasNoText encoding ⌝ }
-{
-    match encoding {
-        Encoding::Event => true,
-        Encoding::Real => true,
-        Encoding::BitVector {
-            width: _,
-            max_states: _,
-        } => false,
-    }
 }
 
 // Whether a record is empty or starts past index 0.
@@ -123,7 +108,7 @@ fn fails(test: InputTest, input: Input, bytes: &[u8], indices: &[u32]) -> bool
     let encoding = description.encoding;
     match test {
         InputTest::BadRecord => is_bad_input(input, bytes, indices),
-        InputTest::NoBitVector => has_no_text(encoding),
+        InputTest::NoBitVector => encoding.has_no_text(),
         InputTest::Late => is_late(used_indices(input, indices)),
         InputTest::Falling => falls(used_indices(input, indices)),
         InputTest::BadMark => any_bad_mark(description, used_part(input, bytes)),

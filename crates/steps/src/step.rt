@@ -2,17 +2,13 @@
 ghost use mathlib.Core.Path.{_≡_};
 ghost use Prim.Native.Nat.{_+_, _-_, _*_, _≤_, _<_};
 ghost use lib.ListN.{length};
-ghost use Rattle.value.specs.Level.{setAt};
-ghost use Rattle.signal.specs.Decode.{markIn};
 ghost use Rattle.steps.specs.Steps.{smaller};
 ghost use Rattle.steps.specs.Stepping.{Reaches, Indexable, cursor, cursorsOf, nextIn, soonest, begunAt, Advanced};
 ghost use Rattle.steps.specs.Table.{Tabled, inputsIn, byteStartAt, sizeAt, entryShown};
 use crate::Input;
 use crate::table::SIZES;
 use crate::table::input_at;
-use signal::NextIndex;
-use signal::decode::states_of;
-use value::States;
+use fst::NextIndex;
 
 fn smaller(a: NextIndex, b: NextIndex) -> NextIndex
     ensures { λ r. ⌜ r ≡ smaller a b ⌝ }
@@ -99,15 +95,4 @@ pub fn shown_entry<'a>(starts: &[usize], i: usize, bytes: &'a [u8], begun: u32) 
     let size = starts[SIZES + i];
     let at = starts[i] + (begun - 1) as usize * size;
     &bytes[at..at + size]
-}
-
-// The own set of an entry, by the mark of its record's largest set.
-pub fn states_in(mark: u32, entry: &[u8]) -> States
-    requires { ⌜ 0 < length (now entry) ⌝ }
-    ensures { λ r. ⌜ r ≡ setAt (markIn (setAt mark) (now (entry .entry))) ⌝ }
-{
-    if mark == 0 {
-        return States::Two;
-    }
-    states_of(entry[0] >> 6)
 }

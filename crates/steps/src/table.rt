@@ -1,16 +1,12 @@
 // The inputs as numbers.
 ghost use mathlib.Core.Path.{_≡_};
 ghost use Prim.Native.Nat.{_<_};
-ghost use Rattle.fst.specs.Record.{largestIn};
-ghost use Rattle.signal.specs.Read.{widthOf};
 ghost use Rattle.steps.specs.Table.{Vectors, Tables, TableOf, inputIn};
 use crate::Input;
 use crate::Inputs;
 use fst::Description;
 use fst::Encoding;
 use signal::decode::states_at;
-use signal::read::size_of;
-use value::States;
 
 // Where the widths and the marks start in a table's numbers.
 pub const WIDTHS: usize = 8;
@@ -30,34 +26,6 @@ pub struct Table {
     pub starts: [usize; 24],
 }
 
-// The set of an encoding that is the largest in its record.
-pub fn largest_in(encoding: Encoding) -> States
-    ensures { λ r. ⌜ r ≡ largestIn encoding ⌝ }
-{
-    match encoding {
-        Encoding::Event => States::Two,
-        Encoding::Real => States::Two,
-        Encoding::BitVector {
-            width: _,
-            max_states,
-        } => max_states,
-    }
-}
-
-// How many levels an entry has.
-pub fn width_of(encoding: Encoding) -> u32
-    ensures { λ r. ⌜ r ≡ widthOf encoding ⌝ }
-{
-    match encoding {
-        Encoding::Event => 0,
-        Encoding::Real => 0,
-        Encoding::BitVector {
-            width,
-            max_states: _,
-        } => width,
-    }
-}
-
 // The table of inputs that are bit vectors.
 pub fn table_of(inputs: Inputs) -> Table
     requires { ⌜ Vectors inputs ⌝ }
@@ -71,11 +39,11 @@ pub fn table_of(inputs: Inputs) -> Table
         let description = input.description;
         let encoding = description.encoding;
         numbers[i] = description.count;
-        numbers[WIDTHS + i] = width_of(encoding);
-        numbers[MARKS + i] = largest_in(encoding).mark() as u32;
+        numbers[WIDTHS + i] = encoding.width();
+        numbers[MARKS + i] = encoding.largest().mark() as u32;
         starts[i] = input.byte_start;
         starts[INDEX_STARTS + i] = input.index_start;
-        starts[SIZES + i] = size_of(encoding);
+        starts[SIZES + i] = encoding.size();
         i += 1;
     }
     Table { numbers, starts }
@@ -88,12 +56,9 @@ pub fn input_at(numbers: &[u32], starts: &[usize], i: usize) -> Input
 {
     let width = numbers[WIDTHS + i];
     let max_states = states_at(numbers[MARKS + i]);
-    let description = Description {
-        encoding: Encoding::BitVector { width, max_states },
-        count: numbers[i],
-    };
+    let encoding = Encoding::BitVector { width, max_states };
     Input {
-        description,
+        description: Description::new(encoding, numbers[i]),
         byte_start: starts[i],
         index_start: starts[INDEX_STARTS + i],
     }

@@ -40,41 +40,42 @@ module _ {d : DerivedBitVecSignal} {inputs : Inputs} {bytes indices : List ℕ} 
   steps = derivedFrom d inputs bytes indices
 
   abbrev fit : Bool
-  fit = fits ((derivedKept d ks) .description) (lentOut outBytes outIndices)
+  fit = fits (BitVector (d .width) (largestAmong ks)) (length (map indexOf steps)) (lentOut outBytes outIndices)
 
   by-room : derive d inputs bytes indices outBytes outIndices ≡ derivedBy (lentOut outBytes outIndices) (tried (7 ⇐ not fit ∷ []) (given (derivedKept d ks)))
-  unfolding derive
+  unfolding derive laidOut
   by-room = ap (derivedBy (lentOut outBytes outIndices)) (derive-room d inputs bytes indices (lentOut outBytes outIndices) (given (derivedKept d ks)) (W .derivable))
 
   module _ {b : Bool} (e : b ≡ roomFor (length steps) (entrySize (d .width) M) (length outBytes) (length outIndices)) where
     fit-is : fit ≡ b
-    unfolding laidOut fits fitsBytes
-    fit-is = sym (e ∙ rw (W .largest, zero-add, zero-add))
+    unfolding fits fitsBytes
+    fit-is = rw (length-map steps indexOf, ← W .largest, zero-add, zero-add) (sym e)
 
     pub no-room : b ≡ false → _≡_ {A = Derived} (record { answer = refused 7; bytes = outBytes; indices = outIndices }) (derive d inputs bytes indices outBytes outIndices)
     unfolding tried
     no-room h = sym (by-room ∙ rw (fit-is ∙ h))
 
     pub roomy : b ≡ true → Roomy (length steps) (entrySize (d .width) M) (entrySize (d .width) M) outBytes × (length steps ≤ length outIndices)
-    unfolding laidOut
     roomy h =
-        let f = fits-room ((derivedKept d ks) .description) (lentOut outBytes outIndices) (fit-is ∙ h) in
+        let f = fits-room (fit-is ∙ h) in
         let z = entrySize (d .width) (largestAmong ks) in
-        rw (W .largest) (λ n l. omega (arith, f .bytes, mul-le-mul-right z l, suc-mul n z), omega (arith, f .indices))
+        let m = length-map steps indexOf in
+        let b : 0 + length steps * z ≤ length outBytes = rw m at (f .bytes) in
+        rw (W .largest) (λ n l. omega (arith, mul-le-mul-right z l, suc-mul n z), omega (arith, f .indices))
 
     pub all-stored : b ≡ true → {count : ℕ} {newBytes newIndices : List ℕ} → Wrote (d .width) M (entrySize (d .width) M) steps outBytes outIndices count newBytes newIndices
-        → _≡_ {A = Derived} (record { answer = given (record { encoding = BitVector (d .width) M; count = count }); bytes = newBytes; indices = newIndices }) (derive d inputs bytes indices outBytes outIndices)
+        → _≡_ {A = Derived} (record { answer = given (described (BitVector (d .width) M) count); bytes = newBytes; indices = newIndices }) (derive d inputs bytes indices outBytes outIndices)
     unfolding tried laidOut
     all-stored h w =
         let k = W .largest in
-        let c = w .counted in
+        let c = w .counted ∙ sym (length-map steps indexOf) in
         let z = w .stored refl (roomy h .1) in
         sym
         (by-room
         ∙ rw (fit-is ∙ h)
         (λ t.
         record {
-          answer = given (record { encoding = BitVector (d .width) (sym k t); count = sym c t });
+          answer = given (described (BitVector (d .width) (sym k t)) (sym c t));
           bytes = sym (z .entries ∙ ap (λ (S : States). overlay outBytes 0 (entriesOf (d .width) S steps)) k) t;
           indices = sym (z .times) t;
         }))

@@ -20,7 +20,7 @@ use Rattle.value.proofs.Levels.{all-below, bits-up, codes-text, mark-join}
 use Rattle.value.proofs.Slices.{any-none, part-length}
 use Rattle.value.proofs.Tests.{by-le, or-both, or-left, or-right}
 use Rattle.layout.proofs.Entries.{laws}
-use Rattle.fst.specs.Record.{Kept, Lent, keptIn, largestIn}
+use Rattle.fst.specs.Record.{Kept, Lent, keptIn, largestIn, widthOf}
 use Rattle.fst.specs.Refusal.{Reply, Test, given, refused, tried}
 use Rattle.fst.specs.declared.Description.{Description}
 use Rattle.fst.specs.declared.Encoding.{Encoding}
@@ -33,17 +33,16 @@ use Rattle.runs.proofs.All.{all-by, all-map}
 use Rattle.runs.proofs.Laid.{Sound, equal-same, laid-found, laid-same}
 use Rattle.signal.specs.Decode.{entriesFrom, entriesIn, entryAt, levelsIn, setIn}
 use Rattle.signal.specs.Offset.{falls, headOf}
-use Rattle.signal.specs.Read.{widthOf}
-use Rattle.signal.specs.declared.NextIndex.{NextIndex}
-use Rattle.signal.specs.declared.NextIndex.the-variants.{Absent, At}
+use Rattle.fst.specs.declared.NextIndex.{NextIndex}
+use Rattle.fst.specs.declared.NextIndex.the-variants.{Absent, At}
 use Rattle.signal.proofs.Entries.{entries-count, entries-each, entry-is, indexed}
 use Rattle.signal.proofs.ReadBack as back
 use Rattle.signal.proofs.ReadBack.{Tells}
-use Rattle.derivation.specs.Piece.{endOf, extractOf, isBadPiece, pieceWidth, piecesOf}
+use Rattle.derivation.specs.Piece.{Sized, endOf, extractOf, isBadPiece, pieceWidth, piecesOf}
 use Rattle.derivation.specs.declared.DerivedBitVecSignal.{DerivedBitVecSignal}
 use Rattle.derivation.specs.declared.Extract.{Extract}
 use Rattle.derivation.proofs.Joins.{count-is}
-use Rattle.derivation.proofs.Pieces.{Sized, good-piece, sound}
+use Rattle.derivation.proofs.Pieces.{good-piece, sound}
 use Rattle.steps.specs.Inputs.{encodingOf, entryIsBad, indicesFall, isLate, keptAll, markIsBad, startsLate}
 use Rattle.steps.specs.Steps.{Moment, Shown, Track, countOf, keptSteps, momentsFrom, momentsOf, moved, nowOf, shownBy, shownIn, shownIndex, smaller, smallest, unbegun}
 use Rattle.steps.specs.declared.Inputs.{Inputs}
@@ -332,7 +331,7 @@ picks-entry e x v i h c = (
 
 -- what stands for no record
 abbrev noKept : Kept
-noKept = record { description = record { encoding = Event; count = 0 }; bytes = []; indices = [] }
+noKept = record { encoding = Event; bytes = []; indices = [] }
 
 -- a piece of an input, within its width, with no bad code in it
 record Fine (ks : List Kept) (e : Extract) : Type 0 where
@@ -371,7 +370,7 @@ piece-picks : (e : Extract) (k : Kept) (o : Option Shown) → endOf e ≤ widthO
 piece-picks e k none h c f = absurd f
 piece-picks e k (some s) h c f =
     subst (Picks e) (sym (f .is))
-    (picks-entry e (encodingOf k) (entryAt (k .description) 0 (k .bytes) (f .at)) (getD (k .indices) (f .at) 0) h (entries-each k (pickIsBad e) c (f .at) (f .inside)))
+    (picks-entry e (encodingOf k) (entryAt (k .encoding) 0 (k .bytes) (f .at)) (getD (k .indices) (f .at) 0) h (entries-each k (pickIsBad e) c (f .at) (f .inside)))
 
 set-under : (sh : List (Option Shown)) (j : ℕ) → markOf (setShown (getD sh j none)) ≤ markOf (largestShown sh)
 unfolding joinAll
@@ -403,7 +402,7 @@ all-picked ks sh r (e ∷ es) f =
 mark-one : (k : Kept) (s : Shown) → markIsBad k ≡ false → From k s → markOf (s .set) ≤ markOf (largestIn (encodingOf k))
 mark-one k s m f =
     subst (λ (t : Shown). markOf (t .set) ≤ markOf (largestIn (encodingOf k))) (sym (f .is))
-    (mark-within (encodingOf k) (entryAt (k .description) 0 (k .bytes) (f .at)) (entries-each k entryIsBad m (f .at) (f .inside)))
+    (mark-within (encodingOf k) (entryAt (k .encoding) 0 (k .bytes) (f .at)) (entries-each k entryIsBad m (f .at) (f .inside)))
 
 largest-under : (ks : List Kept) (sh : List (Option Shown)) → any markIsBad ks ≡ false → Each2 NowFrom ks sh → markOf (largestShown sh) ≤ markOf (largestAmong ks)
 unfolding any joinAll
@@ -532,31 +531,12 @@ module _ (d : DerivedBitVecSignal) (count : ℕ) (ks : List Kept) (p : Passes d 
 
 -- ---- an accepted Derive
 
--- what was given, what was made, and that it was accepted
-pub record Accepted : Type 0 where
-  pub derivation : DerivedBitVecSignal
-  pub inputs : Inputs
-  pub bytes : List ℕ
-  pub indices : List ℕ
-  pub outBytes : List ℕ
-  pub outIndices : List ℕ
-  pub made : Description
-  pub sized : Sized derivation
-  pub is : (derive derivation inputs bytes indices outBytes outIndices) .answer ≡ given made
-
 module _ (a : Accepted) where
-  abbrev pub ksOf : List Kept
-  ksOf = keptAll (a .bytes) (a .indices) (a .inputs)
+  abbrev ks : List Kept
+  ks = ksOf a
 
-  abbrev pub listOf : List Step
-  listOf = derivedList (piecesOf (a .derivation)) ksOf
-
-  abbrev left : Derived
-  left = derive (a .derivation) (a .inputs) (a .bytes) (a .indices) (a .outBytes) (a .outIndices)
-
-  -- the record that it left at the front of the output slices
-  abbrev pub recordOf : Kept
-  recordOf = keptIn (a .made) (lentOut (left .bytes) (left .indices))
+  abbrev M : States
+  M = largestAmong ks
 
   abbrev out : Lent
   out = lentOut (a .outBytes) (a .outIndices)
@@ -564,68 +544,71 @@ module _ (a : Accepted) where
   abbrev tests : List Test
   tests = deriveRefusals (a .derivation) (a .inputs) (a .bytes) (a .indices) out
 
-  abbrev made-record : Kept
-  made-record = laidOut (a .derivation .width) (largestAmong ksOf) listOf
+  abbrev laid : Kept
+  laid = laidOut (a .derivation .width) M (listOf a)
 
   -- a number is no description
-  never : {A : Type 0} (n : ℕ) → tried tests (given made-record) ≡ refused (suc n) → (derivedBy out (tried tests (given made-record))) .answer ≡ given (a .made) → A
+  never : {A : Type 0} (n : ℕ) → tried tests (given laid) ≡ refused (suc n) → (derivedBy out (tried tests (given laid))) .answer ≡ given (a .made) → A
   never n q h =
       let e : _≡_ {A = Reply Description} (refused (suc n)) (given (a .made)) = ap (λ (r : Reply Kept). (derivedBy out r) .answer) (sym q) ∙ h in
       let z : _≡_ {A = ℕ} 0 1 = cc in
       absurd (omega arith)
 
-  pub accepted-passes : Passes (a .derivation) (a .inputs .count) ksOf
+  pub accepted-passes : Passes (a .derivation) (a .inputs .count) ks
   unfolding derive deriveRefusals
-  accepted-passes = go (result (given made-record) tests tt) (a .is)
+  accepted-passes = go (result (given laid) tests tt) (a .is)
     where
-      go : Result (given made-record) tests → (derivedBy out (tried tests (given made-record))) .answer ≡ given (a .made) → Passes (a .derivation) (a .inputs .count) ksOf
+      go : Result (given laid) tests → (derivedBy out (tried tests (given laid))) .answer ≡ given (a .made) → Passes (a .derivation) (a .inputs .count) ks
       go (through ps q) h =
           record { fit = ps .1 .0; begun = ps .1 .1 .0; rising = ps .1 .1 .1 .0; marked = ps .1 .1 .1 .1 .0; coded = ps .1 .1 .1 .1 .1 .0 }
       go (stopped n q) h = never n q h
 
   pub accepted-width : 1 ≤ a .derivation .width
-  accepted-width = some-width (a .derivation) (a .inputs .count) ksOf accepted-passes (a .sized)
+  accepted-width = some-width (a .derivation) (a .inputs .count) ks accepted-passes (a .sized)
 
-  pub accepted-sound : All (Sound (a .derivation .width) (largestAmong ksOf)) listOf
-  accepted-sound = derived-sound (a .derivation) (a .inputs .count) ksOf accepted-passes (a .sized)
+  pub accepted-sound : All (Sound (a .derivation .width) M) (listOf a)
+  accepted-sound = derived-sound (a .derivation) (a .inputs .count) ks accepted-passes (a .sized)
 
   -- "After every accepted Derive the record is this list laid out"
-  pub derived-is-laid-out : recordOf ≡ laidOut (a .derivation .width) (largestAmong ksOf) listOf
+  pub derived-is-laid-out : keptOf (recordOf a) ≡ laidOut (a .derivation .width) (largestAmong (ksOf a)) (listOf a)
   unfolding derive deriveRefusals stored
-  derived-is-laid-out = go (result (given made-record) tests tt) (a .is)
+  derived-is-laid-out = go (result (given laid) tests tt) (a .is)
     where
       Left : Reply Kept → Type 0
-      Left r = (derivedBy out r) .answer ≡ given (a .made) → keptIn (a .made) (lentOut ((derivedBy out r) .bytes) ((derivedBy out r) .indices)) ≡ made-record
+      Left r = (derivedBy out r) .answer ≡ given (a .made) → keptOf (heldIn (a .made) (lentOut ((derivedBy out r) .bytes) ((derivedBy out r) .indices))) ≡ laid
 
-      found : Left (given made-record)
+      found : Left (given laid)
       found h =
           let w = a .derivation .width in
-          let e : made-record .description ≡ a .made = cc in
-          let x = (derivedBy out (given made-record)) .bytes in
-          let y = (derivedBy out (given made-record)) .indices in
-          ap (λ (m : Description). keptIn m (lentOut x y)) (sym e)
-          ∙ laid-found w (laws w accepted-width) (largestAmong ksOf) listOf out (omega arith) (omega arith)
+          let e : described (laid .encoding) (length (laid .indices)) ≡ a .made = cc in
+          let x = (derivedBy out (given laid)) .bytes in
+          let y = (derivedBy out (given laid)) .indices in
+          ap (λ (m : Description). keptOf (heldIn m (lentOut x y))) (sym e)
+          ∙ laid-found w (laws w accepted-width) M (listOf a) out (omega arith) (omega arith)
 
-      go : Result (given made-record) tests → Left (tried tests (given made-record))
+      go : Result (given laid) tests → Left (tried tests (given laid))
       go (through ps q) = subst Left (sym q) found
       go (stopped n q) = λ h. never n q h
 
   -- entry k of the record tells the own set and the string of step k
-  pub read-back-derived : (k : ℕ) (s : Step) → k < length listOf
-      → Tells (a .derivation .width) (largestAmong ksOf) (entryAt (recordOf .description) 0 (recordOf .bytes) k) (getD listOf k s)
-  read-back-derived k s h = rw derived-is-laid-out (back.read-back (a .derivation .width) accepted-width (largestAmong ksOf) listOf accepted-sound k s h)
+  pub read-back-derived : (k : ℕ) (s : Step) → k < length (listOf a)
+      → Tells (a .derivation .width) (largestAmong (ksOf a)) (entryAt (recordOf a .description .encoding) 0 (recordOf a .bytes) k) (getD (listOf a) k s)
+  unfolding laidOut
+  read-back-derived k s h =
+      subst (λ (r : Kept). Tells (a .derivation .width) M (entryAt (r .encoding) 0 (r .bytes) k) (getD (listOf a) k s)) (sym derived-is-laid-out)
+      (back.read-back (a .derivation .width) accepted-width M (listOf a) accepted-sound k s h)
 
 -- two accepted Derives of one width leave equal records just where their largest sets and their derived lists are equal
 pub demand-3-derived : (a b : Accepted) → a .derivation .width ≡ b .derivation .width
     → Same byValue (recordOf a) (recordOf b) ↔ ((largestAmong (ksOf a) ≡ largestAmong (ksOf b)) × (listOf a ≡ listOf b))
 demand-3-derived a b e =
     let w = a .derivation .width in
-    let M = largestAmong (ksOf a) in
+    let K = largestAmong (ksOf a) in
     let N = largestAmong (ksOf b) in
-    let at-b : recordOf b ≡ laidOut w N (listOf b) = derived-is-laid-out b ∙ ap (λ (n : ℕ). laidOut n N (listOf b)) (sym e) in (
+    let at-b : keptOf (recordOf b) ≡ laidOut w N (listOf b) = derived-is-laid-out b ∙ ap (λ (n : ℕ). laidOut n N (listOf b)) (sym e) in (
       λ s.
-          laid-same w (laws w (accepted-width a)) M N (listOf a) (listOf b) (accepted-sound a)
+          laid-same w (laws w (accepted-width a)) K N (listOf a) (listOf b) (accepted-sound a)
           (subst (λ (n : ℕ). All (Sound n N) (listOf b)) (sym e) (accepted-sound b))
-          (rw (← derived-is-laid-out a, ← at-b) s),
-      λ h. equal-same (recordOf a) (recordOf b) (derived-is-laid-out a ∙ ap₂ (laidOut w) (h .0) (h .1) ∙ sym at-b),
+          (sym (ap seen (derived-is-laid-out a)) ∙ s ∙ ap seen at-b),
+      λ h. ap seen (derived-is-laid-out a ∙ ap₂ (laidOut w) (h .0) (h .1) ∙ sym at-b),
     )

@@ -25,8 +25,8 @@ use Rattle.runs.proofs.All.{all-both, all-map, all-of}
 use Rattle.runs.proofs.Joined.{joined-all, joined-by, length-snoc}
 use Rattle.runs.proofs.Laid.{Sound, entry-tells, entryFor, sameEntry}
 use Rattle.signal.specs.Offset.{headOf}
-use Rattle.signal.specs.declared.NextIndex.{NextIndex}
-use Rattle.signal.specs.declared.NextIndex.the-variants.{Absent, At}
+use Rattle.fst.specs.declared.NextIndex.{NextIndex}
+use Rattle.fst.specs.declared.NextIndex.the-variants.{Absent, At}
 use Rattle.derivation.specs.Piece.{extractOf, piecesOf}
 use Rattle.derivation.specs.declared.DerivedBitVecSignal.{DerivedBitVecSignal}
 use Rattle.steps.specs.Inputs.{inputKept, inputsOf, isLate, startsLate}

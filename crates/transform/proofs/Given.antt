@@ -14,17 +14,16 @@ use Rattle.value.specs.declared.States.{States}
 use Rattle.value.proofs.Digits.{below-append}
 use Rattle.value.proofs.Levels.{all-below, mark-join}
 use Rattle.value.proofs.Tests.{or-left, or-right}
-use Rattle.fst.specs.Record.{Kept, keptIn, largestIn}
+use Rattle.fst.specs.Record.{Kept, hasNoText, keptIn, largestIn}
 use Rattle.runs.specs.All.{All}
 use Rattle.runs.proofs.All.{all-both, all-of}
 use Rattle.signal.specs.Decode.{levelsIn}
-use Rattle.signal.specs.Read.{hasNoText}
 use Rattle.signal.proofs.Entries.{entries-each}
 use Rattle.signal.proofs.Reading.{whole}
-use Rattle.derivation.specs.Piece.{isBadPiece, pieceWidth, piecesOf}
+use Rattle.derivation.specs.Piece.{Sized, isBadPiece, pieceWidth, piecesOf}
 use Rattle.derivation.specs.declared.DerivedBitVecSignal.{DerivedBitVecSignal}
 use Rattle.derivation.specs.declared.Extract.{Extract}
-use Rattle.derivation.proofs.Pieces.{Sized, Sound, good-piece, sound}
+use Rattle.derivation.proofs.Pieces.{Sound, good-piece, sound}
 use Rattle.steps.specs.Inputs.{indicesFall, inputKept, inputsOf, isBadInput, isNoBitVector, keptAll, markIsBad, startsLate}
 use Rattle.steps.specs.Stepping.{Cursor, Showing, cursor, cursors, cursorsOf, levelsNow, setNow, widthNow}
 use Rattle.steps.specs.Table.{TableOf, Vectors, inputsIn}
@@ -97,8 +96,8 @@ module _ {d : DerivedBitVecSignal} {inputs : Inputs} {bytes indices : List ℕ} 
   pub narrow : d .width ≤ 4096
   narrow = parts .narrow
 
-  pub stand : Standing inputs bytes indices
-  stand = standing few-inputs (R .slots) (D .stand)
+  pub stand : AllStand inputs bytes indices
+  stand = all-stand few-inputs (R .slots) (D .stand)
 
   pub sources : All (Source bytes indices) (inputsOf inputs)
   unfolding keptIn

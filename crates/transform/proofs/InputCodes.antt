@@ -20,14 +20,13 @@ use Rattle.value.proofs.Lists.{any-each, any-map}
 use Rattle.value.proofs.Packed.{read}
 use Rattle.value.proofs.Slices.{part-all, part-at, part-length}
 use Rattle.value.proofs.Tests.{and-right, by-eq, to-T}
-use Rattle.fst.specs.Record.{keptIn, usedSize, widthStands}
+use Rattle.fst.specs.Record.{keptIn, usedSize, widthOf, widthStands}
 use Rattle.fst.specs.Refusal.{tried}
 use Rattle.fst.specs.declared.Encoding.{Encoding}
 use Rattle.fst.specs.declared.Encoding.the-variants.{BitVector, Event, Real}
 use Rattle.fst.proofs.Records.{not-bad}
 use Rattle.signal.specs.Decode.{Indexed, codesAt, entriesIn, hasBadCode, levelsIn}
 use Rattle.signal.specs.Parts.{Levels}
-use Rattle.signal.specs.Read.{widthOf}
 use Rattle.signal.proofs.Decoding.{level-code, level-in}
 use Rattle.signal.proofs.Entries.{entries-each, entries-none}
 use Rattle.signal.proofs.Reading.{inside}
@@ -180,7 +179,7 @@ module _ (d : DerivedBitVecSignal) (inputs : Inputs) (bytes indices : List ℕ) 
     input-sound = slot-none inputs slots j h (isBadInput bytes indices) (r .stand)
 
     pub input-narrow : widthOf (x .description .encoding) ≤ 4096
-    input-narrow = width-narrow (x .description .encoding) (not-bad (x .description) (lentTo bytes indices x) input-sound .0)
+    input-narrow = width-narrow (x .description .encoding) (standing input-sound .width)
 
     module _ (w : ℕ) (q : w ≡ widthOf (x .description .encoding)) (u : List ℕ) (f : u ≡ part (x .«byte_start») (usedSize (x .description)) bytes) where
       pub whole-picking : RecordPick (wholeOf w) (x .description) u
@@ -189,8 +188,8 @@ module _ (d : DerivedBitVecSignal) (inputs : Inputs) (bytes indices : List ℕ) 
           let m = slot-none inputs slots j h (λ y. markIsBad (inputKept bytes indices y)) (sym (any-map markIsBad (inputKept bytes indices) (inputsOf inputs)) ∙ r .marked) in
           rw f
           (record {
-            stands = input-stands bytes indices x input-sound;
-            marked = λ k l. entries-each (inputKept bytes indices x) entryIsBad m k (rw (input-count bytes indices x input-sound) l);
+            stands = used-stands (standing input-sound);
+            marked = λ k l. entries-each (inputKept bytes indices x) entryIsBad m k (rw (indices-used (standing input-sound)) l);
             inside = rw q (omega arith);
           })
 
@@ -199,7 +198,7 @@ module _ (d : DerivedBitVecSignal) (inputs : Inputs) (bytes indices : List ℕ) 
       unfolding keptIn
       whole-coded b g z =
           let l = part (x .«index_start») (x .description .count) indices in
-          let t = sym (g l (input-count bytes indices x input-sound) ∙ ap (λ (v : List ℕ). any (pickIsBad (wholeOf w)) (entriesIn (keptWith (x .description) v l))) f) ∙ z in
+          let t = sym (g l (indices-used (standing input-sound)) ∙ ap (λ (v : List ℕ). any (pickIsBad (wholeOf w)) (entriesIn (keptWith (x .description) v l))) f) ∙ z in
           entries-none (inputKept bytes indices x) isUncoded
           (λ k i.
           ap hasNoCode (sym (whole-pick w (levelsIn (x .description .encoding) _) (levels-length (x .description .encoding) _ ∙ sym q)))

@@ -16,13 +16,12 @@ use Rattle.value.proofs.Levels.{all-below, bits-up, mark-set, mark-small, none-
 use Rattle.value.proofs.Lists.{Clear, any-map, clear-all, clear-more}
 use Rattle.value.proofs.Slices.{any-at, any-none, part-at, part-length}
 use Rattle.value.proofs.Tests.{by-le, or-left, or-right}
-use Rattle.fst.specs.Record.{Kept, keptIn, usedSize}
+use Rattle.fst.specs.Record.{Kept, hasNoText, keptIn, usedSize, widthOf}
 use Rattle.fst.specs.declared.Description.{Description}
 use Rattle.fst.specs.declared.Encoding.{Encoding}
 use Rattle.fst.specs.declared.Encoding.the-variants.{BitVector, Event, Real}
 use Rattle.signal.specs.Decode.{codesAt, entriesIn, entryAt, hasBadMark, levelPart, levelsIn, markIn}
 use Rattle.signal.specs.Parts.{ownStates}
-use Rattle.signal.specs.Read.{hasNoText, widthOf}
 use Rattle.signal.proofs.Decoding.{codes-length, few-bits}
 use Rattle.signal.proofs.Entries.{entries-each}
 use Rattle.signal.proofs.Reading.{Owned, inside, owned, vector, whole}
@@ -91,11 +90,11 @@ levels-as e v {x} {y} q h = ap (λ (z : Encoding). hasNoCode (pickedOf e (levels
 
 -- an entry of a record that a piece picks from
 pub picks : (e : Extract) (d : Description) (used : List ℕ) → RecordPick e d used → (w : ℕ) (M : States) → d .encoding ≡ BitVector w M → (k : ℕ) → k < d .count
-    → EntryPick e w M (entryAt d 0 used k)
+    → EntryPick e w M (entryAt (d .encoding) 0 used k)
 picks e d used p w M q k h =
     record {
-      whole = vector q (whole d used 0 k (p .stands) h);
-      marked = ap (λ (x : Encoding). hasBadMark x (entryAt d 0 used k)) (sym q) ∙ p .marked k h;
+      whole = vector q (whole (record { sound = p .stands; below = h }));
+      marked = ap (λ (x : Encoding). hasBadMark x (entryAt (d .encoding) 0 used k)) (sym q) ∙ p .marked k h;
       inside = rw q at (p .inside);
     }
 
@@ -209,8 +208,8 @@ module _ (d : DerivedBitVecSignal) (inputs : Inputs) (bytes indices : List ℕ) 
       let n = piece-is d bits (f .sound) i h e is in
       let b = any-none (isBeyond (keptAll bytes indices inputs)) (piecesOf d) (f .within) i (extractOf 0) (rw (pieces-count d bits (f .sound)) h) in
       record {
-        stands = input-stands bytes indices x input-good;
-        marked = λ k l. entries-each (inputKept bytes indices x) entryIsBad m k (rw (input-count bytes indices x input-good) l);
+        stands = used-stands (standing input-good);
+        marked = λ k l. entries-each (inputKept bytes indices x) entryIsBad m k (rw (indices-used (standing input-good)) l);
         inside = ltb-false _ _ (sym (beyond-told inputs slots bytes indices e signal-low) ∙ ap (isBeyond (keptAll bytes indices inputs)) (sym n) ∙ b);
       }
 
@@ -221,5 +220,5 @@ module _ (d : DerivedBitVecSignal) (inputs : Inputs) (bytes indices : List ℕ) 
   picks-told r b u q g z =
       let l = part (x .«index_start») (x .description .count) indices in
       code-told inputs slots bytes indices e signal-low
-      ∙ sym (g l (input-count bytes indices x input-good) ∙ ap (λ (v : List ℕ). any (pickIsBad e) (entriesIn (keptWith (x .description) v l))) q)
+      ∙ sym (g l (indices-used (standing input-good)) ∙ ap (λ (v : List ℕ). any (pickIsBad e) (entriesIn (keptWith (x .description) v l))) q)
       ∙ z

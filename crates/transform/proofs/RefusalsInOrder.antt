@@ -81,7 +81,7 @@ module _ (d : DerivedBitVecSignal) (inputs : Inputs) (bytes indices : List ℕ) 
   module _ {A : Type 0} (out : Lent) (r : Reply A) where
     pub derive-refused : (n : ℕ) → first ≡ refused n → tried (deriveRefusals d inputs bytes indices out) r ≡ refused n
     unfolding firstTests deriveRefusals tried
-    derive-refused n = go bad (isUnfit d (inputs .count) ks) (any startsLate ks) (any indicesFall ks) (any markIsBad ks) (any (codeIsBad ks) (piecesOf d)) (not (fits ((derivedKept d ks) .description) out))
+    derive-refused n = go bad (isUnfit d (inputs .count) ks) (any startsLate ks) (any indicesFall ks) (any markIsBad ks) (any (codeIsBad ks) (piecesOf d)) (lacksRoom (derivedKept d ks) out)
       where
         alike : (m : ℕ) → _≡_ {A = Reply Unit} (refused m) (refused n) → _≡_ {A = Reply A} (refused m) (refused n)
         alike m e = let z : m ≡ n = cc in rw z
@@ -96,6 +96,6 @@ module _ (d : DerivedBitVecSignal) (inputs : Inputs) (bytes indices : List ℕ) 
         go false false false false false true i q = alike 10 q
         go false false false false false false i q = let z : _≡_ {A = ℕ} 0 1 = cc in absurd (omega arith)
 
-    pub derive-room : Derivable d inputs bytes indices → tried (deriveRefusals d inputs bytes indices out) r ≡ tried (7 ⇐ not (fits ((derivedKept d ks) .description) out) ∷ []) r
+    pub derive-room : Derivable d inputs bytes indices → tried (deriveRefusals d inputs bytes indices out) r ≡ tried (7 ⇐ lacksRoom (derivedKept d ks) out ∷ []) r
     unfolding deriveRefusals tried
     derive-room k = rw (k .stand, k .fit, k .begun, k .rising, k .marked, k .coded)

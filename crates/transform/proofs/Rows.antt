@@ -10,7 +10,7 @@ use Rattle.value.specs.Slice.{any, overlay, part, same, sum}
 use Rattle.value.specs.declared.States.the-variants.{Four}
 use Rattle.layout.specs.Entry.{entryOf, entrySize, widenAll, widenEntry}
 use Rattle.fst.specs.Change.{appended, Recorder, addChange, changed, isBelowLast, isForeign, isOtherKind, isOtherLength, refusals, repeats, stored}
-use Rattle.fst.specs.Record.{Kept, fits, fitsBytes, fresh, isBad, keptIn, widthStands}
+use Rattle.fst.specs.Record.{Kept, fits, fitsBytes, fresh, hasNoText, isBad, keptIn, widthStands}
 use Rattle.fst.specs.Refusal.{given, tried}
 use Rattle.fst.specs.declared.Encoding.the-variants.{BitVector}
 use Rattle.fst.proofs.Rows as written
@@ -18,7 +18,6 @@ use Rattle.fst.proofs.Rows.{around, lentBy, kept, row, accepted}
 use Rattle.runs.specs.Runs.{endsLike, entriesOf, joined, laidOut}
 use Rattle.signal.specs.Decode.{entriesFrom, entryAt, hasBadMark, levelPart, levelsIn, markIn, setIn}
 use Rattle.signal.specs.Offset.{falls}
-use Rattle.signal.specs.Read.{hasNoText}
 use Rattle.signal.proofs.Rows as sought
 use Rattle.derivation.specs.Piece.{addPiece, adjoin, derivationWith, emptyDerivation, extractOf, isBadDerivation, isBadPiece, isBadRange, isOverfull, merging, nameAdded, packedOf, pieceAdded, sliceOf}
 use Rattle.steps.specs.Steps.{keptSteps, momentsFrom, momentsOf, moved, smallest}
@@ -35,20 +34,20 @@ record Sliced : Type 0 where
   lsb : ℕ
   makes : Kept
 
-input : Recorder → Input
+input : Recorder Description → Input
 input r = record { description = r .description; «byte_start» = (lentBy r) .byteStart; «index_start» = (lentBy r) .indexStart }
 
 alone : Input → Inputs
 alone i = record { count = 1; slots = replicate 8 i }
 
-source : written.Row → Recorder
+source : written.Row → Recorder Description
 source r = written.played (around (r .byteRoom) (r .indexRoom) (r .from)) (r .calls)
 
 -- the record at the front of five bytes and five indices
 front : Kept → Derived
 front k =
     record {
-      answer = given (k .description);
+      answer = given (described (k .encoding) (length (k .indices)));
       bytes = k .bytes ++ replicate (5 - length (k .bytes)) 0xDD;
       indices = k .indices ++ replicate (5 - length (k .indices)) 90;
     }

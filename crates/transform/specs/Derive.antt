@@ -10,14 +10,13 @@ use Rattle.value.specs.Level.{hasNoCode, joinAll, markOf, textOf}
 use Rattle.value.specs.Slice.{any, overlay, part, same}
 use Rattle.value.specs.declared.States.{States}
 use Rattle.value.specs.declared.States.the-variants.{Two}
-use Rattle.fst.specs.Record.{Kept, Lent, fits, largestIn}
+use Rattle.fst.specs.Record.{Kept, Lent, fits, largestIn, widthOf}
 use Rattle.fst.specs.Refusal.{Reply, Test, _⇐_, given, madeOf, refused, tried}
 use Rattle.fst.specs.declared.Description.{Description}
 use Rattle.fst.specs.declared.Encoding.the-variants.{Event}
 use Rattle.fst.specs.declared.Made.{Made}
 use Rattle.runs.specs.Runs.{Step, laidOut}
 use Rattle.signal.specs.Decode.{Indexed, entriesIn, levelsIn}
-use Rattle.signal.specs.Read.{widthOf}
 use Rattle.derivation.specs.Piece.{endOf, isBadDerivation, piecesOf}
 use Rattle.derivation.specs.declared.DerivedBitVecSignal.{DerivedBitVecSignal}
 use Rattle.derivation.specs.declared.Extract.{Extract}
@@ -64,7 +63,7 @@ derivedList es ks = keptSteps (yielded es) sameStep ks
 
 -- "The largest set is the largest of the inputs' largest sets"
 abbrev pub largestAmong : List Kept → States
-largestAmong ks = joinAll (map (λ (k : Kept). largestIn (k .description .encoding)) ks)
+largestAmong ks = joinAll (map (λ (k : Kept). largestIn (k .encoding)) ks)
 
 -- "After every accepted Derive the record is this list laid out"
 abbrev pub derivedKept : DerivedBitVecSignal → List Kept → Kept
@@ -94,7 +93,7 @@ codeIsBad ks e = any (pickIsBad e) (getD (map entriesIn ks) (e .signal) [])
 
 -- "output slices are separate", and written from their front
 abbrev pub lentOut : List ℕ → List ℕ → Lent
-lentOut bytes indices = record { bytes = bytes; byteStart = 0; indices = indices; indexStart = 0 }
+lentOut bytes indices = lent bytes 0 indices 0
 
 -- "Each number is tried over all inputs before the next"
 unfoldable pub deriveRefusals : DerivedBitVecSignal → Inputs → List ℕ → List ℕ → Lent → List Test
@@ -106,7 +105,7 @@ deriveRefusals d inputs bytes indices out =
     ∷ 11 ⇐ any indicesFall ks
     ∷ 9 ⇐ any markIsBad ks
     ∷ 10 ⇐ any (codeIsBad ks) (piecesOf d)
-    ∷ 7 ⇐ not (fits ((derivedKept d ks) .description) out)
+    ∷ 7 ⇐ lacksRoom (derivedKept d ks) out
     ∷ []
 
 -- what Derive leaves: the number or the description, and the output slices
@@ -118,7 +117,11 @@ pub record Derived : Type 0 where
 abbrev pub derivedBy : Lent → Reply Kept → Derived
 derivedBy out (refused n) = record { answer = refused n; bytes = out .bytes; indices = out .indices }
 derivedBy out (given k) =
-    record { answer = given (k .description); bytes = overlay (out .bytes) 0 (k .bytes); indices = overlay (out .indices) 0 (k .indices) }
+    record {
+      answer = given (described (k .encoding) (length (k .indices)));
+      bytes = overlay (out .bytes) 0 (k .bytes);
+      indices = overlay (out .indices) 0 (k .indices);
+    }
 
 -- the derived list of what Derive is given
 abbrev pub derivedFrom : DerivedBitVecSignal → Inputs → List ℕ → List ℕ → List Step

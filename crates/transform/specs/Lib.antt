@@ -1,3 +1,4 @@
 pub mod Derive
+pub mod Accepted
 pub mod Refusals
 pub mod Picking

@@ -6,7 +6,7 @@ use mathlib.Core.List.{List, [], _∷_}
 use mathlib.Core.Path.{_≡_}
 use Rattle.value.specs.Slice.{any}
 use Rattle.value.specs.declared.States.{States}
-use Rattle.fst.specs.Record.{isBadBytes}
+use Rattle.fst.specs.Record.{isBadBytes, widthOf}
 use Rattle.fst.specs.Refusal.{Reply, Test, given, refused, number, _⇐_}
 use Rattle.fst.specs.declared.Description.{Description}
 use Rattle.fst.specs.declared.Encoding.the-variants.{BitVector}
@@ -14,7 +14,6 @@ use Rattle.fst.specs.declared.Verdict.{Verdict}
 use Rattle.fst.specs.declared.Verdict.the-variants.{Accepted, Refused}
 use Rattle.signal.specs.Decode.{entryAt, hasBadMark}
 use Rattle.signal.specs.Parts.{Whole}
-use Rattle.signal.specs.Read.{widthOf}
 use Rattle.derivation.specs.Piece.{endOf, isBadDerivation, piecesOf}
 use Rattle.derivation.specs.declared.DerivedBitVecSignal.{DerivedBitVecSignal}
 use Rattle.derivation.specs.declared.Extract.{Extract}
@@ -37,7 +36,7 @@ pub record EntryPick (e : Extract) (w : ℕ) (M : States) (v : List ℕ) : Type 
 -- a piece of a record each of whose marks is a set's
 pub record RecordPick (e : Extract) (d : Description) (used : List ℕ) : Type 0 where
   pub stands : isBadBytes d 0 used ≡ false
-  pub marked : (k : ℕ) → k < d .count → hasBadMark (d .encoding) (entryAt d 0 used k) ≡ false
+  pub marked : (k : ℕ) → k < d .count → hasBadMark (d .encoding) (entryAt (d .encoding) 0 used k) ≡ false
   pub inside : endOf e ≤ widthOf (d .encoding)
 
 -- ---- all inputs and pieces

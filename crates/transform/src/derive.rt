@@ -4,6 +4,7 @@ ghost use Prim.Native.Nat.{_≤_};
 ghost use lib.ListN.{length};
 ghost use Rattle.layout.specs.Entry.{entrySize};
 ghost use Rattle.fst.specs.declared.Encoding.the-variants.{BitVector};
+ghost use Rattle.fst.specs.Record.{described};
 ghost use Rattle.fst.specs.Refusal.{given, madeOf};
 ghost use Rattle.steps.specs.Inputs.{inputsOf};
 ghost use Rattle.steps.specs.Room.{roomFor};
@@ -18,10 +19,10 @@ use derivation::DerivedBitVecSignal;
 use fst::Description;
 use fst::Encoding;
 use fst::Made;
+use fst::NextIndex;
 use fst::Refusal;
 use fst::Verdict;
 use layout::entry::entry_size;
-use signal::NextIndex;
 use steps::Inputs;
 use steps::room::has_room;
 use steps::room::total_count;
@@ -29,7 +30,6 @@ use steps::step::advance;
 use steps::step::next_index;
 use steps::store::append_step;
 use steps::store::put_index;
-use steps::table::largest_in;
 use steps::table::table_of;
 use value::States;
 
@@ -85,7 +85,7 @@ fn largest_states(inputs: Inputs) -> States
         let input = inputs.slots[i];
         let description = input.description;
         let encoding = description.encoding;
-        states = States::join(largest_in(encoding), states);
+        states = States::join(encoding.largest(), states);
     }
     states
 }
@@ -124,12 +124,10 @@ fn steps_fit(
 
 // The description of so many levels' entries as an answer.
 fn record_of(width: u32, max_states: States, count: u32) -> Made
-    ensures { λ r. ⌜ madeOf r ≡ given (record { encoding = BitVector width «max_states»; count = count }) ⌝ }
+    ensures { λ r. ⌜ madeOf r ≡ given (described (BitVector width «max_states») count) ⌝ }
 {
-    Made::Record(Description {
-        encoding: Encoding::BitVector { width, max_states },
-        count,
-    })
+    let encoding = Encoding::BitVector { width, max_states };
+    Made::Record(Description::new(encoding, count))
 }
 
 // Derive where no number before 7 refuses. Nothing is stored before it is known that all fits.

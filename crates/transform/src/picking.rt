@@ -15,8 +15,8 @@ ghost use Rattle.transform.specs.Picking.{largestNow, pickedNow, Picks, 
 use derivation::Extract;
 use signal::decode::code_at;
 use signal::decode::level_part;
+use signal::decode::states_in;
 use steps::step::shown_entry;
-use steps::step::states_in;
 use steps::table::MARKS;
 use steps::table::WIDTHS;
 use value::States;

@@ -32,7 +32,6 @@ use steps::Inputs;
 use steps::refusals::any_fails;
 use steps::refusals::used_part;
 use steps::refusals::used_slots;
-use steps::table::width_of;
 use value::States;
 
 // Whether a piece is beyond the width of its input.
@@ -47,7 +46,7 @@ fn any_beyond(derivation: DerivedBitVecSignal, inputs: Inputs) -> bool
         let input = inputs.slots[extract.signal as usize];
         let description = input.description;
         let encoding = description.encoding;
-        if (width_of(encoding) as u64) < extract.end() {
+        if (encoding.width() as u64) < extract.end() {
             return true;
         }
         i += 1;
@@ -189,7 +188,7 @@ fn all_coded(derivation: DerivedBitVecSignal, inputs: Inputs, bytes: &[u8], indi
         let input = inputs.slots[i];
         let description = input.description;
         let encoding = description.encoding;
-        let width = width_of(encoding);
+        let width = encoding.width();
         if 64 * derivation.piece_count < width {
             return false;
         }

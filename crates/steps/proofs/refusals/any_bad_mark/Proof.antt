@@ -18,7 +18,7 @@ use Rattle.steps.proofs.refusals.any_bad_mark.Tie as tie
 
 abbrev Inv-loop : tie.InvT-loop
 Inv-loop description used max-states most count k₀ k =
-    (k ≤ count) × ((j : ℕ) → j < k → hasBadMark (description .encoding) (entryAt description 0 used j) ≡ false)
+    (k ≤ count) × ((j : ℕ) → j < k → hasBadMark (description .encoding) (entryAt (description .encoding) 0 used j) ≡ false)
 
 abbrev μ-loop : tie.MeasureT-loop
 μ-loop description used max-states most count k₀ k = count - k
@@ -40,14 +40,14 @@ loop-holds c = (omega arith, λ j h. absurd (omega arith))
 entry-at-requires : tie.Need-entry-at-requires Inv-loop μ-loop
 entry-at-requires c κs =
     let s = c .before .before .before .before .before .before .before in
-    inside (s .args .description) (now (s .args .used)) 0 (c .before .loop .k) (s .pre) (c .loop-test .taken)
+    inside (record { sound = s .pre; below = c .loop-test .taken })
 
 mark-in-requires : tie.Need-mark-in-requires Inv-loop μ-loop
 mark-in-requires c κs =
     let t = c .before in
     let e = t .before .before .before .before in
     let s = e .before .before .before in
-    let w = whole (s .args .description) (now (s .args .used)) 0 (t .before .loop .k) (s .pre) (t .loop-test .taken) in
+    let w = whole (record { sound = s .pre; below = t .loop-test .taken }) in
     rw (c .entry-at .ensures) (some (vector (e .encoding .given .1) w))
 
 returns-2 : tie.Need-returns-2 Inv-loop μ-loop

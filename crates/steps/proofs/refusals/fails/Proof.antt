@@ -34,7 +34,7 @@ used-indices-requires : tie.Need-used-indices-requires
 used-indices-requires c κs =
     let s = c .before .before .before .before .before in
     let a = s .args in
-    input-fits (now (a .bytes)) (now (a .indices)) (a .input) (s .pre (ap isFirst (c .enum-told3 .given .1))) .indices
+    standing (s .pre (ap isFirst (c .enum-told3 .given .1))) .room .indices
 
 is-late-requires : tie.Need-is-late-requires
 is-late-requires c κs = search needs
@@ -46,7 +46,7 @@ used-indices-requires-2 : tie.Need-used-indices-requires-2
 used-indices-requires-2 c κs =
     let s = c .before .before .before .before .before in
     let a = s .args in
-    input-fits (now (a .bytes)) (now (a .indices)) (a .input) (s .pre (ap isFirst (c .enum-told4 .given .1))) .indices
+    standing (s .pre (ap isFirst (c .enum-told4 .given .1))) .room .indices
 
 falls-requires : tie.Need-falls-requires
 falls-requires c κs = search needs
@@ -58,14 +58,14 @@ used-part-requires : tie.Need-used-part-requires
 used-part-requires c κs =
     let s = c .before .before .before .before .before in
     let a = s .args in
-    input-fits (now (a .bytes)) (now (a .indices)) (a .input) (s .pre (ap isFirst (c .enum-told5 .given .1))) .bytes
+    standing (s .pre (ap isFirst (c .enum-told5 .given .1))) .room .bytes
 
 any-bad-mark-requires : tie.Need-any-bad-mark-requires
 any-bad-mark-requires c κs =
     let t = c .before in
     let s = t .before .before .before .before .before in
     let a = s .args in
-    rw (c .used-part .ensures) (input-stands (now (a .bytes)) (now (a .indices)) (a .input) (s .pre (ap isFirst (t .enum-told5 .given .1))))
+    rw (c .used-part .ensures) (used-stands (standing (s .pre (ap isFirst (t .enum-told5 .given .1)))))
 
 returns : tie.Need-returns
 returns c =
@@ -108,7 +108,7 @@ returns-5 c =
     let a = s .args in
     let x = a .input in
     let l = part (x .«index_start») (x .description .count) (now (a .indices)) in
-    c .any-bad-mark .ensures l (input-count (now (a .bytes)) (now (a .indices)) x (s .pre (ap isFirst (t .enum-told5 .given .1))))
+    c .any-bad-mark .ensures l (indices-used (standing (s .pre (ap isFirst (t .enum-told5 .given .1)))))
     ∙ ap (λ (u : List ℕ). markIsBad (keptWith (x .description) u l)) (c .before .used-part .ensures)
     ∙ ap (λ (y : InputTest). failsBy y (now (a .bytes)) (now (a .indices)) x) (sym (t .enum-told5 .given .1))
 

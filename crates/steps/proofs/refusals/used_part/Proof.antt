@@ -12,14 +12,14 @@ use Rattle.steps.proofs.refusals.used_part.Statement.{statement}
 use Rattle.steps.proofs.refusals.used_part.Tie as tie
 
 -- the part lies within the bytes
-placed : (c : tie.After-size-of) → c .before .before .before .before .args .input .«byte_start» + c .before .before .before .before .args .input .description .count * c .size-of .result ≤ length (now (c .before .before .before .before .args .bytes))
-placed c = rw (c .size-of .ensures) (c .before .before .before .before .pre)
+placed : (c : tie.After-size) → c .before .before .before .before .args .input .«byte_start» + c .before .before .before .before .args .input .description .count * c .size .result ≤ length (now (c .before .before .before .before .args .bytes))
+placed c = rw (c .size .ensures) (c .before .before .before .before .pre)
 
 cast-n : tie.Need-cast-n
 cast-n c = search needs
 
-size-of-requires : tie.Need-size-of-requires
-size-of-requires c κs = search needs
+size-requires : tie.Need-size-requires
+size-requires c κs = search needs
 
 mul-n : tie.Need-mul-n
 mul-n c = omega (arith, placed c)
@@ -43,15 +43,15 @@ returns c =
     let a = b .before .before .before .before .args in
     let s = a .input .«byte_start» in
     let n = a .input .description .count in
-    ap (λ (k : ℕ). part s k (now (a .bytes))) (add-sub-cancel-left s (n * b .size-of .result))
-    ∙ ap (λ (z : ℕ). part s (n * z) (now (a .bytes))) (b .size-of .ensures)
+    ap (λ (k : ℕ). part s k (now (a .bytes))) (add-sub-cancel-left s (n * b .size .result))
+    ∙ ap (λ (z : ℕ). part s (n * z) (now (a .bytes))) (b .size .ensures)
 
 pub used-part-spec : {M : Type 1} → statement M
 used-part-spec =
     tie.close
     (tie.spec
     cast-n
-    size-of-requires
+    size-requires
     mul-n
     add-result
     sub-result

@@ -4,7 +4,7 @@ use borrow.Author.Needs.{needs}
 use denote.Ref.{now}
 use mathlib.Core.Path.{_∙_, _≡_, sym}
 use native.Mathlib.Omega.{arith}
-use Rattle.signal.specs.declared.NextIndex.the-variants.{At}
+use Rattle.fst.specs.declared.NextIndex.the-variants.{At}
 use Rattle.steps.specs.Stepping.{cursor, nextIn}
 use Rattle.steps.proofs.Loops.{begun-none, begun-on, begun-stays, next-within}
 use Rattle.steps.proofs.step.begun_at.Statement.{statement}

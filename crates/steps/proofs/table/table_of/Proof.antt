@@ -7,7 +7,7 @@ use mathlib.Core.Bool.{false}
 use mathlib.Core.Path.{_∙_, _≡_, ap}
 use native.Mathlib.Omega.{arith}
 use Rattle.value.specs.Level.{markOf}
-use Rattle.signal.specs.Read.{hasNoText}
+use Rattle.fst.specs.Record.{hasNoText}
 use Rattle.steps.proofs.InputTests.{slotted}
 use Rattle.steps.proofs.Loops.{input-at}
 use Rattle.steps.proofs.Tables.{Rows, rows-more, table-done}
@@ -39,8 +39,8 @@ mul-numbers c = omega arith
 array-write-numbers : tie.Need-array-write-numbers Inv-loop μ-loop
 array-write-numbers c = omega arith
 
-width-of-requires : tie.Need-width-of-requires Inv-loop μ-loop
-width-of-requires c κs = search needs
+width-requires : tie.Need-width-requires Inv-loop μ-loop
+width-requires c κs = search needs
 
 add-numbers : tie.Need-add-numbers Inv-loop μ-loop
 add-numbers c = omega arith
@@ -51,8 +51,8 @@ mul-numbers-2 c = omega arith
 array-write-numbers-2 : tie.Need-array-write-numbers-2 Inv-loop μ-loop
 array-write-numbers-2 c = omega arith
 
-largest-in-requires : tie.Need-largest-in-requires Inv-loop μ-loop
-largest-in-requires c κs = search needs
+largest-requires : tie.Need-largest-requires Inv-loop μ-loop
+largest-requires c κs = search needs
 
 mark-requires : tie.Need-mark-requires Inv-loop μ-loop
 mark-requires c κs = search needs
@@ -84,8 +84,8 @@ mul-starts-2 c = omega arith
 array-write-starts-2 : tie.Need-array-write-starts-2 Inv-loop μ-loop
 array-write-starts-2 c = omega arith
 
-size-of-requires : tie.Need-size-of-requires Inv-loop μ-loop
-size-of-requires c κs = search needs
+size-requires : tie.Need-size-requires Inv-loop μ-loop
+size-requires c κs = search needs
 
 add-starts-2 : tie.Need-add-starts-2 Inv-loop μ-loop
 add-starts-2 c = omega arith
@@ -114,7 +114,7 @@ loop-again c =
       omega arith,
       rows-more (s .args .t1) (l .loop .numbers) (l .loop .starts) (l .loop .i) (omega (arith, s .pre .few)) (l .loop .inv .1) _ _ _
           (input-at (s .args .t1) (s .pre .few) slots (l .loop .i) h (λ i. hasNoText (i .description .encoding) ≡ false) (s .pre .vectors))
-          (w .width-of .ensures) (k .mark .ensures ∙ ap markOf (g .largest-in .ensures)) (c .size-of .ensures),
+          (w .width .ensures) (k .mark .ensures ∙ ap markOf (g .largest .ensures)) (c .size .ensures),
     )
 
 returns : tie.Need-returns Inv-loop μ-loop
@@ -136,11 +136,11 @@ table-of-spec =
     element-copy-out-input
     mul-numbers
     array-write-numbers
-    width-of-requires
+    width-requires
     add-numbers
     mul-numbers-2
     array-write-numbers-2
-    largest-in-requires
+    largest-requires
     mark-requires
     cast-numbers
     add-numbers-2
@@ -151,7 +151,7 @@ table-of-spec =
     add-starts
     mul-starts-2
     array-write-starts-2
-    size-of-requires
+    size-requires
     add-starts-2
     mul-starts-3
     array-write-starts-3

@@ -33,8 +33,8 @@ mul-input c = omega arith
 element-copy-out-input : tie.Need-element-copy-out-input Inv-loop μ-loop
 element-copy-out-input c = omega arith
 
-largest-in-requires : tie.Need-largest-in-requires Inv-loop μ-loop
-largest-in-requires c κs = search needs
+largest-requires : tie.Need-largest-requires Inv-loop μ-loop
+largest-requires c κs = search needs
 
 join-requires : tie.Need-join-requires Inv-loop μ-loop
 join-requires c κs = search needs
@@ -49,7 +49,7 @@ loop-again c =
     let s = l .before in (
       omega arith,
       c .join .ensures
-          ∙ over-more (s .args .t1) (s .pre) (slotted (s .args .t1) _ (s .good .0)) (l .loop .i - 1) (omega arith) _ _ (n .largest-in .ensures) (l .loop .i) (omega arith) (l .loop .inv .1),
+          ∙ over-more (s .args .t1) (s .pre) (slotted (s .args .t1) _ (s .good .0)) (l .loop .i - 1) (omega arith) _ _ (n .largest .ensures) (l .loop .i) (omega arith) (l .loop .inv .1),
     )
 
 returns : tie.Need-returns Inv-loop μ-loop
@@ -69,7 +69,7 @@ largest-states-spec =
     sub-i
     mul-input
     element-copy-out-input
-    largest-in-requires
+    largest-requires
     join-requires
     loop-less
     loop-again

@@ -12,7 +12,7 @@ use Rattle.value.specs.Level.{textOf}
 use Rattle.value.specs.Slice.{overlay}
 use Rattle.layout.specs.Entry.{entrySize}
 use Rattle.fst.specs.Record.{Kept}
-use Rattle.signal.specs.declared.NextIndex.the-variants.{At}
+use Rattle.fst.specs.declared.NextIndex.the-variants.{At}
 use Rattle.derivation.specs.Piece.{extractOf, piecesOf}
 use Rattle.steps.specs.Inputs.{keptAll}
 use Rattle.steps.specs.Stepping.{cursorsOf, soonest}

@@ -38,7 +38,7 @@ module _ (t : tie.In-loop Inv-loop μ-loop) where
   low = rw (l .before .used-slots .ensures) at (t .loop-test .taken)
 
 -- its width
-module _ (v : tie.After-width-of Inv-loop μ-loop) where
+module _ (v : tie.After-width Inv-loop μ-loop) where
   abbrev t : tie.In-loop Inv-loop μ-loop
   t = v .before .before .before
 
@@ -59,8 +59,8 @@ mul-input c = omega arith
 element-copy-out-input : tie.Need-element-copy-out-input Inv-loop μ-loop
 element-copy-out-input c = omega arith
 
-width-of-requires : tie.Need-width-of-requires Inv-loop μ-loop
-width-of-requires c κs = search needs
+width-requires : tie.Need-width-requires Inv-loop μ-loop
+width-requires c κs = search needs
 
 mul-if1 : tie.Need-mul-if1 Inv-loop μ-loop
 mul-if1 c =
@@ -76,21 +76,20 @@ cast-t20 : tie.Need-cast-t20 Inv-loop μ-loop
 cast-t20 c =
     let v = c .before .before in
     let s = a v in
-    omega (arith, v .width-of .ensures, input-narrow (s .args .derivation) (s .args .t2) (now (s .args .bytes)) (now (s .args .indices)) (slots (t v)) (s .pre) (l (t v) .loop .i) (low (t v)))
+    omega (arith, v .width .ensures, input-narrow (s .args .derivation) (s .args .t2) (now (s .args .bytes)) (now (s .args .indices)) (slots (t v)) (s .pre) (l (t v) .loop .i) (low (t v)))
 
 used-part-requires : tie.Need-used-part-requires Inv-loop μ-loop
 used-part-requires c κs =
     let v = c .before .before in
     let s = a v in
     let i = l (t v) .loop .i in
-    input-fits (now (s .args .bytes)) (now (s .args .indices)) (getD (s .args .t2 .slots) i noInput)
-    (input-sound (s .args .derivation) (s .args .t2) (now (s .args .bytes)) (now (s .args .indices)) (slots (t v)) (s .pre) i (low (t v))) .bytes
+    standing (input-sound (s .args .derivation) (s .args .t2) (now (s .args .bytes)) (now (s .args .indices)) (slots (t v)) (s .pre) i (low (t v))) .room .bytes
 
 any-bad-pick-requires : tie.Need-any-bad-pick-requires Inv-loop μ-loop
 any-bad-pick-requires c κs =
     let v = c .before .before .before in
     let s = a v in
-    whole-picking (s .args .derivation) (s .args .t2) (now (s .args .bytes)) (now (s .args .indices)) (slots (t v)) (s .pre) (l (t v) .loop .i) (low (t v)) (v .width-of .result) (v .width-of .ensures) _ (c .used-part .ensures)
+    whole-picking (s .args .derivation) (s .args .t2) (now (s .args .bytes)) (now (s .args .indices)) (slots (t v)) (s .pre) (l (t v) .loop .i) (low (t v)) (v .width .result) (v .width .ensures) _ (c .used-part .ensures)
 
 returns-2 : tie.Need-returns-2 Inv-loop μ-loop
 returns-2 c e = absurd (true≢false (sym e))
@@ -110,7 +109,7 @@ loop-again c =
     let i = l (t v) .loop .i in (
       omega arith,
       slot-more (s .args .t2) (slots (t v)) i (low (t v)) (uncoded (now (s .args .bytes)) (now (s .args .indices)))
-          (whole-coded (s .args .derivation) (s .args .t2) (now (s .args .bytes)) (now (s .args .indices)) (slots (t v)) (s .pre) i (low (t v)) (v .width-of .result) (v .width-of .ensures) _ (u .used-part .ensures)
+          (whole-coded (s .args .derivation) (s .args .t2) (now (s .args .bytes)) (now (s .args .indices)) (slots (t v)) (s .pre) i (low (t v)) (v .width .result) (v .width .ensures) _ (u .used-part .ensures)
           _ (b .any-bad-pick .ensures) (c .if2 .left))
           (l (t v) .loop .inv .1),
     )
@@ -133,7 +132,7 @@ all-coded-spec =
     loop-holds
     mul-input
     element-copy-out-input
-    width-of-requires
+    width-requires
     mul-if1
     returns
     cast-t20

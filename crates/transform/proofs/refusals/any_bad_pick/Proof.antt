@@ -19,7 +19,7 @@ use Rattle.transform.proofs.refusals.any_bad_pick.Tie as tie
 
 abbrev Inv-loop : tie.InvT-loop
 Inv-loop extract description used width max-states count k₀ k =
-    (k ≤ count) × ((j : ℕ) → j < k → hasNoCode (pickedOf extract (levelsIn (description .encoding) (entryAt description 0 used j))) ≡ false)
+    (k ≤ count) × ((j : ℕ) → j < k → hasNoCode (pickedOf extract (levelsIn (description .encoding) (entryAt (description .encoding) 0 used j))) ≡ false)
 
 abbrev μ-loop : tie.MeasureT-loop
 μ-loop extract description used width max-states count k₀ k = count - k
@@ -53,7 +53,7 @@ loop-holds c = (omega arith, λ j h. absurd (omega arith))
 entry-at-requires : tie.Need-entry-at-requires Inv-loop μ-loop
 entry-at-requires c κs =
     let s = c .before .before .before .before .before .before .before .before in
-    inside (s .args .description) (now (s .args .used)) 0 (c .before .loop .k) (s .pre .stands) (c .loop-test .taken)
+    inside (record { sound = s .pre .stands; below = c .loop-test .taken })
 
 has-bad-pick-requires : tie.Need-has-bad-pick-requires Inv-loop μ-loop
 has-bad-pick-requires c κs =

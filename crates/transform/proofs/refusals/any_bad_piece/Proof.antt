@@ -93,8 +93,7 @@ used-part-requires : tie.Need-used-part-requires Inv-loop μ-loop
 used-part-requires c κs =
     let f = c .before .before .before in
     let a = start f .args in
-    input-fits (now (a .bytes)) (now (a .indices)) (getD (a .t2 .slots) (f .from-u64 .result .signal) noInput)
-    (input-good (a .t1) (a .t2) (now (a .bytes)) (now (a .indices)) (bits f) (full f) (start f .pre) (l f .loop .i) (f .before .before .loop-test .taken) (f .from-u64 .result) (f .from-u64 .ensures)) .bytes
+    standing (input-good (a .t1) (a .t2) (now (a .bytes)) (now (a .indices)) (bits f) (full f) (start f .pre) (l f .loop .i) (f .before .before .loop-test .taken) (f .from-u64 .result) (f .from-u64 .ensures)) .room .bytes
 
 any-bad-pick-requires : tie.Need-any-bad-pick-requires Inv-loop μ-loop
 any-bad-pick-requires c κs =

@@ -59,8 +59,8 @@ mul-input c = omega (arith, low (c .before))
 element-copy-out-input : tie.Need-element-copy-out-input Inv-loop μ-loop
 element-copy-out-input c = omega (arith, low (c .before))
 
-width-of-requires : tie.Need-width-of-requires Inv-loop μ-loop
-width-of-requires c κs = search needs
+width-requires : tie.Need-width-requires Inv-loop μ-loop
+width-requires c κs = search needs
 
 cast-if1 : tie.Need-cast-if1 Inv-loop μ-loop
 cast-if1 c = search needs
@@ -81,7 +81,7 @@ returns c bytes indices =
     let bits = (sized (a .t1) _ (s .good .0)) .bits in
     sym
     (piece-one (a .t1) bits (s .pre .sound) (l .loop .i) (t .loop-test .taken) (f .from-u64 .result) (f .from-u64 .ensures) (isBeyond (keptAll bytes indices (a .t2)))
-    (beyond-is (a .t2) full bytes indices (f .from-u64 .result) (low f) _ _ (w .width-of .ensures) (n .end .ensures) (c .if1 .taken)))
+    (beyond-is (a .t2) full bytes indices (f .from-u64 .result) (low f) _ _ (w .width .ensures) (n .end .ensures) (c .if1 .taken)))
 
 add-i : tie.Need-add-i Inv-loop μ-loop
 add-i c = omega arith
@@ -103,7 +103,7 @@ loop-again c =
       omega arith,
       λ bytes indices.
           piece-more (a .t1) bits (s .pre .sound) (l .loop .i) (t .loop-test .taken) (f .from-u64 .result) (f .from-u64 .ensures) (isBeyond (keptAll bytes indices (a .t2)))
-          (beyond-not (a .t2) full bytes indices (f .from-u64 .result) (low f) _ _ (w .width-of .ensures) (n .end .ensures) (c .if1 .left))
+          (beyond-not (a .t2) full bytes indices (f .from-u64 .result) (low f) _ _ (w .width .ensures) (n .end .ensures) (c .if1 .left))
           (l .loop .inv .1 bytes indices),
     )
 
@@ -128,7 +128,7 @@ any-beyond-spec =
     cast-input
     mul-input
     element-copy-out-input
-    width-of-requires
+    width-requires
     cast-if1
     end-requires
     returns
