@@ -16,14 +16,14 @@ use Rattle.value.specs.Level.{markOf}
 use Rattle.value.specs.Slice.{any, part}
 use Rattle.value.specs.declared.States.{States}
 use Rattle.value.proofs.Lists.{Clear, at-any, clear-all, clear-more}
-use Rattle.value.proofs.Slices.{any-at, any-none, part-length}
-use Rattle.fst.specs.Record.{Kept, fitsBytes, hasNoText, isBadBytes, maximum, usedSize}
+use Rattle.value.proofs.Slices.{any-at, any-none}
+use Rattle.fst.specs.Record.{Kept, Lent, fitsBytes, hasNoText, isBadBytes, maximum, usedSize, empty}
 use Rattle.fst.specs.declared.Description.{Description}
 use Rattle.fst.specs.declared.Encoding.{Encoding}
 use Rattle.fst.specs.declared.Encoding.the-variants.{BitVector, Event, Real}
-use Rattle.fst.proofs.Records.{Fits, fits-room, not-bad}
+use Rattle.fst.proofs.Records.{Standing, bytes-used}
 use Rattle.signal.specs.Decode.{hasBadMark, markIn}
-use Rattle.steps.specs.Inputs.{inputKept, inputsOf, isBadInput, isLate, keptAll, lentTo}
+use Rattle.steps.specs.Inputs.{inputKept, inputsOf, isLate, keptAll, lentTo}
 use Rattle.steps.specs.declared.Input.{Input}
 use Rattle.steps.specs.declared.Inputs.{Inputs}
 use Rattle.steps.proofs.Inputs.{the-type}

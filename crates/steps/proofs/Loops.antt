@@ -9,11 +9,11 @@ use mathlib.Core.Path.{_∙_, _≡_, ap, ap₂, refl, sym}
 use native.Mathlib.Omega.{arith}
 use Rattle.value.specs.Slice.{part}
 use Rattle.value.proofs.Slices.{part-at, part-length}
+use Rattle.fst.specs.declared.NextIndex.{NextIndex}
+use Rattle.fst.specs.declared.NextIndex.the-variants.{Absent, At}
 use Rattle.runs.specs.All.{All}
 use Rattle.runs.proofs.All.{all-at}
 use Rattle.signal.specs.Offset.{headOf}
-use Rattle.fst.specs.declared.NextIndex.{NextIndex}
-use Rattle.fst.specs.declared.NextIndex.the-variants.{Absent, At}
 use Rattle.steps.specs.Inputs.{inputsOf}
 use Rattle.steps.specs.Stepping.{Cursor, Reaches, advanced, begunAt, cursor, cursors, nextIn, soonest}
 use Rattle.steps.specs.Steps.{smaller}

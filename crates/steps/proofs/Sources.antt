@@ -2,26 +2,26 @@
 -- Assumes nothing.
 use Prim.Native.Nat.{_-_, _<_, _≤_, ℕ}
 use lib.ListN.{length}
-use mathlib.Core.Bool.{Bool, false, true}
+use mathlib.Core.Bool.{Bool, false}
 use mathlib.Core.List.{List, [], _∷_, map}
 use mathlib.Core.Path.{_∙_, _≡_, ap, sym}
 use native.Mathlib.Omega.{arith}
 use Rattle.value.specs.Level.{markOf}
 use Rattle.value.specs.Slice.{any}
 use Rattle.value.proofs.Lists.{any-map}
-use Rattle.value.proofs.Tests.{and-left, from-T, or-left, or-right, to-T}
-use Rattle.fst.specs.Record.{fits, fitsBytes, hasNoText, isBadBytes, keptIn, largestIn}
-use Rattle.fst.proofs.Records.{Fits, not-bad}
+use Rattle.value.proofs.Tests.{or-left, or-right}
+use Rattle.fst.specs.Record.{hasNoText, keptIn, largestIn}
+use Rattle.fst.proofs.Records.{standing}
 use Rattle.runs.specs.All.{All}
 use Rattle.runs.proofs.All.{all-of}
 use Rattle.signal.specs.Decode.{hasBadMark}
-use Rattle.signal.proofs.Entries.{entries-each}
+use Rattle.signal.proofs.Entries.{HasIndexed, entries-each, has-entry}
 use Rattle.signal.proofs.Reading.{inside, whole}
 use Rattle.steps.specs.Inputs.{entryIsBad, inputKept, inputsOf, isBadInput, lentTo, markIsBad}
 use Rattle.steps.specs.Stepping.{Cursor, Indexable, Reaches, Showing, cursors, setNow, shownBytes}
 use Rattle.steps.specs.declared.Input.{Input}
 use Rattle.steps.specs.declared.Inputs.{Inputs}
-use Rattle.steps.proofs.InputTests.{input-fits}
+use Rattle.steps.proofs.InputTests.{Stands}
 use Rattle.steps.proofs.Levels.{mark-within}
 use Rattle.steps.proofs.Tracks.{Begun, Shows, Within, bytes-told, r-indices}
 
@@ -62,7 +62,8 @@ module _ {bytes indices : List ℕ} (c : Cursor) (s : Source bytes indices (c .i
 
   pub showing : Showing bytes c
   showing =
-      let e = has-entry (record { sound = s .stands; below = omega arith }) in
+      let h : HasIndexed (c .input .description) (lentTo bytes indices (c .input)) (c .begun - 1) = record { stands = standing (s .stands); below = omega arith } in
+      let e = has-entry h in
       record { begun = b; vector = s .vector; inside = inside e; whole = whole e; marked = good-mark }
 
   -- a good mark is not above the largest set's

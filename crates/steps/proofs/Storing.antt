@@ -3,7 +3,7 @@
 use Prim.Native.Nat.{_*_, _+_, _-_, _<_, _≤_, ℕ}
 use borrow.Author.Tests.{le-ltb, lt-ltb}
 use lib.Dec.{ltb}
-use lib.ListN.{length, length-map, set}
+use lib.ListN.{length-append, length, length-map, set}
 use mathlib.Core.Bool.{Bool, cond, false, true}
 use mathlib.Core.List.{List, [], _++_, _∷_, map, map-append}
 use mathlib.Core.Path.{_∙_, _≡_, ap, ap₂, refl, sym}
@@ -18,7 +18,7 @@ use Rattle.layout.specs.Entry.{entrySize}
 use Rattle.layout.specs.Writable.{Writable, entryFrom}
 use Rattle.layout.proofs.EntryLaws.{EntryLaws}
 use Rattle.runs.specs.Runs.{Step, endsLike, entriesOf, indexOf, joined}
-use Rattle.runs.proofs.Joined.{ends-snoc, length-snoc}
+use Rattle.runs.proofs.Joined.{ends-snoc}
 use Rattle.runs.proofs.Laid.{entries-length, entries-snoc, entryFor, sameEntry}
 use Rattle.steps.specs.Storing.{Appendable, Appended, Roomy, Wrote, lastAt, repeatsLast}
 
@@ -109,7 +109,7 @@ module _ {w : ℕ} {M : States} {stride all : ℕ} {outBytes outIndices : List �
           ap (λ (j : ℕ). part (j * stride) size (overlay bytes (count * stride) entry)) k ∙ part-overlay bytes entry (count * stride) size (omega arith) entry-long in
           rw (again-is ∙ h)
           (record {
-            counted = n ∙ rw length-snoc (omega (arith, t .counted));
+            counted = n ∙ rw (length-append kept (s ∷ [])) (omega (arith, t .counted));
             ended =
                 λ o.
                 rw (n, m)

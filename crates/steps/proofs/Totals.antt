@@ -8,17 +8,17 @@ use mathlib.Core.List.{List, [], _∷_, foldl, map}
 use mathlib.Core.Path.{_∙_, _≡_, ap, refl, sym}
 use native.Mathlib.Omega.{arith}
 use Rattle.value.specs.Slice.{sum}
+use Rattle.fst.specs.declared.NextIndex.{NextIndex}
+use Rattle.fst.specs.declared.NextIndex.the-variants.{Absent, At}
 use Rattle.runs.specs.All.{All}
 use Rattle.runs.specs.Runs.{joined}
 use Rattle.runs.proofs.All.{all-of}
-use Rattle.fst.specs.declared.NextIndex.{NextIndex}
-use Rattle.fst.specs.declared.NextIndex.the-variants.{Absent, At}
 use Rattle.steps.specs.Inputs.{inputKept, inputsOf, keptAll}
 use Rattle.steps.specs.Room.{Few, roomFor, totalOver}
 use Rattle.steps.specs.Steps.{Moment, Track, countOf, keptSteps, momentsFrom, momentsOf, moved, shownIn, smallest, unbegun}
 use Rattle.steps.specs.declared.Input.{Input}
 use Rattle.steps.specs.declared.Inputs.{Inputs}
-use Rattle.steps.proofs.InputTests.{noInput}
+use Rattle.steps.proofs.InputTests.{Stands, noInput}
 use Rattle.steps.proofs.Rooms.{room-fewer}
 use Rattle.steps.proofs.Sources.{AllStand}
 use Rattle.steps.proofs.Tracks.{shown-count}

@@ -1,6 +1,6 @@
 -- Cursors are the definition's tracks: what comes next, how they move, what they show, how much is to come.
 -- Assumes nothing.
-use Prim.Native.Nat.{_*_, _+_, _-_, _<_, _≤_, min, suc, zero, ℕ}
+use Prim.Native.Nat.{_+_, _-_, _<_, _≤_, min, suc, zero, ℕ}
 use borrow.Author.Tests.{eq-eqb, ne-eqb}
 use denote.Ref.{now}
 use lib.Dec.{eqb}
@@ -10,24 +10,23 @@ use mathlib.Core.List.{List, [], _∷_, map}
 use mathlib.Core.Logic.{_⊎_, inl, inr, ⊎-elim}
 use mathlib.Core.Option.{Option, none, some}
 use mathlib.Core.Path.{_∙_, _≡_, ap, ap₂, refl, sym}
-use native.Mathlib.Nat.{mul-le-mul-right, suc-mul}
 use native.Mathlib.Numerals.{add-one}
 use native.Mathlib.Omega.{arith}
 use Rattle.value.specs.Slice.{part, sum}
-use Rattle.value.proofs.Slices.{part-length}
 use Rattle.value.proofs.Tests.{by-eq, by-le}
-use Rattle.fst.specs.Record.{Kept, keptIn, sizeOf, usedSize}
-use Rattle.fst.proofs.LastEntry.{part-part}
-use Rattle.fst.proofs.Records.{Fits}
-use Rattle.signal.specs.Decode.{Indexed, entriesFrom, entriesIn, entryAt}
-use Rattle.signal.specs.Offset.{headOf}
+use Rattle.fst.specs.Record.{Kept, keptIn}
 use Rattle.fst.specs.declared.NextIndex.{NextIndex}
 use Rattle.fst.specs.declared.NextIndex.the-variants.{Absent, At}
+use Rattle.fst.proofs.Records.{indices-used}
+use Rattle.signal.specs.Decode.{Indexed, entriesFrom, entriesIn, entryAt}
+use Rattle.signal.specs.Offset.{headOf}
 use Rattle.signal.proofs.Entries.{entries-count, entry-is, indexed}
-use Rattle.steps.specs.Inputs.{inputKept, lentTo}
+use Rattle.signal.proofs.Reading.{entry-within}
+use Rattle.steps.specs.Inputs.{inputKept}
 use Rattle.steps.specs.Stepping.{Cursor, advanced, begunAt, cursors, nextIn, shownBytes, soonest}
 use Rattle.steps.specs.Steps.{Shown, Track, countOf, moved, shownBy, shownIn, shownIndex, smaller, smallest, unbegun}
 use Rattle.steps.specs.declared.Input.{Input}
+use Rattle.steps.proofs.InputTests.{Stands}
 
 -- ---- lists
 
@@ -164,14 +163,8 @@ module _ (bytes indices : List ℕ) where
 
     -- its bytes among all
     pub bytes-told : entryAt (c .input .description .encoding) 0 (r .bytes) (c .begun - 1) ≡ shownBytes bytes c
-    unfolding keptIn entryAt
-    bytes-told =
-        let z = sizeOf (c .input .description .encoding) in
-        let k = c .begun - 1 in
-        let a : suc k * z ≤ c .input .description .count * z = mul-le-mul-right z (omega (arith, h .begun, h .within)) in
-        let b : suc k * z ≡ k * z + z = suc-mul k z in
-        part-part bytes (c .input .«byte_start») (usedSize (c .input .description)) (0 + k * z) z (omega arith)
-        ∙ ap (λ (n : ℕ). part n z bytes) (let e : c .input .«byte_start» + (0 + k * z) ≡ c .input .«byte_start» + k * z = omega arith in e)
+    unfolding keptIn
+    bytes-told = entry-within (c .input .description) bytes (c .input .«byte_start») (c .begun - 1) (omega (arith, h .begun, h .within))
 
     pub now-told : lastOf (shownOf (c .input)) (c .begun) ≡ some (shownBy (indexed r (c .begun - 1)))
     unfolding keptIn

@@ -11,17 +11,18 @@ use mathlib.Core.Path.{_∙_, _≡_, ap, ap₂, refl, subst, sym}
 use native.Mathlib.Omega.{arith}
 use Rattle.value.specs.Slice.{sum}
 use Rattle.value.proofs.Tests.{by-eq}
+use Rattle.fst.specs.declared.NextIndex.{NextIndex}
+use Rattle.fst.specs.declared.NextIndex.the-variants.{Absent, At}
 use Rattle.runs.specs.All.{All}
 use Rattle.runs.specs.Runs.{endsLike, joined}
 use Rattle.runs.proofs.All.{all-both, all-map, all-of}
-use Rattle.runs.proofs.Joined.{joined-grows, length-snoc}
-use Rattle.fst.specs.declared.NextIndex.{NextIndex}
-use Rattle.fst.specs.declared.NextIndex.the-variants.{Absent, At}
+use Rattle.runs.proofs.Joined.{joined-grows}
 use Rattle.steps.specs.Inputs.{inputsOf, keptAll}
 use Rattle.steps.specs.Stepping.{Cursor, Reaches, advanced, begunAt, cursors, cursorsOf, nextIn, soonest}
 use Rattle.steps.specs.Steps.{Moment, Track, keptSteps, momentsFrom, momentsOf, moved, nowOf, shownIn, smallest, unbegun}
 use Rattle.steps.specs.declared.Input.{Input}
 use Rattle.steps.specs.declared.Inputs.{Inputs}
+use Rattle.steps.proofs.InputTests.{Stands}
 use Rattle.steps.proofs.Loops.{cursors-length, next-within}
 use Rattle.steps.proofs.Sources.{AllStand, all-inputs, indexable, showing}
 use Rattle.steps.proofs.Tracks.{Within, come-less, moves-told, shown-count, shownOf, soonest-told, toCome, tracks, tracks-start}
@@ -58,7 +59,7 @@ joined-length {A} like l x = go (endsLike like l x)
   where
     go : (b : Bool) → length (cond b l (l ++ (x ∷ []))) ≤ suc (length l)
     go true = omega arith
-    go false = omega (arith, length-snoc l x)
+    go false = omega (arith, length-append l (x ∷ []))
 
 -- what is kept only grows
 fold-grows : {A : Type 0} (like : A → A → Bool) (l xs : List A) → length l ≤ length (foldl (joined like) l xs)

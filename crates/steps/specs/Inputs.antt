@@ -5,7 +5,7 @@ use lib.ListN.{take}
 use mathlib.Core.Bool.{Bool, false, true}
 use mathlib.Core.List.{List, [], _∷_, map}
 use Rattle.value.specs.Slice.{any}
-use Rattle.fst.specs.Record.{Kept, Lent, hasNoText, isBad, keptIn}
+use Rattle.fst.specs.Record.{Kept, Lent, hasNoText, isBad, keptIn, lent}
 use Rattle.fst.specs.declared.Encoding.{Encoding}
 use Rattle.signal.specs.Decode.{Indexed, entriesIn, hasBadMark}
 use Rattle.signal.specs.Offset.{falls}

@@ -8,13 +8,13 @@ use mathlib.Core.List.{List, [], _∷_, map}
 use mathlib.Core.Path.{_≡_}
 use Rattle.value.specs.Slice.{part}
 use Rattle.value.specs.declared.States.{States}
+use Rattle.fst.specs.Record.{hasNoText, widthOf}
+use Rattle.fst.specs.declared.NextIndex.{NextIndex}
+use Rattle.fst.specs.declared.NextIndex.the-variants.{Absent, At}
 use Rattle.runs.specs.All.{All}
 use Rattle.signal.specs.Decode.{entryAt, hasBadMark, levelsIn, setIn}
 use Rattle.signal.specs.Offset.{headOf}
 use Rattle.signal.specs.Parts.{Inside, Whole}
-use Rattle.fst.specs.Record.{hasNoText, widthOf}
-use Rattle.fst.specs.declared.NextIndex.{NextIndex}
-use Rattle.fst.specs.declared.NextIndex.the-variants.{Absent, At}
 use Rattle.steps.specs.Inputs.{inputsOf}
 use Rattle.steps.specs.Steps.{smaller}
 use Rattle.steps.specs.declared.Input.{Input}

@@ -9,11 +9,11 @@ use mathlib.Core.Option.{Option, none, some}
 use Rattle.value.specs.Slice.{sum}
 use Rattle.value.specs.declared.States.{States}
 use Rattle.fst.specs.Record.{Kept}
+use Rattle.fst.specs.declared.NextIndex.{NextIndex}
+use Rattle.fst.specs.declared.NextIndex.the-variants.{Absent, At}
 use Rattle.runs.specs.Runs.{joined}
 use Rattle.signal.specs.Decode.{Indexed, entriesIn, levelsIn, setIn}
 use Rattle.signal.specs.Offset.{headOf}
-use Rattle.fst.specs.declared.NextIndex.{NextIndex}
-use Rattle.fst.specs.declared.NextIndex.the-variants.{Absent, At}
 
 -- an entry as an input shows it
 pub record Shown : Type 0 where

@@ -7,7 +7,7 @@ use mathlib.Core.List.{List, [], _∷_, map}
 use mathlib.Core.Path.{_≡_}
 use Rattle.value.specs.Level.{setAt}
 use Rattle.value.specs.Slice.{part}
-use Rattle.fst.specs.Record.{hasNoText, sizeOf}
+use Rattle.fst.specs.Record.{hasNoText, sizeOf, described}
 use Rattle.fst.specs.declared.Encoding.the-variants.{BitVector}
 use Rattle.runs.specs.All.{All}
 use Rattle.steps.specs.Inputs.{inputsOf}

@@ -56,10 +56,14 @@ pub fn input_at(numbers: &[u32], starts: &[usize], i: usize) -> Input
 {
     let width = numbers[WIDTHS + i];
     let max_states = states_at(numbers[MARKS + i]);
+    let count = numbers[i];
+    let byte_start = starts[i];
+    let index_start = starts[INDEX_STARTS + i];
     let encoding = Encoding::BitVector { width, max_states };
+    let description = Description::new(encoding, count);
     Input {
-        description: Description::new(encoding, numbers[i]),
-        byte_start: starts[i],
-        index_start: starts[INDEX_STARTS + i],
+        description,
+        byte_start,
+        index_start,
     }
 }

@@ -1,20 +1,20 @@
 -- Derive by its room: where the derived list has none nothing is stored, and else the record is the list laid out.
 -- Assumes nothing.
-use Prim.Native.Nat.{_≤_, ℕ}
-use lib.ListN.{length}
+use Prim.Native.Nat.{_*_, _+_, _≤_, ℕ}
+use lib.ListN.{length, length-map}
 use mathlib.Core.Bool.{Bool, false, not, true}
-use mathlib.Core.List.{List, [], _∷_}
+use mathlib.Core.List.{List, [], _∷_, map}
 use mathlib.Core.Path.{_∙_, _≡_, ap, refl, sym}
 use native.Mathlib.Nat.{mul-le-mul-right, suc-mul, zero-add}
 use native.Mathlib.Omega.{arith}
 use Rattle.value.specs.Slice.{overlay}
 use Rattle.value.specs.declared.States.{States}
 use Rattle.layout.specs.Entry.{entrySize}
-use Rattle.fst.specs.Record.{Kept, fits, fitsBytes}
+use Rattle.fst.specs.Record.{Kept, fits, fitsBytes, described}
 use Rattle.fst.specs.Refusal.{Reply, _⇐_, given, refused, tried}
 use Rattle.fst.specs.declared.Encoding.the-variants.{BitVector}
 use Rattle.fst.proofs.Records.{fits-room}
-use Rattle.runs.specs.Runs.{Step, entriesOf, laidOut}
+use Rattle.runs.specs.Runs.{Step, entriesOf, indexOf, laidOut}
 use Rattle.derivation.specs.declared.DerivedBitVecSignal.{DerivedBitVecSignal}
 use Rattle.steps.specs.Inputs.{keptAll}
 use Rattle.steps.specs.Room.{roomFor}

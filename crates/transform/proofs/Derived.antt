@@ -15,26 +15,28 @@ use native.Mathlib.Omega.{arith}
 use Rattle.value.specs.Digits.{Below}
 use Rattle.value.specs.Level.{bitsOf, hasNoCode, joinAll, markOf}
 use Rattle.value.specs.Slice.{any, part, sum}
+use Rattle.value.specs.declared.States.{States}
 use Rattle.value.proofs.Digits.{below-append, below-drop, below-mono, below-take}
 use Rattle.value.proofs.Levels.{all-below, bits-up, codes-text, mark-join}
 use Rattle.value.proofs.Slices.{any-none, part-length}
 use Rattle.value.proofs.Tests.{by-le, or-both, or-left, or-right}
 use Rattle.layout.proofs.Entries.{laws}
-use Rattle.fst.specs.Record.{Kept, Lent, keptIn, largestIn, widthOf}
+use Rattle.fst.specs.Change.{stored}
+use Rattle.fst.specs.Record.{Kept, Lent, heldIn, keptOf, largestIn, widthOf, described}
 use Rattle.fst.specs.Refusal.{Reply, Test, given, refused, tried}
 use Rattle.fst.specs.declared.Description.{Description}
 use Rattle.fst.specs.declared.Encoding.{Encoding}
 use Rattle.fst.specs.declared.Encoding.the-variants.{Event}
+use Rattle.fst.specs.declared.NextIndex.{NextIndex}
+use Rattle.fst.specs.declared.NextIndex.the-variants.{Absent, At}
 use Rattle.fst.proofs.Refusals.{Result, through, stopped, result}
 use Rattle.runs.specs.All.{All}
 use Rattle.runs.specs.Runs as runs
-use Rattle.runs.specs.Runs.{Same, Step, byValue, endsLike, joined, laidOut}
+use Rattle.runs.specs.Runs.{Same, Step, byValue, endsLike, joined, laidOut, seen}
 use Rattle.runs.proofs.All.{all-by, all-map}
-use Rattle.runs.proofs.Laid.{Sound, equal-same, laid-found, laid-same}
+use Rattle.runs.proofs.Laid.{Sound, laid-found, laid-same}
 use Rattle.signal.specs.Decode.{entriesFrom, entriesIn, entryAt, levelsIn, setIn}
 use Rattle.signal.specs.Offset.{falls, headOf}
-use Rattle.fst.specs.declared.NextIndex.{NextIndex}
-use Rattle.fst.specs.declared.NextIndex.the-variants.{Absent, At}
 use Rattle.signal.proofs.Entries.{entries-count, entries-each, entry-is, indexed}
 use Rattle.signal.proofs.ReadBack as back
 use Rattle.signal.proofs.ReadBack.{Tells}
@@ -48,10 +50,10 @@ use Rattle.steps.specs.Steps.{Moment, Shown, Track, countOf, keptSteps, moments
 use Rattle.steps.specs.declared.Inputs.{Inputs}
 use Rattle.steps.proofs.Levels.{levels-below, levels-length, mark-within}
 use Rattle.steps.proofs.Sources.{showing}
-use Rattle.transform.specs.Derive.{Derived, codeIsBad, codesShown, derive, deriveRefusals, derivedBy, derivedList, isBeyond, isUnfit, largestAmong, largestShown, lentOut, pickIsBad, picked, pickedOf, sameStep, setShown, yielded}
+use Rattle.transform.specs.Accepted.{Accepted, ksOf, listOf, recordOf}
+use Rattle.transform.specs.Derive.{codeIsBad, codesShown, derive, deriveRefusals, derivedBy, derivedList, isBeyond, isUnfit, largestAmong, largestShown, lentOut, pickIsBad, picked, pickedOf, sameStep, setShown, yielded}
 use Rattle.transform.specs.Refusals.{Derivable}
 use Rattle.transform.proofs.PieceTests.{fit}
-use Rattle.fst.specs.Change.{stored}
 
 -- ---- lists in order
 

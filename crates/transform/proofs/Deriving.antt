@@ -2,8 +2,8 @@
 -- Assumes nothing.
 use Prim.Native.Nat.{_-_, _<_, _≤_, min, suc, zero, ℕ}
 use borrow.Author.Tests.{eq-eqb, ne-eqb}
-use lib.Dec.{eqb, eqb-refl, eqb→eq, ltb, T}
-use lib.ListN.{drop, length, replicate, set, take}
+use lib.Dec.{T, eqb, eqb-refl, eqb→eq, ltb}
+use lib.ListN.{length-append, drop, length, replicate, set, take}
 use mathlib.Core.Bool.{cond, false}
 use mathlib.Core.List.{List, [], _++_, _∷_, map}
 use mathlib.Core.Path.{_∙_, _≡_, ap, ap₂, refl, subst, sym}
@@ -19,14 +19,14 @@ use Rattle.layout.specs.Writable.{entryFrom}
 use Rattle.layout.proofs.Entries.{laws}
 use Rattle.layout.proofs.EntryLaws.{EntryLaws}
 use Rattle.fst.specs.Record.{keptIn}
+use Rattle.fst.specs.declared.NextIndex.{NextIndex}
+use Rattle.fst.specs.declared.NextIndex.the-variants.{Absent, At}
 use Rattle.runs.specs.All.{All}
 use Rattle.runs.specs.Runs.{Step, endsLike, joined}
 use Rattle.runs.proofs.All.{all-both, all-map, all-of}
-use Rattle.runs.proofs.Joined.{joined-all, joined-by, length-snoc}
+use Rattle.runs.proofs.Joined.{joined-all, joined-by}
 use Rattle.runs.proofs.Laid.{Sound, entry-tells, entryFor, sameEntry}
 use Rattle.signal.specs.Offset.{headOf}
-use Rattle.fst.specs.declared.NextIndex.{NextIndex}
-use Rattle.fst.specs.declared.NextIndex.the-variants.{Absent, At}
 use Rattle.derivation.specs.Piece.{extractOf, piecesOf}
 use Rattle.derivation.specs.declared.DerivedBitVecSignal.{DerivedBitVecSignal}
 use Rattle.steps.specs.Inputs.{inputKept, inputsOf, isLate, startsLate}
@@ -35,12 +35,12 @@ use Rattle.steps.specs.Steps.{smaller}
 use Rattle.steps.specs.Storing.{Appendable, Appended, Roomy, Wrote}
 use Rattle.steps.specs.declared.Inputs.{Inputs}
 use Rattle.steps.proofs.Sources.{all-inputs}
-use Rattle.steps.proofs.Storing.{Storing, storing-done, storing-none, storing-on, appendable}
+use Rattle.steps.proofs.Storing.{Storing, appendable, storing-done, storing-none, storing-on}
 use Rattle.steps.proofs.Tracks.{Begun, Within, toCome, tracks}
 use Rattle.steps.proofs.Walk.{Walk, all-zero, come-fewer, momentAt, on-within, walk-done, walk-few, walk-on, walk-start}
 use Rattle.transform.specs.Derive.{derivedFrom, sameStep, yielded}
 use Rattle.transform.specs.Picking.{Pickable, Stepped, largestNow, pickedNow}
-use Rattle.transform.proofs.Given.{Ready, all-shows, set-in, stepped, wide, early, stand}
+use Rattle.transform.proofs.Given.{Ready, all-shows, early, set-in, stand, stepped, wide}
 use Rattle.transform.proofs.Picked.{entry-told, front-long, largest-told, pickable, picked-all, picked-below, picked-told, writable}
 
 -- ---- two steps are alike just where their entries are
@@ -194,7 +194,7 @@ module _ {d : DerivedBitVecSignal} {inputs : Inputs} {bytes indices : List ℕ} 
       new-few h =
           let j : joined sameStep kept s ≡ kept ++ (s ∷ []) = joined-is ∙ rw h in
           let g : length (joined sameStep kept s) ≤ length (derivedFrom d inputs bytes indices) = walk-few (deriving-on .walk) in
-          omega (arith, ap length j, length-snoc kept s)
+          omega (arith, ap length j, length-append kept (s ∷ []))
 
     -- a step is at hand
     module _ {stride : ℕ} {outBytes outIndices p : List ℕ} {count : ℕ} {nowBytes nowIndices : List ℕ} (C : Writing d inputs bytes indices M stride outBytes outIndices p count nowBytes nowIndices)

@@ -31,9 +31,9 @@ use Rattle.steps.specs.declared.Input.{Input}
 use Rattle.steps.specs.declared.Inputs.{Inputs}
 use Rattle.steps.proofs.InputTests.{noInput}
 use Rattle.steps.proofs.Loops.{cursor-at, cursors-count, shown-at}
-use Rattle.steps.proofs.Sources.{Source, Standing, all-inputs, all-none, all-none-map, set-within, showing, shows, standing}
+use Rattle.steps.proofs.Sources.{AllStand, Source, all-inputs, all-none, all-none-map, all-stand, set-within, showing, shows}
 use Rattle.steps.proofs.Tables.{kept-as}
-use Rattle.steps.proofs.Tracks.{Begun, Within, bytes-told, r-indices, Shows}
+use Rattle.steps.proofs.Tracks.{Begun, Shows, Within, bytes-told, r-indices}
 use Rattle.transform.specs.Derive.{codeIsBad, isBeyond, isUnfit, largestAmong, pickIsBad, pickedOf}
 use Rattle.transform.specs.Picking.{PieceIn, Stepped, Under, Walkable, largestNow, largestOver, pickedNow}
 use Rattle.transform.specs.Refusals.{Derivable}

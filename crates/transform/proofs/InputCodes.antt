@@ -24,7 +24,7 @@ use Rattle.fst.specs.Record.{keptIn, usedSize, widthOf, widthStands}
 use Rattle.fst.specs.Refusal.{tried}
 use Rattle.fst.specs.declared.Encoding.{Encoding}
 use Rattle.fst.specs.declared.Encoding.the-variants.{BitVector, Event, Real}
-use Rattle.fst.proofs.Records.{not-bad}
+use Rattle.fst.proofs.Records.{indices-used, standing}
 use Rattle.signal.specs.Decode.{Indexed, codesAt, entriesIn, hasBadCode, levelsIn}
 use Rattle.signal.specs.Parts.{Levels}
 use Rattle.signal.proofs.Decoding.{level-code, level-in}
@@ -33,11 +33,11 @@ use Rattle.signal.proofs.Reading.{inside}
 use Rattle.derivation.specs.Piece.{endOf, extractOf, piecesOf}
 use Rattle.derivation.specs.declared.DerivedBitVecSignal.{DerivedBitVecSignal}
 use Rattle.derivation.specs.declared.Extract.{Extract}
-use Rattle.steps.specs.Inputs.{entryIsBad, inputKept, inputsOf, isBadInput, keptAll, lentTo, markIsBad}
+use Rattle.steps.specs.Inputs.{entryIsBad, inputKept, inputsOf, isBadInput, keptAll, markIsBad}
 use Rattle.steps.specs.Refusals.{keptWith}
 use Rattle.steps.specs.declared.Input.{Input}
 use Rattle.steps.specs.declared.Inputs.{Inputs}
-use Rattle.steps.proofs.InputTests.{input-count, input-stands, noInput, slot-none}
+use Rattle.steps.proofs.InputTests.{noInput, slot-none, used-stands}
 use Rattle.steps.proofs.Levels.{levels-length}
 use Rattle.transform.specs.Derive.{codeIsBad, pickIsBad, pickedOf}
 use Rattle.transform.specs.Refusals.{Readable, RecordPick, TwoCodes}

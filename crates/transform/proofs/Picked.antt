@@ -1,10 +1,12 @@
 -- The characters of a step, gathered piece by piece, and the entry that they make.
 -- Assumes nothing.
 use Prim.Native.Nat.{_+_, _-_, _<_, _^_, _≤_, suc, zero, ℕ}
+use lib.Ieee.{up}
 use lib.ListN.{drop, drop-of-length-le, getD, length, length-append, length-map, take}
 use lib.Pow.{pow-mono}
 use lib.Seq.{drop-cons}
 use mathlib.Core.List.{List, [], _++_, _∷_, map, map-append}
+use mathlib.Core.Option.{none}
 use mathlib.Core.Path.{_∙_, _≡_, ap, ap₂, refl, sym}
 use native.Mathlib.Numerals.{add-one}
 use native.Mathlib.Omega.{arith}
@@ -30,10 +32,9 @@ use Rattle.steps.proofs.InputTests.{noInput}
 use Rattle.steps.proofs.Levels.{levels-below, levels-length}
 use Rattle.steps.proofs.Loops.{all-map-at, cursor-at, cursors-count, shown-at}
 use Rattle.steps.proofs.Sources.{shows}
-use Rattle.steps.proofs.Tracks.{bytes-told, now-told, trackOf, tracks, Shows}
+use Rattle.steps.proofs.Tracks.{Shows, bytes-told, now-told, trackOf, tracks}
 use Rattle.transform.specs.Derive.{codesShown, largestShown, picked, pickedOf, setShown}
 use Rattle.transform.specs.Picking.{Pickable, Picks, PieceIn, Stepped, Under, largestNow, pickedNow}
-use mathlib.Core.Option.{none}
 
 -- ---- the characters that a piece picks
 

@@ -20,6 +20,7 @@ use Rattle.fst.specs.Record.{Kept, hasNoText, keptIn, usedSize, widthOf}
 use Rattle.fst.specs.declared.Description.{Description}
 use Rattle.fst.specs.declared.Encoding.{Encoding}
 use Rattle.fst.specs.declared.Encoding.the-variants.{BitVector, Event, Real}
+use Rattle.fst.proofs.Records.{indices-used, standing}
 use Rattle.signal.specs.Decode.{codesAt, entriesIn, entryAt, hasBadMark, levelPart, levelsIn, markIn}
 use Rattle.signal.specs.Parts.{ownStates}
 use Rattle.signal.proofs.Decoding.{codes-length, few-bits}
@@ -34,7 +35,7 @@ use Rattle.steps.specs.Inputs.{encodingOf, entryIsBad, inputKept, inputsOf, isB
 use Rattle.steps.specs.Refusals.{keptWith}
 use Rattle.steps.specs.declared.Input.{Input}
 use Rattle.steps.specs.declared.Inputs.{Inputs}
-use Rattle.steps.proofs.InputTests.{input-count, input-stands, kept-at, noInput, slot-none}
+use Rattle.steps.proofs.InputTests.{kept-at, noInput, slot-none, used-stands}
 use Rattle.transform.specs.Derive.{codeIsBad, isBeyond, isUnfit, pickIsBad, pickedOf}
 use Rattle.transform.specs.Refusals.{EntryPick, Readable, RecordPick}
 

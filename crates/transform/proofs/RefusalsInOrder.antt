@@ -1,12 +1,13 @@
 -- The numbers of Derive in their order: which one is replied, and what is known where none before 7 is.
 -- Assumes nothing.
 use Prim.Native.Nat.{ℕ}
-use mathlib.Core.Bool.{Bool, false, not, true}
+use mathlib.Core.Bool.{Bool, false, true}
 use mathlib.Core.List.{List, [], _∷_}
 use mathlib.Core.Path.{_≡_, refl}
 use native.Mathlib.Omega.{arith}
 use Rattle.value.specs.Slice.{any}
-use Rattle.fst.specs.Record.{Kept, Lent, fits}
+use Rattle.fst.specs.Change.{lacksRoom}
+use Rattle.fst.specs.Record.{Kept, Lent}
 use Rattle.fst.specs.Refusal.{Reply, _⇐_, given, refused, tried}
 use Rattle.derivation.specs.Piece.{piecesOf}
 use Rattle.derivation.specs.declared.DerivedBitVecSignal.{DerivedBitVecSignal}

@@ -9,12 +9,13 @@ use Rattle.value.specs.Level.{codeOf, fold, joinAll, letterOf, placeIn, setOf}
 use Rattle.value.specs.Slice.{any, overlay, part, same, sum}
 use Rattle.value.specs.declared.States.the-variants.{Four}
 use Rattle.layout.specs.Entry.{entryOf, entrySize, widenAll, widenEntry}
-use Rattle.fst.specs.Change.{appended, Recorder, addChange, changed, isBelowLast, isForeign, isOtherKind, isOtherLength, refusals, repeats, stored}
-use Rattle.fst.specs.Record.{Kept, fits, fitsBytes, fresh, hasNoText, isBad, keptIn, widthStands}
+use Rattle.fst.specs.Change.{addChange, appended, changed, isBelowLast, isForeign, isOtherKind, isOtherLength, refusals, repeats, stored}
+use Rattle.fst.specs.Record.{Kept, Recorder, fits, fitsBytes, fresh, hasNoText, isBad, keptIn, widthStands, described}
 use Rattle.fst.specs.Refusal.{given, tried}
+use Rattle.fst.specs.declared.Description.{Description}
 use Rattle.fst.specs.declared.Encoding.the-variants.{BitVector}
 use Rattle.fst.proofs.Rows as written
-use Rattle.fst.proofs.Rows.{around, lentBy, kept, row, accepted}
+use Rattle.fst.proofs.Rows.{accepted, around, kept, lentBy, row}
 use Rattle.runs.specs.Runs.{endsLike, entriesOf, joined, laidOut}
 use Rattle.signal.specs.Decode.{entriesFrom, entryAt, hasBadMark, levelPart, levelsIn, markIn, setIn}
 use Rattle.signal.specs.Offset.{falls}
@@ -23,6 +24,7 @@ use Rattle.derivation.specs.Piece.{addPiece, adjoin, derivationWith, emptyDeriv
 use Rattle.steps.specs.Steps.{keptSteps, momentsFrom, momentsOf, moved, smallest}
 use Rattle.steps.specs.declared.Input.{Input}
 use Rattle.steps.specs.declared.Inputs.{Inputs}
+use Rattle.transform.specs.Accepted.{Accepted}
 use Rattle.transform.specs.Derive.{Derived, derive, deriveRefusals, isUnfit, picked}
 
 -- ---- row 12
@@ -77,6 +79,23 @@ twelfth =
 twelfth-holds : Slices twelfth
 unfolding input alone source front Slices written.around written.lentBy written.Follows written.Holds written.played number digits part overlay same any sum placeIn codeOf letterOf fold setOf joinAll tried entrySize entryOf widenEntry widenAll keptIn widthStands fitsBytes fits isBad fresh isOtherKind isOtherLength isForeign isBelowLast repeats appended changed refusals stored addChange endsLike joined entriesOf laidOut entryAt entriesFrom markIn setIn levelPart levelsIn hasBadMark hasNoText falls packedOf extractOf isBadPiece isBadDerivation adjoin merging pieceAdded nameAdded derivationWith isBadRange isOverfull addPiece emptyDerivation smallest moved momentsFrom momentsOf picked keptSteps isUnfit deriveRefusals derive
 twelfth-holds = ((refl, (refl, tt)), refl, refl)
+
+-- a Derive that is accepted
+pub twelfth-accepted : Accepted
+unfolding input alone source written.around written.lentBy written.played number digits part overlay same any sum placeIn codeOf letterOf fold setOf joinAll tried entrySize entryOf widenEntry widenAll keptIn widthStands fitsBytes fits isBad fresh isOtherKind isOtherLength isForeign isBelowLast repeats appended changed refusals stored addChange endsLike joined entriesOf laidOut entryAt entriesFrom markIn setIn levelPart levelsIn hasBadMark hasNoText falls packedOf extractOf isBadPiece isBadDerivation adjoin merging pieceAdded nameAdded derivationWith isBadRange isOverfull addPiece emptyDerivation smallest moved momentsFrom momentsOf picked keptSteps isUnfit deriveRefusals derive
+twelfth-accepted =
+    let r = source (twelfth .of) in
+    record {
+      derivation = (sliceOf 7 0 0) .left;
+      inputs = alone (input r);
+      bytes = r .bytes;
+      indices = r .indices;
+      outBytes = replicate 5 0xDD;
+      outIndices = replicate 5 90;
+      made = described (BitVector 1 Four) 2;
+      sized = record { names = refl; bits = refl };
+      is = refl;
+    }
 
 -- ---- the list
 

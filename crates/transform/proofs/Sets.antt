@@ -15,7 +15,7 @@ use Rattle.steps.specs.Stepping.{cursor, setNow}
 use Rattle.steps.specs.declared.Input.{Input}
 use Rattle.steps.specs.declared.Inputs.{Inputs}
 use Rattle.steps.proofs.InputTests.{noInput}
-use Rattle.steps.proofs.Loops.{all-length, from-end, from-here, from}
+use Rattle.steps.proofs.Loops.{all-length, from, from-end, from-here}
 use Rattle.transform.specs.Picking.{largestNow, largestOver}
 
 module _ (inputs : Inputs) (few : inputs .count ≤ 8) (slots : length (inputs .slots) ≡ 8) where

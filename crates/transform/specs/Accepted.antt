@@ -1,5 +1,17 @@
 -- Document 01, "Derived list" and demand 3: an accepted Derive, its list and the record that it leaves.
 -- Assumes nothing.
+use Prim.Native.Nat.{ℕ}
+use mathlib.Core.List.{List}
+use mathlib.Core.Path.{_≡_}
+use Rattle.fst.specs.Record.{Held, Kept, heldIn}
+use Rattle.fst.specs.Refusal.{given}
+use Rattle.fst.specs.declared.Description.{Description}
+use Rattle.runs.specs.Runs.{Step}
+use Rattle.derivation.specs.Piece.{Sized, piecesOf}
+use Rattle.derivation.specs.declared.DerivedBitVecSignal.{DerivedBitVecSignal}
+use Rattle.steps.specs.Inputs.{keptAll}
+use Rattle.steps.specs.declared.Inputs.{Inputs}
+use Rattle.transform.specs.Derive.{Derived, derive, derivedList, lentOut}
 
 -- what was given, and that a description was answered. An array's length is its type's.
 pub record Accepted : Type 0 where

@@ -10,7 +10,8 @@ use Rattle.value.specs.Level.{hasNoCode, joinAll, markOf, textOf}
 use Rattle.value.specs.Slice.{any, overlay, part, same}
 use Rattle.value.specs.declared.States.{States}
 use Rattle.value.specs.declared.States.the-variants.{Two}
-use Rattle.fst.specs.Record.{Kept, Lent, fits, largestIn, widthOf}
+use Rattle.fst.specs.Change.{lacksRoom}
+use Rattle.fst.specs.Record.{Kept, Lent, largestIn, widthOf, lent, described}
 use Rattle.fst.specs.Refusal.{Reply, Test, _⇐_, given, madeOf, refused, tried}
 use Rattle.fst.specs.declared.Description.{Description}
 use Rattle.fst.specs.declared.Encoding.the-variants.{Event}

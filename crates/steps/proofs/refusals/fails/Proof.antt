@@ -7,11 +7,12 @@ use mathlib.Core.List.{List}
 use mathlib.Core.Path.{_∙_, ap, sym}
 use Rattle.value.specs.Slice.{part}
 use Rattle.fst.specs.Record.{keptIn}
+use Rattle.fst.proofs.Records.{indices-used, standing}
 use Rattle.signal.specs.Offset.{falls}
 use Rattle.steps.specs.Inputs.{isLate, markIsBad}
 use Rattle.steps.specs.Refusals.{failsBy, isFirst, keptWith}
 use Rattle.steps.specs.declared.InputTest.{InputTest}
-use Rattle.steps.proofs.InputTests.{input-count, input-fits, input-stands}
+use Rattle.steps.proofs.InputTests.{used-stands}
 use Rattle.steps.proofs.refusals.fails.Statement.{statement}
 use Rattle.steps.proofs.refusals.fails.Tie as tie
 

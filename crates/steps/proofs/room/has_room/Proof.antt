@@ -2,7 +2,6 @@
 -- Assumes nothing.
 use native.Mathlib.Nat.{mul-le-mul-left}
 use native.Mathlib.Omega.{arith}
-use Rattle.fst.proofs.Rooms.{past-indices}
 use Rattle.steps.proofs.Rooms.{many, past-bytes, roomy}
 use Rattle.steps.proofs.room.has_room.Statement.{statement}
 use Rattle.steps.proofs.room.has_room.Tie as tie

@@ -3,6 +3,7 @@
 use borrow.Author.Needs.{needs}
 use denote.Ref.{now}
 use mathlib.Core.Path.{_∙_, refl}
+use Rattle.derivation.proofs.Walks.{sized}
 use Rattle.steps.specs.Inputs.{inputsOf}
 use Rattle.steps.proofs.InputTests.{slotted}
 use Rattle.transform.specs.Picking.{Walkable}
@@ -10,7 +11,6 @@ use Rattle.transform.proofs.ByRoom.{all-stored, no-room, roomy}
 use Rattle.transform.proofs.Given.{few-inputs, largest-is}
 use Rattle.transform.proofs.derive.derive_all.Statement.{statement}
 use Rattle.transform.proofs.derive.derive_all.Tie as tie
-use Rattle.derivation.proofs.Walks.{sized}
 
 -- what is known once the largest set is
 module _ (g : tie.After-largest-states) where

@@ -9,13 +9,13 @@ use native.Mathlib.Omega.{arith}
 use Rattle.layout.specs.Entry.{entrySize}
 use Rattle.fst.proofs.Rooms.{size-small}
 use Rattle.derivation.specs.Piece.{piecesOf}
+use Rattle.derivation.proofs.Walks.{sized}
 use Rattle.steps.proofs.InputTests.{slotted}
 use Rattle.steps.proofs.Totals.{few-each, fits-counted, fits-together, steps-bound}
 use Rattle.transform.specs.Derive.{sameStep, yielded}
 use Rattle.transform.proofs.Given.{Ready, few-inputs, narrow, stand}
 use Rattle.transform.proofs.derive.steps_fit.Statement.{statement}
 use Rattle.transform.proofs.derive.steps_fit.Tie as tie
-use Rattle.derivation.proofs.Walks.{sized}
 
 -- what is known all along
 module _ (s : tie.Start) where

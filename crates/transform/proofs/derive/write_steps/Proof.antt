@@ -14,6 +14,7 @@ use Rattle.layout.specs.Entry.{entrySize}
 use Rattle.fst.specs.Record.{Kept}
 use Rattle.fst.specs.declared.NextIndex.the-variants.{At}
 use Rattle.derivation.specs.Piece.{extractOf, piecesOf}
+use Rattle.derivation.proofs.Walks.{sized}
 use Rattle.steps.specs.Inputs.{keptAll}
 use Rattle.steps.specs.Stepping.{cursorsOf, soonest}
 use Rattle.steps.specs.Storing.{Roomy, Wrote}
@@ -26,10 +27,9 @@ use Rattle.steps.proofs.Tracks.{toCome, tracks}
 use Rattle.transform.specs.Derive.{derivedFrom, derivedList}
 use Rattle.transform.specs.Picking.{Pickable, pickedNow}
 use Rattle.transform.proofs.Deriving.{Writing, Yielded, appendable-on, fewer, pickable-on, writing-done, writing-on, writing-start}
-use Rattle.transform.proofs.Given.{Ready, few-pieces, narrow, vectors, walkable-as, stand}
+use Rattle.transform.proofs.Given.{Ready, few-pieces, narrow, stand, vectors, walkable-as}
 use Rattle.transform.proofs.derive.write_steps.Statement.{statement}
 use Rattle.transform.proofs.derive.write_steps.Tie as tie
-use Rattle.derivation.proofs.Walks.{sized}
 
 abbrev Inv-loop : tie.InvT-loop
 Inv-loop derivation bytes indices max-states stride out-bytes₀ out-indices₀ pieces size numbers starts n text₀ begun₀ count₀ out-bytes out-indices text begun count =

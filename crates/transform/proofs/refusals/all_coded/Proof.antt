@@ -3,19 +3,20 @@
 use Prim.Native.Nat.{_-_, _<_, _≤_, min}
 use borrow.Author.Needs.{needs}
 use denote.Ref.{now}
-use lib.ListN.{getD, length}
+use lib.ListN.{length}
 use mathlib.Core.Bool.{true≢false}
 use mathlib.Core.Path.{_≡_, sym}
 use native.Mathlib.Omega.{arith}
 use Rattle.value.proofs.Lists.{Clear, clear-none}
 use Rattle.derivation.proofs.Pieces.{sound}
+use Rattle.derivation.proofs.Walks.{sized}
 use Rattle.steps.specs.Inputs.{inputsOf, keptAll}
-use Rattle.steps.proofs.InputTests.{input-fits, noInput, slot-more, slots-all, slotted}
+use Rattle.fst.proofs.Records.{standing}
+use Rattle.steps.proofs.InputTests.{slot-more, slots-all, slotted}
 use Rattle.transform.proofs.InputCodes.{input-narrow, input-sound, pieces-coded, uncoded, whole-coded, whole-picking}
 use Rattle.transform.proofs.PieceTests.{fit}
 use Rattle.transform.proofs.refusals.all_coded.Statement.{statement}
 use Rattle.transform.proofs.refusals.all_coded.Tie as tie
-use Rattle.derivation.proofs.Walks.{sized}
 
 abbrev Inv-loop : tie.InvT-loop
 Inv-loop derivation bytes indices inputs count i₀ i = (i ≤ count) × Clear (uncoded bytes indices) (inputsOf inputs) i

@@ -3,20 +3,21 @@
 use Prim.Native.Nat.{_-_, _<_, _≤_, min}
 use borrow.Author.Needs.{needs}
 use denote.Ref.{now}
-use lib.ListN.{getD, length}
+use lib.ListN.{length}
 use mathlib.Core.Bool.{Bool, false, true}
 use mathlib.Core.Path.{_≡_, sym}
 use native.Mathlib.Omega.{arith}
 use Rattle.value.proofs.Lists.{Clear, clear-none}
 use Rattle.derivation.specs.Piece.{isBadDerivation, piecesOf}
 use Rattle.derivation.specs.declared.Extract.{Extract}
+use Rattle.derivation.proofs.Walks.{sized}
 use Rattle.steps.specs.Inputs.{keptAll}
-use Rattle.steps.proofs.InputTests.{input-fits, noInput, slotted}
+use Rattle.fst.proofs.Records.{standing}
+use Rattle.steps.proofs.InputTests.{slotted}
 use Rattle.transform.specs.Derive.{codeIsBad}
 use Rattle.transform.proofs.PieceTests.{fit, input-good, picking, picks-told, piece-low, piece-more, piece-one, pieces-all, signal-low}
 use Rattle.transform.proofs.refusals.any_bad_piece.Statement.{statement}
 use Rattle.transform.proofs.refusals.any_bad_piece.Tie as tie
-use Rattle.derivation.proofs.Walks.{sized}
 
 abbrev Inv-loop : tie.InvT-loop
 Inv-loop bytes indices derivation inputs count i₀ i =

@@ -7,13 +7,13 @@ use mathlib.Core.Path.{sym}
 use native.Mathlib.Omega.{arith}
 use Rattle.value.proofs.Lists.{Clear, clear-none}
 use Rattle.derivation.specs.Piece.{piecesOf}
+use Rattle.derivation.proofs.Walks.{sized}
 use Rattle.steps.specs.Inputs.{keptAll}
 use Rattle.steps.proofs.InputTests.{slotted}
 use Rattle.transform.specs.Derive.{isBeyond}
 use Rattle.transform.proofs.PieceTests.{beyond-is, beyond-not, piece-input, piece-low, piece-more, piece-one, pieces-all}
 use Rattle.transform.proofs.refusals.any_beyond.Statement.{statement}
 use Rattle.transform.proofs.refusals.any_beyond.Tie as tie
-use Rattle.derivation.proofs.Walks.{sized}
 
 abbrev Inv-loop : tie.InvT-loop
 Inv-loop derivation inputs count i₀ i =
