@@ -11,8 +11,7 @@ use crate::DataOffset;
 use crate::OffsetAnswer;
 use fst::NextIndex;
 use fst::Refusal;
-
-const MAX_ENTRIES: usize = 1048576;
+use fst::record::MAXIMUM;
 
 // Whether an index is below the one before it. Every pair is compared, since a scan that can end early is not vectorised.
 pub fn falls(indices: &[u32]) -> bool
@@ -116,7 +115,7 @@ pub fn find_offset_from_time_table_idx(indices: &[u32], needle: u32) -> DataOffs
 pub fn get_offset(indices: &[u32], time_table_idx: u32) -> OffsetAnswer
     ensures { λ r. ⌜ offsetOf r ≡ lookUp (now (indices .entry)) «time_table_idx» ⌝ }
 {
-    if indices.len() > MAX_ENTRIES {
+    if indices.len() > MAXIMUM as usize {
         return OffsetAnswer::Refused(Refusal::BadRecord);
     }
     if falls(indices) {

@@ -64,6 +64,7 @@ pub get-offset-spec : {M : Type 1} → statement M
 get-offset-spec =
     tie.close
     (tie.spec
+    (λ c. search needs)
     returns
     (λ c κs. search needs)
     returns-2
