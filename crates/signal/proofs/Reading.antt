@@ -24,7 +24,7 @@ use Rattle.fst.proofs.Encoding.{the-type}
 use Rattle.fst.specs.declared.Description.{Description}
 use Rattle.fst.specs.Refusal.{Reply, refused, given, _⇐_, tried}
 use Rattle.layout.specs.Entry.{entrySize}
-use Rattle.fst.specs.Record.{sizeOf, usedSize, widthStands, isBadBytes}
+use Rattle.fst.specs.Record.{sizeOf, hasNoText, usedSize, isBadBytes}
 use Rattle.layout.proofs.Sizes.{size-pos}
 use Rattle.layout.proofs.EntryParts.{len-fits}
 use Rattle.fst.proofs.Adding.{width-known}
@@ -34,7 +34,7 @@ use Rattle.signal.specs.declared.OwnStates.the-variants as own
 use Rattle.signal.specs.declared.EntryAnswer.the-variants as answer
 use Rattle.signal.specs.Decode.{entryAt, markIn, setIn, levelPart, levelsIn, hasBadMark, hasBadCode, codesAt}
 use Rattle.fst.specs.declared.Refusal.the-variants.{BadMark}
-use Rattle.signal.specs.Read.{Entry, kindOf, entryIn, readEntry, partOf, replyOf, hasNoText, textLeft, readText}
+use Rattle.signal.specs.Read.{Entry, kindOf, entryIn, readEntry, partOf, replyOf, textLeft, readText}
 use Rattle.signal.specs.Parts.{ownStates, ownIn, Levels, Whole, Inside, answerIn, partIn, textStored}
 
 -- ---- one entry of a bit vector

@@ -15,13 +15,13 @@ use Rattle.value.specs.Level.{placeIn, letterOf}
 use Rattle.fst.specs.declared.Encoding.the-variants.{Event, Real, BitVector}
 use Rattle.fst.specs.Refusal.{Reply, refused, given, tried}
 use Rattle.layout.specs.Entry.{entrySize}
-use Rattle.fst.specs.Record.{Kept, keptIn, widthStands, fitsBytes, fits, isBadBytes, isBad}
+use Rattle.fst.specs.Record.{Kept, hasNoText, keptIn, widthStands, fitsBytes, fits, isBadBytes, isBad}
 use Rattle.fst.proofs.Rows.{around, lentBy, kept}
 use Rattle.signal.specs.declared.Kind.the-variants as kind
 use Rattle.fst.specs.declared.NextIndex.{NextIndex}
 use Rattle.fst.specs.declared.NextIndex.the-variants.{Absent, At}
 use Rattle.signal.specs.Decode.{entryAt, entriesFrom, markIn, setIn, levelPart, levelsIn, hasBadMark}
-use Rattle.signal.specs.Read.{Entry, readEntry, hasNoText, textLeft, readText}
+use Rattle.signal.specs.Read.{Entry, readEntry, textLeft, readText}
 use Rattle.signal.specs.Compare.{sameReal, sameValue, walked, compareRecords}
 use Rattle.signal.specs.Offset.{falls, greatest, runOf, Place, none, at, placeOf, place, lookUp}
 

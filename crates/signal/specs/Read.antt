@@ -11,9 +11,7 @@ use Rattle.fst.specs.declared.Encoding.{Encoding}
 use Rattle.fst.specs.declared.Encoding.the-variants.{Event, Real, BitVector}
 use Rattle.fst.specs.declared.Description.{Description}
 use Rattle.fst.specs.Refusal.{Reply, refused, given, _⇐_, tried, Outcome, outcome, number}
-use Rattle.fst.specs.Record.{isBadBytes}
-pub use Rattle.fst.specs.Record.{widthOf}
-unfoldable pub use Rattle.fst.specs.Record.{hasNoText}
+use Rattle.fst.specs.Record.{widthOf, hasNoText, isBadBytes}
 use Rattle.signal.specs.declared.Kind.{Kind}
 use Rattle.signal.specs.declared.Kind.the-variants as kind
 use Rattle.signal.specs.declared.EntryAnswer.{EntryAnswer}

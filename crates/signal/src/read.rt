@@ -1,7 +1,6 @@
 // Read an entry, and Text of an entry, after wellen's `get_value_at` and `bit_string`.
 ghost use mathlib.Core.Path.{_≡_};
 ghost use Rattle.fst.specs.declared.Encoding.the-variants.{BitVector};
-ghost use Rattle.fst.specs.Record.{sizeOf};
 ghost use Rattle.fst.specs.Refusal.{numberOf};
 ghost use Rattle.signal.specs.Decode.{entryAt};
 ghost use Rattle.signal.specs.Parts.{Whole, Inside, ownIn, answerIn, partIn, textStored};
@@ -18,19 +17,7 @@ use fst::Encoding;
 use fst::Refusal;
 use fst::Verdict;
 use fst::record::is_bad_bytes;
-use layout::entry::entry_size;
 use value::States;
-
-// How many bytes an entry takes.
-pub fn size_of(encoding: Encoding) -> usize
-    ensures { λ r. ⌜ r ≡ sizeOf encoding ⌝ }
-{
-    match encoding {
-        Encoding::Event => 0,
-        Encoding::Real => 8,
-        Encoding::BitVector { width, max_states } => entry_size(max_states, width),
-    }
-}
 
 // The bytes of an entry.
 pub fn entry_at<'a>(
