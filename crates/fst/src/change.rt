@@ -188,9 +188,10 @@ fn next_count(count: u32, repeat: bool) -> u32
 }
 
 impl Description {
-    // Number 7, and what is stored, of a string of any set. The room is that of the record with the change.
+    // Number 7, and what is stored, of a string of any set. The room is that of the record with the change. The description is set anew: one that
+    // is only passed on would go through memory in every arm of Add a change.
     fn raise_levels(
-        self,
+        mut self,
         max_states: States,
         states: States,
         bytes: &mut [u8],
@@ -212,19 +213,20 @@ impl Description {
             max_states: joint,
         };
         let total = next_count(count, repeat);
+        let before = self;
+        self = Description::new(encoding, total);
         if exceeds(encoding, total, bytes, byte_start, indices, index_start) {
-            return refused(self, Refusal::NoRoom);
+            return refused(before, Refusal::NoRoom);
         }
-        let next = Description::new(encoding, total);
         let entries = count as usize;
         expand_entries(max_states, joint, bytes, byte_start, entries, width);
         if repeat {
-            return accepted(next);
+            return accepted(self);
         }
         let at = byte_start + entries * entry_size(joint, width);
         write_entry(joint, states, value, bytes, at);
         indices[index_start + entries] = index;
-        accepted(next)
+        accepted(self)
     }
 
     // A string that raises no set leaves the entries as they are, and needs no room where it is a repeat.
@@ -404,9 +406,17 @@ impl Description {
         if is_below_last(index, indices, index_start, self.count) {
             return refused(self, Refusal::IndexBelowLast);
         }
+        let encoding = self.encoding;
         let before = self;
         self.count += 1;
-        if lacks_room(before, 0, bytes, byte_start, indices, index_start) {
+        if exceeds(
+            encoding,
+            self.count,
+            bytes,
+            byte_start,
+            indices,
+            index_start,
+        ) {
             return refused(before, Refusal::NoRoom);
         }
         indices[index_start + before.count as usize] = index;

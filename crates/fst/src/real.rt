@@ -14,8 +14,8 @@ use crate::Refusal;
 use crate::change::accepted;
 use crate::change::is_below_last;
 use crate::change::refused;
+use crate::record::exceeds;
 use crate::record::is_bad;
-use crate::record::lacks_room;
 
 fn write_real(bits: u64, out: &mut [u8], at: usize)
     requires { ⌜ at + 8 ≤ length (now out) ⌝ }
@@ -85,7 +85,14 @@ impl Description {
         }
         let before = self;
         self.count += 1;
-        if lacks_room(before, 8, bytes, byte_start, indices, index_start) {
+        if exceeds(
+            encoding,
+            self.count,
+            bytes,
+            byte_start,
+            indices,
+            index_start,
+        ) {
             return refused(before, Refusal::NoRoom);
         }
         let entries = count as usize;

@@ -57,7 +57,7 @@ module _ (b : tie.After-is-below-last) where
   passes h = admits suited _ (sym h ∙ b .is-below-last .ensures)
 
 -- and once the room is
-module _ (z : tie.After-lacks-room) where
+module _ (z : tie.After-exceeds) where
   abbrev known : tie.After-is-below-last
   known = z .before .before .before .before .before .before .before .before
 
@@ -68,8 +68,8 @@ module _ (z : tie.After-lacks-room) where
       ≡ behind (start known .args .self) (here (start known)) (start known .args .index) (realBytes (start known .args .bits))
   kept = real-kept (stands known) (isReal known) _ _ (sym (z .before .before .before .before .if3 .left) ∙ z .before .before .before .before .before .repeats-real .ensures)
 
-  places : z .lacks-room .result ≡ false → Roomier (start known .args .self) (here (start known)) 8
-  places h = roomier 8 (ap sizeOf (isReal known)) (sym (z .lacks-room .ensures) ∙ h)
+  places : z .exceeds .result ≡ false → Roomier (start known .args .self) (here (start known)) 8
+  places h = roomier 8 (ap sizeOf (isReal known)) (sym (z .exceeds .ensures) ∙ h)
 
 returns : tie.Need-returns
 returns c = beside (c .refused .ensures) ∙ gives-2 _ _ _ _ (sym (c .before .before .is-bad .ensures) ∙ c .before .if1 .taken)
@@ -106,15 +106,15 @@ add-self c =
     let f = (stands (c .before .before .before .before .before)) .room .count in
     omega arith
 
-lacks-room-requires : tie.Need-lacks-room-requires
-lacks-room-requires c κs =
+exceeds-requires : tie.Need-exceeds-requires
+exceeds-requires c κs =
     let b = c .before .before .before .before .before .before .before in
-    ((stands b) .sound, sym (ap sizeOf (isReal b)))
+    (stands b) .width
 
 returns-5 : tie.Need-returns-5
 returns-5 c =
     let z = c .before .before in
-    beside (c .refused4 .ensures) ∙ kept-full (admitted z) _ (kept z) (sym (z .lacks-room .ensures) ∙ c .before .if4 .taken)
+    beside (c .refused4 .ensures) ∙ kept-full (admitted z) _ (kept z) (sym (z .exceeds .ensures) ∙ c .before .if4 .taken)
 
 add-write-real : tie.Need-add-write-real
 add-write-real c = let p = places (c .before .before) (c .before .if4 .left) in omega arith
@@ -137,7 +137,7 @@ returns-6 c =
     let x = start (known z) in
     ap₂ (λ (r : Added) (b : List ℕ). leftBy r b (set (now (x .args .indices)) (x .args .index-start + x .args .self .count) (x .args .index)))
     (c .accepted2 .ensures) (c .before .before .before .write-real .ensures)
-    ∙ kept-more (admitted z) _ (kept z) 8 (ap sizeOf (isReal (known z))) (sym (z .lacks-room .ensures) ∙ c .before .before .before .before .before .if4 .left)
+    ∙ kept-more (admitted z) _ (kept z) 8 (ap sizeOf (isReal (known z))) (sym (z .exceeds .ensures) ∙ c .before .before .before .before .before .if4 .left)
 
 pub add-real-spec : {M : Type 1} → statement M
 add-real-spec =
@@ -164,7 +164,7 @@ add-real-spec =
     (λ c. search needs)
     returns-4
     add-self
-    lacks-room-requires
+    exceeds-requires
     (λ c κs. search needs)
     (λ c. search needs)
     (λ c. search needs)

@@ -33,12 +33,12 @@ module _ (b : tie.After-is-below-last) where
   passes h = admits suited _ (sym h ∙ b .is-below-last .ensures)
 
 -- and once the room is
-module _ (z : tie.After-lacks-room) where
+module _ (z : tie.After-exceeds) where
   abbrev told : tie.After-is-below-last
   told = z .before .before .before .before
 
-  index-in : z .lacks-room .result ≡ false → start told .args .index-start + start told .args .self .count < length (now (start told .args .indices))
-  index-in h = (roomier {d = start told .args .self} {l = here (start told)} 0 (ap sizeOf (start told .pre .1)) (sym (z .lacks-room .ensures) ∙ h)) .index
+  index-in : z .exceeds .result ≡ false → start told .args .index-start + start told .args .self .count < length (now (start told .args .indices))
+  index-in h = (roomier {d = start told .args .self} {l = here (start told)} 0 (ap sizeOf (start told .pre .1)) (sym (z .exceeds .ensures) ∙ h)) .index
 
 returns : tie.Need-returns
 returns c =
@@ -58,17 +58,16 @@ add-self c =
     let f = (standing ((start (c .before .before)) .pre .0)) .room .count in
     omega arith
 
-lacks-room-requires : tie.Need-lacks-room-requires
-lacks-room-requires c κs =
-    let p = (start (c .before .before .before)) .pre in
-    (p .0, sym (ap sizeOf (p .1)))
+exceeds-requires : tie.Need-exceeds-requires
+exceeds-requires c κs =
+    (standing ((start (c .before .before .before)) .pre .0)) .width
 
 returns-3 : tie.Need-returns-3
 returns-3 c =
     let z = c .before .before in
     let x = start (told z) in
     beside (c .refused3 .ensures)
-    ∙ kept-full (passes (told z) (z .before .before .before .if2 .left)) [] (event-kept (standing (x .pre .0)) (x .pre .1) _ _) (sym (z .lacks-room .ensures) ∙ c .before .if3 .taken)
+    ∙ kept-full (passes (told z) (z .before .before .before .if2 .left)) [] (event-kept (standing (x .pre .0)) (x .pre .1) _ _) (sym (z .exceeds .ensures) ∙ c .before .if3 .taken)
 
 add-indices : tie.Need-add-indices
 add-indices c = let h = index-in (c .before .before) (c .before .if3 .left) in omega arith
@@ -84,7 +83,7 @@ returns-4 c =
     let z = c .before .before .before in
     let x = start (told z) in
     beside (c .accepted .ensures)
-    ∙ event-more (standing (x .pre .0)) (x .pre .1) _ _ (passes (told z) (z .before .before .before .if2 .left)) (sym (z .lacks-room .ensures) ∙ c .before .before .if3 .left)
+    ∙ event-more (standing (x .pre .0)) (x .pre .1) _ _ (passes (told z) (z .before .before .before .if2 .left)) (sym (z .exceeds .ensures) ∙ c .before .before .if3 .left)
 
 pub keep-event-spec : {M : Type 1} → statement M
 keep-event-spec =
@@ -97,7 +96,7 @@ keep-event-spec =
     (λ c. search needs)
     returns-2
     add-self
-    lacks-room-requires
+    exceeds-requires
     (λ c κs. search needs)
     (λ c. search needs)
     returns-3

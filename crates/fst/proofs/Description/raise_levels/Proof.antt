@@ -41,29 +41,29 @@ left-by indices p q = ap₂ (λ (d : Description) (b : List ℕ). acceptedWith (
 -- what is known once the room is tried
 module _ (z : tie.After-exceeds) where
   abbrev start : tie.Start
-  start = z .before .before .before .before .before .before .before .before .before .before
+  start = z .before .before .before .before .before .before .before .before .before .before .before
 
   abbrev joint : States
-  joint = z .before .before .before .before .before .before .join .result
+  joint = z .before .before .before .before .before .before .before .join .result
 
   joined : joint ≡ join (start .args .max-states) (start .args .states)
-  joined = z .before .before .before .before .before .before .join .ensures
+  joined = z .before .before .before .before .before .before .before .join .ensures
 
-  told : z .before .before .before .before .repeats-last .result ≡ repeatsWidened (start .args .max-states) joint (start .args .states) (now (start .args .value)) (start .args .byte-start) (start .args .self .count) (now (start .args .bytes))
-  told = z .before .before .before .before .repeats-last .ensures
+  told : z .before .before .before .before .before .repeats-last .result ≡ repeatsWidened (start .args .max-states) joint (start .args .states) (now (start .args .value)) (start .args .byte-start) (start .args .self .count) (now (start .args .bytes))
+  told = z .before .before .before .before .before .repeats-last .ensures
 
-  counted : z .before .before .before .next-count .result ≡ cond (z .before .before .before .before .repeats-last .result) (start .args .self .count) (start .args .self .count + 1)
-  counted = z .before .before .before .next-count .ensures
+  counted : z .before .before .before .before .next-count .result ≡ cond (z .before .before .before .before .before .repeats-last .result) (start .args .self .count) (start .args .self .count + 1)
+  counted = z .before .before .before .before .next-count .ensures
 
   -- room for one entry more
-  places : z .exceeds .result ≡ false → z .before .before .before .before .repeats-last .result ≡ false → Roomier (start .args .self) (here start) (entrySize (length (now (start .args .value))) joint)
+  places : z .exceeds .result ≡ false → z .before .before .before .before .before .repeats-last .result ≡ false → Roomier (start .args .self) (here start) (entrySize (length (now (start .args .value))) joint)
   places h e = wider-room (start .pre) joined told counted (sym (z .exceeds .ensures) ∙ h) e
 
 -- the new entry's place
 place : (c : tie.After-entry-size) →
-    let x = start (c .before .before .before .before .before .before .before .before) in
+    let x = start (c .before .before .before .before .before .before .before) in
     x .args .byte-start + x .args .self .count * c .entry-size .result + c .entry-size .result ≤ length (now (x .args .bytes))
-place c = rw (c .entry-size .ensures) ((places (c .before .before .before .before .before .before .before .before) (c .before .before .before .before .before .before .before .if1 .left) (c .before .if2 .left)) .bytes)
+place c = rw (c .entry-size .ensures) ((places (c .before .before .before .before .before .before .before) (c .before .before .before .before .before .before .if1 .left) (c .before .if2 .left)) .bytes)
 
 cast-width : tie.Need-cast-width
 cast-width c =
@@ -77,7 +77,7 @@ next-count-requires : tie.Need-next-count-requires
 next-count-requires c κs = (string-standing (c .before .before .before .before .before .before .pre)) .room .count
 
 exceeds-requires : tie.Need-exceeds-requires
-exceeds-requires c κs = width-then (c .before .before .before .before .before .before .before .before .before .pre) (c .before .before .before .before .before .join .ensures)
+exceeds-requires c κs = width-then (c .before .before .before .before .before .before .before .before .before .before .pre) (c .before .before .before .before .before .before .join .ensures)
 
 returns : tie.Need-returns
 returns c =
@@ -87,55 +87,55 @@ returns c =
 
 expand-entries-requires : tie.Need-expand-entries-requires
 expand-entries-requires c κs =
-    let z = c .before .before .before in
-    widenable ((start z) .pre) (joined z) (told z) (counted z) (sym (z .exceeds .ensures) ∙ c .before .before .if1 .left)
+    let z = c .before .before in
+    widenable ((start z) .pre) (joined z) (told z) (counted z) (sym (z .exceeds .ensures) ∙ c .before .if1 .left)
 
 returns-2 : tie.Need-returns-2
 returns-2 c =
-    let z = c .before .before .before .before .before .before .before .before in
+    let z = c .before .before .before .before .before .before .before in
     beside (c .accepted .ensures)
-    ∙ left-by (now ((start z) .args .indices)) (c .before .before .before .before .before .before .new .ensures) (c .before .before .before .before .expand-entries .ensures)
-    ∙ levels-stay ((start z) .pre) (joined z) (told z) (counted z) (sym (z .exceeds .ensures) ∙ c .before .before .before .before .before .before .before .if1 .left) (c .before .if2 .taken)
+    ∙ left-by (now ((start z) .args .indices)) (z .before .before .before .new .ensures) (c .before .before .before .before .expand-entries .ensures)
+    ∙ levels-stay ((start z) .pre) (joined z) (told z) (counted z) (sym (z .exceeds .ensures) ∙ c .before .before .before .before .before .before .if1 .left) (c .before .if2 .taken)
 
 mul-at : tie.Need-mul-at
-mul-at c = omega (arith, place c, few-bytes (start (c .before .before .before .before .before .before .before .before)))
+mul-at c = omega (arith, place c, few-bytes (start (c .before .before .before .before .before .before .before)))
 
 add-at : tie.Need-add-at
-add-at c = omega (arith, place c, few-bytes (start (c .before .before .before .before .before .before .before .before)))
+add-at c = omega (arith, place c, few-bytes (start (c .before .before .before .before .before .before .before)))
 
 write-entry-requires : tie.Need-write-entry-requires
 write-entry-requires c κs =
-    let z = c .before .before .before .before .before .before .before .before .before in
+    let z = c .before .before .before .before .before .before .before .before in
     let a = (start z) .args in
-    writable ((start z) .pre) (joined z) (told z) (counted z) (sym (z .exceeds .ensures) ∙ c .before .before .before .before .before .before .before .before .if1 .left) (c .before .before .if2 .left) (c .before .before .before .before .before .expand-entries .kept .1 .1 .0)
+    writable ((start z) .pre) (joined z) (told z) (counted z) (sym (z .exceeds .ensures) ∙ c .before .before .before .before .before .before .before .if1 .left) (c .before .before .if2 .left) (c .before .before .before .before .before .expand-entries .kept .1 .1 .0)
     (ap (λ (k : ℕ). a .byte-start + a .self .count * k) (c .before .entry-size .ensures))
 
 index-in : (c : tie.After-slice-known4) →
-    let x = start (c .before .before .before .before .before .before .before .before .before .before .before .before) in
+    let x = start (c .before .before .before .before .before .before .before .before .before .before .before) in
     x .args .index-start + x .args .self .count < length (now (x .args .indices))
-index-in c = (places (c .before .before .before .before .before .before .before .before .before .before .before .before) (c .before .before .before .before .before .before .before .before .before .before .before .if1 .left) (c .before .before .before .before .before .if2 .left)) .index
+index-in c = (places (c .before .before .before .before .before .before .before .before .before .before .before) (c .before .before .before .before .before .before .before .before .before .before .if1 .left) (c .before .before .before .before .before .if2 .left)) .index
 
 add-indices : tie.Need-add-indices
-add-indices c = let p = index-in c in omega (arith, few-indices (start (c .before .before .before .before .before .before .before .before .before .before .before .before)))
+add-indices c = let p = index-in c in omega (arith, few-indices (start (c .before .before .before .before .before .before .before .before .before .before .before)))
 
 mul-indices : tie.Need-mul-indices
-mul-indices c = let p = index-in c in omega (arith, few-indices (start (c .before .before .before .before .before .before .before .before .before .before .before .before)))
+mul-indices c = let p = index-in c in omega (arith, few-indices (start (c .before .before .before .before .before .before .before .before .before .before .before)))
 
 slice-write-indices : tie.Need-slice-write-indices
 slice-write-indices c = index-in c
 
 returns-3 : tie.Need-returns-3
 returns-3 c =
-    let z = c .before .before .before .before .before .before .before .before .before .before .before .before .before in
+    let z = c .before .before .before .before .before .before .before .before .before .before .before .before in
     let x = start z in
     beside (c .accepted2 .ensures)
-    ∙ left-by (set (now (x .args .indices)) (x .args .index-start + x .args .self .count) (x .args .index)) (c .before .before .before .before .before .before .before .before .before .before .before .new .ensures)
+    ∙ left-by (set (now (x .args .indices)) (x .args .index-start + x .args .self .count) (x .args .index)) (z .before .before .before .new .ensures)
     (c .before .before .before .write-entry .ensures .1
     ∙ ap₂
     (λ (b : List ℕ) (k : ℕ).
     overlay b (x .args .byte-start + x .args .self .count * k) (entryFrom (joint z) (x .args .states) (now (x .args .value))))
     (c .before .before .before .before .before .before .before .before .before .expand-entries .ensures) (c .before .before .before .before .before .entry-size .ensures))
-    ∙ levels-grow (x .pre) (joined z) (told z) (counted z) (sym (z .exceeds .ensures) ∙ c .before .before .before .before .before .before .before .before .before .before .before .before .if1 .left) (c .before .before .before .before .before .before .if2 .left)
+    ∙ levels-grow (x .pre) (joined z) (told z) (counted z) (sym (z .exceeds .ensures) ∙ c .before .before .before .before .before .before .before .before .before .before .before .if1 .left) (c .before .before .before .before .before .before .if2 .left)
 
 pub raise-levels-spec : {M : Type 1} → statement M
 raise-levels-spec =
@@ -145,12 +145,12 @@ raise-levels-spec =
     (λ c κs. search needs)
     repeats-last-requires
     next-count-requires
+    (λ c κs. search needs)
     exceeds-requires
     (λ c κs. search needs)
     (λ c. search needs)
     (λ c. search needs)
     returns
-    (λ c κs. search needs)
     (λ c. search needs)
     expand-entries-requires
     (λ c κs. search needs)
