@@ -5,6 +5,7 @@ use mathlib.Core.Logic.{_↔_}
 use Prim.Native.Nat.{ℕ, zero, suc, _≤_}
 use native.Mathlib.Omega.{arith}
 use mathlib.Core.List.{List}
+use lib.ListN.{length}
 use borrow.Author.Tests.{le-ltb}
 use Rattle.fst.specs.Refusal.{given}
 use Rattle.fst.specs.Record.{maxWidth, keptOf, empty, encodingFor, fresh}
@@ -23,6 +24,11 @@ fresh-gives (suc w) a b = passes (given (empty (encodingFor (suc w)))) _ (le-ltb
 pub run-is-laid-out : (w : ℕ) → 1 ≤ w → (calls : List Call) → Run byValue (freshHeld w) calls
     → keptOf (after byValue (freshHeld w) calls) ≡ historyLaidOut w (historyOf (fed byValue (freshHeld w) calls))
 run-is-laid-out w h calls r = runs.layout w (laws w h) calls r
+
+-- "The count is the number of pairs"
+pub run-counts : (w : ℕ) → 1 ≤ w → (calls : List Call) → Run byValue (freshHeld w) calls
+    → (after byValue (freshHeld w) calls) .description .count ≡ length (historyOf (fed byValue (freshHeld w) calls))
+run-counts w h calls r = runs.counts w (laws w h) calls r
 
 -- two runs of one width leave equal records just where their histories are equal
 pub demand-3 : (w : ℕ) → 1 ≤ w → (xs ys : List Call) → Run byValue (freshHeld w) xs → Run byValue (freshHeld w) ys

@@ -15,16 +15,16 @@ use Rattle.value.specs.declared.States.the-variants.{Two}
 use Rattle.value.specs.Level.{fold, foldAll, codeOf, codesOf, markOf, join, leastOf, joinAll, hasNoCode}
 use Rattle.value.specs.Digits.{Below}
 use Rattle.value.proofs.Tests.{to-T}
-use Rattle.value.proofs.Slices.{same-sound, same-by}
+use Rattle.value.proofs.Slices.{part-overlay, same-sound, same-by}
 use Rattle.value.proofs.Levels.{mark-inj, mark-join, all-below, under}
 use Rattle.fst.specs.declared.Description.{Description}
 use Rattle.fst.specs.declared.Encoding.the-variants.{BitVector}
-use Rattle.fst.specs.Refusal.{Reply, refused, given, Outcome, outcome}
+use Rattle.fst.specs.Refusal.{Reply, refused, given, tried, Outcome, outcome}
 use Rattle.layout.specs.Entry.{entryOf}
-use Rattle.fst.specs.Record.{Lent, Kept, Held, Recorder, keptIn, keptOf, described}
+use Rattle.fst.specs.Record.{Lent, Kept, Held, Recorder, keptIn, heldIn, keptOf, described}
 use Rattle.fst.specs.Change.{Change, text, real, isOtherKind, isOtherLength, isForeign, changed, withChange, refusals, inHand, stored, addChange}
 use Rattle.runs.specs.All.{All}
-use Rattle.runs.specs.Runs.{byValue, Call, called, leftIn, leaves, Run, freshHeld, after, Fed, fed, Pair, endsLike, joined, sameString, fedOne, historyOf, Step, entriesOf, laidOut, stepOf, largestOf, historyLaidOut, seen, seenBy, Same}
+use Rattle.runs.specs.Runs.{byValue, Call, called, leftIn, leaves, Run, freshHeld, after, Fed, fed, Pair, endsLike, joined, sameString, fedOne, historyOf, Step, indexOf, entriesOf, laidOut, stepOf, largestOf, historyLaidOut, seen, seenBy, Same}
 use Rattle.layout.proofs.EntryLaws.{EntryLaws}
 use Rattle.fst.proofs.Refusals.{Passed, Result, through, stopped, result}
 use Rattle.fst.proofs.Records.{standing}
@@ -114,6 +114,36 @@ steps-tell [] = refl
 steps-tell (p ∷ h) = ap (λ (l : List Pair). p ∷ l) (steps-tell h)
 
 -- ---- a call
+
+-- a description that counts its indices
+abbrev Counted : Held Description → Type 0
+Counted k = k .description .count ≡ length (k .indices)
+
+module _ (d : Description) (l : Lent) (i : ℕ) (ch : Change) (held : Counted (heldIn d l)) where
+  stored-counted : (k : Kept) → l .indexStart ≤ length (l .indices) → Counted (leftIn byValue l (stored l k))
+  unfolding keptIn stored
+  stored-counted k h = sym (ap length (part-overlay (l .indices) (k .indices) (l .indexStart) (length (k .indices)) h refl))
+
+  call-counted : Counted (leftIn byValue l ((addChange d l i ch) .left))
+  unfolding addChange refusals
+  call-counted = go (result (given (stored l new)) (refusals d l i ch) tt)
+    where
+      new : Kept
+      new = withChange (keptIn d l) i ch
+
+      Left : Reply (Recorder Description) → Type 0
+      Left r = Counted (leftIn byValue l ((outcome (inHand d l) r) .left))
+
+      go : Result (given (stored l new)) (refusals d l i ch) → Left (tried (refusals d l i ch) (given (stored l new)))
+      go (through ps e) = subst Left (sym e) (stored-counted new (omega (arith, (standing (ps .0)) .room .indices)))
+      go (stopped n e) = subst Left (sym e) held
+
+counted-from : (k : Held Description) → Counted k → (cs : List Call) → Run byValue k cs → Counted (after byValue k cs)
+unfolding Run after leaves
+counted-from k h [] r = h
+counted-from k h (c ∷ cs) r =
+    counted-from (leaves byValue k c)
+    (call-counted (k .description) (c .lent) (c .index) (c .change) (subst Counted (sym (r .0)) h)) cs (r .1)
 
 -- what a call feeds the history
 abbrev pub fedBy : Held Description → Call → Fed
@@ -214,6 +244,16 @@ module _ (w : ℕ) (L : EntryLaws w) where
   -- and each string of the history is w levels in small letters
   pub spelt : (cs : List Call) → Run byValue (freshHeld w) cs → All (Spelt w) (historyOf (fed byValue (freshHeld w) cs))
   spelt cs r = (from-fresh cs r) .1
+
+  -- and its count is the number of pairs
+  pub counts : (cs : List Call) → Run byValue (freshHeld w) cs → (after byValue (freshHeld w) cs) .description .count ≡ length (historyOf (fed byValue (freshHeld w) cs))
+  unfolding historyLaidOut laidOut
+  counts cs r =
+      let h = historyOf (fed byValue (freshHeld w) cs) in
+      counted-from (freshHeld w) refl cs r
+      ∙ ap (λ (k : Kept). length (k .indices)) (layout cs r)
+      ∙ length-map (map stepOf h) indexOf
+      ∙ length-map h stepOf
 
   -- two histories laid out are equal records only where they are equal
   history-same : (h g : List Pair) → All (Spelt w) h → All (Spelt w) g → seen (historyLaidOut w h) ≡ seen (historyLaidOut w g) → h ≡ g
