@@ -38,10 +38,10 @@ pub used-stands : {d : Description} {l : Lent} → Standing d l → isBadBytes d
 unfolding isBadBytes fitsBytes
 used-stands {d} s = rw (s .width, le-leb (d .count) maximum (s .room .count), bytes-used s, le-leb (0 + usedSize d) (usedSize d) (omega arith))
 
-pub late-told : (l : List ℕ) → 0 < length l → not (eqb (getD l 0 0) 0) ≡ isLate l
-late-told [] h = absurd (omega arith)
-late-told (zero ∷ l) h = refl
-late-told (suc i ∷ l) h = rw (ne-eqb (suc i) 0 (λ z. omega arith))
+pub late-first : (l : List ℕ) → 0 < length l → not (eqb (getD l 0 0) 0) ≡ isLate l
+late-first [] h = absurd (omega arith)
+late-first (zero ∷ l) h = refl
+late-first (suc i ∷ l) h = rw (ne-eqb (suc i) 0 (λ z. omega arith))
 
 pub late-none : (l : List ℕ) → length l ≡ 0 → true ≡ isLate l
 late-none [] h = refl

@@ -5,58 +5,46 @@ use borrow.Author.Tests.{ltb-false}
 use lib.ListN.{drop, length}
 use mathlib.Core.Bool.{false}
 use mathlib.Core.List.{List}
-use mathlib.Core.Path.{_∙_, _≡_, ap, refl, sym}
+use mathlib.Core.Path.{_∙_, _≡_, ap, refl}
 use native.Mathlib.Omega.{arith}
 use Rattle.value.specs.Digits.{Below}
 use Rattle.value.specs.Level.{bitsOf, lenOf, markOf, setAt}
 use Rattle.value.specs.declared.States.{States}
 use Rattle.value.proofs.Digits.{digits-length}
 use Rattle.value.proofs.Levels.{mark-set, mark-small}
-use Rattle.fst.specs.Record.{hasNoText, largestIn, widthOf}
+use Rattle.fst.specs.Record.{largestIn, widthOf}
 use Rattle.fst.specs.declared.Encoding.{Encoding}
 use Rattle.fst.specs.declared.Encoding.the-variants.{BitVector, Event, Real}
 use Rattle.signal.specs.Decode.{codesAt, hasBadMark, levelPart, levelsIn, markIn, setIn}
 use Rattle.signal.specs.Parts.{Levels, Whole, ownStates}
 use Rattle.signal.proofs.Decoding.{codes-below}
-use Rattle.signal.proofs.Reading.{Owned, owned, some, vector}
-
-module _ (w : ℕ) (M : States) (v : List ℕ) where
-  -- the own set of an entry whose mark is good
-  pub owned-good : Whole (BitVector w M) v → hasBadMark (BitVector w M) v ≡ false → Owned w M v (setAt (markIn M v))
-  unfolding ownStates hasBadMark
-  owned-good h g = owned h (rw g)
+use Rattle.signal.proofs.Reading.{Owned, owned, some}
 
 -- an entry u of a bit vector, and what the code finds in it
-module _ (e : Encoding) (v : List ℕ) (h : Whole e v) (w : ℕ) (M : States) (q : e ≡ BitVector w M) (u : List ℕ) (r : u ≡ v) where
+module _ {w : ℕ} {M : States} {v : List ℕ} (h : Whole (BitVector w M) v) {u : List ℕ} (r : u ≡ v) where
   pub marked : 0 < length u
-  marked = rw r (some (vector q h))
+  marked = rw r (some h)
 
-  module _ (m : ℕ) (S : States) (k : m ≡ markIn M u) (f : S ≡ setAt m) where
-    told : S ≡ setAt (markIn M v)
-    told = f ∙ ap setAt (k ∙ ap (markIn M) r)
+  module _ {S : States} (f : S ≡ setAt (markIn M u)) where
+    is : S ≡ setAt (markIn M v)
+    is = f ∙ ap (λ (x : List ℕ). setAt (markIn M x)) r
 
-    pub set-told : S ≡ setIn e v
+    pub set-found : S ≡ setIn (BitVector w M) v
     unfolding setIn
-    set-told = told ∙ sym (ap (λ (x : Encoding). setIn x v) q)
+    set-found = is
 
-    module _ (g : hasBadMark e v ≡ false) where
+    module _ (g : hasBadMark (BitVector w M) v ≡ false) where
       good : Owned w M v (setAt (markIn M v))
-      good = owned-good w M v (vector q h) (rw q at g)
+      unfolding ownStates hasBadMark
+      good = owned h (rw g)
 
       pub part-fits : lenOf w S ≤ length u
-      part-fits = rw (told, r) (good .within)
+      part-fits = rw (is, r) (good .within)
 
-      pub part-told : (p : List ℕ) → p ≡ drop (length u - lenOf w S) u → p ≡ levelPart e v
-      part-told p z = z ∙ rw (told, r, q) (good .part)
-
--- the levels of an entry, by what the code finds in it
-pub levels-of : (e : Encoding) (v : List ℕ) → hasNoText e ≡ false → Whole e v → hasBadMark e v ≡ false
-    → (w : ℕ) (S : States) (l : List ℕ) → w ≡ widthOf e → S ≡ setIn e v → l ≡ levelPart e v
-    → Levels w S l × (codesAt w S l ≡ levelsIn e v)
-unfolding hasNoText setIn
-levels-of Event v t h g w S l a b c = let z : _≡_ {A = ℕ} 0 1 = cc in absurd (omega arith)
-levels-of Real v t h g w S l a b c = let z : _≡_ {A = ℕ} 0 1 = cc in absurd (omega arith)
-levels-of (BitVector x M) v t h g w S l a b c = let o = owned-good x M v h g in rw (a, b, c) (o .levels, o .codes)
+      pub levels-found : (l : List ℕ) → l ≡ drop (length u - lenOf w S) u → Levels w S l × (codesAt w S l ≡ levelsIn (BitVector w M) v)
+      levels-found l z =
+          let p : l ≡ levelPart (BitVector w M) v = z ∙ rw (is, r) (good .part) in
+          rw (p, is) (good .levels, good .codes)
 
 pub levels-length : (e : Encoding) (v : List ℕ) → length (levelsIn e v) ≡ widthOf e
 unfolding levelsIn

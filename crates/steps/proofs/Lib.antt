@@ -9,3 +9,4 @@ pub mod Appending
 pub mod Storing
 pub mod Rooms
 pub mod Totals
+pub mod Moments

@@ -23,7 +23,7 @@ use Rattle.steps.specs.declared.Input.{Input}
 use Rattle.steps.specs.declared.Inputs.{Inputs}
 use Rattle.steps.proofs.InputTests.{Stands}
 use Rattle.steps.proofs.Levels.{mark-within}
-use Rattle.steps.proofs.Tracks.{Begun, Shows, Within, bytes-told, r-indices}
+use Rattle.steps.proofs.Tracks.{Begun, Shows, Within, bytes-shown, r-indices}
 
 -- ---- tests that hold of no element
 
@@ -57,7 +57,7 @@ module _ {bytes indices : List ℕ} (c : Cursor) (s : Source bytes indices (c .i
   unfolding keptIn
   good-mark =
       let h : c .begun - 1 < length ((inputKept bytes indices (c .input)) .indices) = rw (r-indices bytes indices c shows) (omega arith) in
-      ap (hasBadMark (c .input .description .encoding)) (sym (bytes-told bytes indices c shows))
+      ap (hasBadMark (c .input .description .encoding)) (sym (bytes-shown bytes indices c shows))
       ∙ entries-each (inputKept bytes indices (c .input)) entryIsBad (s .marked) (c .begun - 1) h
 
   pub showing : Showing bytes c

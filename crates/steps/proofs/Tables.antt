@@ -1,6 +1,6 @@
 -- The inputs as numbers: what is stored of each, and what is read of each.
 -- Assumes nothing.
-use Prim.Native.Nat.{_*_, _+_, _-_, _/_, _<_, _≤_, suc, zero, ℕ}
+use Prim.Native.Nat.{_*_, _+_, _-_, _<_, _≤_, suc, zero, ℕ}
 use lib.ListN.{drop, getD, length, length-set, set, take}
 use lib.Seq.{ext-getD, getD-set-other, getD-set-same, getD-take, length-take-le}
 use mathlib.Core.Bool.{false}
@@ -10,7 +10,6 @@ use native.Mathlib.Omega.{arith}
 use Rattle.value.specs.Level.{lenOf, markOf, setAt}
 use Rattle.value.specs.Slice.{same}
 use Rattle.value.specs.declared.States.{States}
-use Rattle.value.specs.declared.States.the-variants.{Two}
 use Rattle.value.proofs.Levels.{set-mark}
 use Rattle.value.proofs.Tests.{by-eq}
 use Rattle.fst.specs.Record.{hasNoText, largestIn, sizeOf, widthOf}
@@ -24,11 +23,11 @@ use Rattle.steps.specs.Table.{SizedAt, TableOf, Tables, entryShown, inpu
 use Rattle.steps.specs.declared.Input.{Input}
 use Rattle.steps.specs.declared.Inputs.{Inputs}
 use Rattle.steps.proofs.InputTests.{noInput}
-use Rattle.steps.proofs.Levels.{levels-of, marked, part-fits, part-told, set-told}
+use Rattle.steps.proofs.Levels.{levels-found, marked, part-fits, set-found}
 
 -- ---- what is read
 
-pub input-told : (numbers starts : List ℕ) (i : ℕ) (M : States) → M ≡ setAt (getD numbers (16 + i) 0)
+pub input-read : (numbers starts : List ℕ) (i : ℕ) (M : States) → M ≡ setAt (getD numbers (16 + i) 0)
     → _≡_ {A = Input}
     (record {
       description = record { encoding = BitVector (getD numbers (8 + i) 0) M; count = getD numbers i 0 };
@@ -36,7 +35,7 @@ pub input-told : (numbers starts : List ℕ) (i : ℕ) (M : States) → M ≡ se
       «index_start» = getD starts (8 + i) 0;
     })
     (inputIn numbers starts i)
-input-told numbers starts i M e = rw e
+input-read numbers starts i M e = rw e
 
 pub slot-is : (count : ℕ) (numbers starts : List ℕ) (i : ℕ) → i < 8 → inputIn numbers starts i ≡ getD ((inputsIn count numbers starts) .slots) i noInput
 slot-is count numbers starts zero h = refl
@@ -50,7 +49,7 @@ slot-is count numbers starts (suc (suc (suc (suc (suc (suc (suc zero))))))) h = 
 slot-is count numbers starts (suc (suc (suc (suc (suc (suc (suc (suc i)))))))) h = absurd (omega arith)
 
 -- what an input shows
-module _ (numbers starts bytes : List ℕ) (i : ℕ) (sized : SizedAt numbers starts i) (k : ℕ) (h : Showing bytes (cursor (inputIn numbers starts i) k)) where
+module _ (numbers starts : List ℕ) {bytes : List ℕ} (i : ℕ) (sized : SizedAt numbers starts i) {k : ℕ} (h : Showing bytes (cursor (inputIn numbers starts i) k)) where
   abbrev here : Cursor
   here = cursor (inputIn numbers starts i) k
 
@@ -67,32 +66,19 @@ module _ (numbers starts bytes : List ℕ) (i : ℕ) (sized : SizedAt numbers st
   pub found-fits : getD starts i 0 + ((k - 1) * getD starts (16 + i) 0 + getD starts (16 + i) 0) ≤ length bytes
   found-fits = rw sized (h .inside)
 
-  module _ (v : List ℕ) (e : v ≡ entryShown starts i bytes k) where
+  module _ {v : List ℕ} (e : v ≡ entryShown starts i bytes k) where
     pub found-some : 0 < length v
-    found-some = marked (BitVector wide set-of) (shownBytes bytes here) (h .whole) wide set-of refl v (e ∙ found-is)
+    found-some = marked (h .whole) (e ∙ found-is)
 
-    module _ (S : States) (f : S ≡ setAt (markIn set-of v)) where
+    module _ {S : States} (f : S ≡ setAt (markIn set-of v)) where
       pub found-set : S ≡ setNow bytes here
-      found-set = set-told (BitVector wide set-of) (shownBytes bytes here) (h .whole) wide set-of refl v (e ∙ found-is) (markIn set-of v) S refl f
+      found-set = set-found (h .whole) (e ∙ found-is) f
 
       pub found-room : lenOf wide S ≤ length v
-      found-room = part-fits (BitVector wide set-of) (shownBytes bytes here) (h .whole) wide set-of refl v (e ∙ found-is) (markIn set-of v) S refl f (h .marked)
+      found-room = part-fits (h .whole) (e ∙ found-is) f (h .marked)
 
       pub found-levels : (l : List ℕ) → l ≡ drop (length v - lenOf wide S) v → Levels wide S l × (codesAt wide S l ≡ levelsNow bytes here)
-      found-levels l q =
-          levels-of (BitVector wide set-of) (shownBytes bytes here) (h .vector) (h .whole) (h .marked) wide S l refl found-set
-          (part-told (BitVector wide set-of) (shownBytes bytes here) (h .whole) wide set-of refl v (e ∙ found-is) (markIn set-of v) S refl f (h .marked) l q)
-
--- the own set by a mark
-pub own-none : (m : ℕ) (v : List ℕ) → m ≡ 0 → Two ≡ setAt (markIn (setAt m) v)
-unfolding markIn
-own-none m v e = rw e
-
-pub own-some : (m : ℕ) (v : List ℕ) → (m ≡ 0 → ⊥) → (S : States) → S ≡ setAt (getD v 0 0 / 64) → S ≡ setAt (markIn (setAt m) v)
-unfolding markIn
-own-some zero v n S e = absurd (n refl)
-own-some (suc zero) v n S e = e
-own-some (suc (suc m)) v n S e = e
+      found-levels = levels-found (h .whole) (e ∙ found-is) f (h .marked)
 
 -- ---- what is stored
 

@@ -119,25 +119,25 @@ module _ (bytes indices : List ℕ) where
 
   -- ---- what comes next
 
-  next-told : (c : Cursor) → headOf (map shownIndex (drop (c .begun) (shownOf (c .input)))) ≡ nextIn indices c
+  next-shown : (c : Cursor) → headOf (map shownIndex (drop (c .begun) (shownOf (c .input)))) ≡ nextIn indices c
   unfolding nextIn
-  next-told c = ap headOf (map-drop shownIndex (c .begun) (shownOf (c .input)) ∙ ap (drop (c .begun)) (shown-indices (c .input)))
+  next-shown c = ap headOf (map-drop shownIndex (c .begun) (shownOf (c .input)) ∙ ap (drop (c .begun)) (shown-indices (c .input)))
 
-  pub soonest-told : (cs : List Cursor) → smallest (tracks cs) ≡ soonest indices cs
+  pub soonest-smallest : (cs : List Cursor) → smallest (tracks cs) ≡ soonest indices cs
   unfolding smallest soonest
-  soonest-told [] = refl
-  soonest-told (c ∷ cs) = ap₂ smaller (next-told c) (soonest-told cs)
+  soonest-smallest [] = refl
+  soonest-smallest (c ∷ cs) = ap₂ smaller (next-shown c) (soonest-smallest cs)
 
   -- ---- how they move
 
-  move-told : (i : ℕ) (c : Cursor) → moved i (trackOf c) ≡ trackOf (advanced indices i c)
-  move-told i c =
+  move-track : (i : ℕ) (c : Cursor) → moved i (trackOf c) ≡ trackOf (advanced indices i c)
+  move-track i c =
       moved-at i (c .begun) (shownOf (c .input))
-      ∙ ap (λ (n : NextIndex). at (shownOf (c .input)) (begunAt i (c .begun) n)) (next-told c)
+      ∙ ap (λ (n : NextIndex). at (shownOf (c .input)) (begunAt i (c .begun) n)) (next-shown c)
 
-  pub moves-told : (i : ℕ) (cs : List Cursor) → map (moved i) (tracks cs) ≡ tracks (map (advanced indices i) cs)
-  moves-told i [] = refl
-  moves-told i (c ∷ cs) = ap₂ (λ (t : Track) (ts : List Track). t ∷ ts) (move-told i c) (moves-told i cs)
+  pub moves-tracks : (i : ℕ) (cs : List Cursor) → map (moved i) (tracks cs) ≡ tracks (map (advanced indices i) cs)
+  moves-tracks i [] = refl
+  moves-tracks i (c ∷ cs) = ap₂ (λ (t : Track) (ts : List Track). t ∷ ts) (move-track i c) (moves-tracks i cs)
 
   -- ---- what they show
 
@@ -162,13 +162,13 @@ module _ (bytes indices : List ℕ) where
     r-indices = indices-used (h .stands)
 
     -- its bytes among all
-    pub bytes-told : entryAt (c .input .description .encoding) 0 (r .bytes) (c .begun - 1) ≡ shownBytes bytes c
+    pub bytes-shown : entryAt (c .input .description .encoding) 0 (r .bytes) (c .begun - 1) ≡ shownBytes bytes c
     unfolding keptIn
-    bytes-told = entry-within (c .input .description) bytes (c .input .«byte_start») (c .begun - 1) (omega (arith, h .begun, h .within))
+    bytes-shown = entry-within (c .input .description) bytes (c .input .«byte_start») (c .begun - 1) (omega (arith, h .begun, h .within))
 
-    pub now-told : lastOf (shownOf (c .input)) (c .begun) ≡ some (shownBy (indexed r (c .begun - 1)))
+    pub now-shown : lastOf (shownOf (c .input)) (c .begun) ≡ some (shownBy (indexed r (c .begun - 1)))
     unfolding keptIn
-    now-told =
+    now-shown =
         let k : suc (c .begun - 1) ≡ c .begun = omega (arith, h .begun) in
         let n : c .begun - 1 < length (r .indices) = rw r-indices (omega (arith, h .begun, h .within)) in
         ap (lastOf (shownOf (c .input))) (sym k)

@@ -25,7 +25,7 @@ use Rattle.steps.specs.declared.Inputs.{Inputs}
 use Rattle.steps.proofs.InputTests.{Stands}
 use Rattle.steps.proofs.Loops.{cursors-length, next-within}
 use Rattle.steps.proofs.Sources.{AllStand, all-inputs, indexable, showing}
-use Rattle.steps.proofs.Tracks.{Within, come-less, moves-told, shown-count, shownOf, soonest-told, toCome, tracks, tracks-start}
+use Rattle.steps.proofs.Tracks.{Within, come-less, moves-tracks, shown-count, shownOf, soonest-smallest, toCome, tracks, tracks-start}
 
 -- ---- cursors as they start and move on
 
@@ -116,7 +116,7 @@ module _ {S : Type 0} {yields : Moment → S} {like : S → S → Bool} {inputs 
           enough = omega arith;
           rest =
               ap (λ (n : NextIndex). foldl (joined like) [] (map yields (momentsFrom (toCome (tracks bytes indices (cursorsOf inputs p))) n (tracks bytes indices (cursorsOf inputs p)))))
-              (sym (soonest-told bytes indices (cursorsOf inputs p)))
+              (sym (soonest-smallest bytes indices (cursorsOf inputs p)))
               ∙ ap (λ (ts : List Track). foldl (joined like) [] (map yields (momentsFrom (toCome ts) (smallest ts) ts))) t;
           bounded =
               let b = come-bound bytes indices cs₀ (all-inputs (Stands bytes indices) is (replicate 8 0) (G .each)) in
@@ -141,10 +141,10 @@ module _ {S : Type 0} {yields : Moment → S} {like : S → S → Bool} {inputs 
       us = tracks bytes indices (cursorsOf inputs q)
 
       us-are : map (moved i) ts ≡ us
-      us-are = moves-told bytes indices i (cursorsOf inputs p) ∙ ap (tracks bytes indices) (sym on)
+      us-are = moves-tracks bytes indices i (cursorsOf inputs p) ∙ ap (tracks bytes indices) (sym on)
 
       pub come-fewer : toCome us < toCome ts
-      come-fewer = rw (← us-are) (come-less i ts (soonest-told bytes indices (cursorsOf inputs p) ∙ sym (W .told)))
+      come-fewer = rw (← us-are) (come-less i ts (soonest-smallest bytes indices (cursorsOf inputs p) ∙ sym (W .told)))
 
       module _ (s : S) (e : yields (momentAt bytes indices i (cursorsOf inputs q)) ≡ s) where
         rest-on : (left : ℕ) → toCome ts ≤ left → foldl (joined like) kept (map yields (momentsFrom left (At i) ts)) ≡ allKept yields like inputs bytes indices
@@ -153,7 +153,7 @@ module _ {S : Type 0} {yields : Moment → S} {like : S → S → Bool} {inputs 
         rest-on zero h r = absurd (omega (arith, come-fewer))
         rest-on (suc n) h r =
             let k : suc n - 1 ≡ n = omega arith in
-            ap₂ (λ (m : ℕ) (x : NextIndex). foldl (joined like) (joined like kept s) (map yields (momentsFrom m x us))) k (sym (soonest-told bytes indices (cursorsOf inputs q)))
+            ap₂ (λ (m : ℕ) (x : NextIndex). foldl (joined like) (joined like kept s) (map yields (momentsFrom m x us))) k (sym (soonest-smallest bytes indices (cursorsOf inputs q)))
             ∙ ap (λ (x : S). foldl (joined like) (joined like kept x) (map yields (momentsFrom n (smallest us) us))) (sym e)
             ∙ ap (λ (vs : List Track). foldl (joined like) (joined like kept (yields (record { index = i; showing = map nowOf vs }))) (map yields (momentsFrom n (smallest vs) vs))) (sym us-are)
             ∙ r

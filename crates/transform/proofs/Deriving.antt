@@ -41,7 +41,7 @@ use Rattle.steps.proofs.Walk.{Walk, all-zero, come-fewer, momentAt, on-within, 
 use Rattle.transform.specs.Derive.{derivedFrom, sameStep, yielded}
 use Rattle.transform.specs.Picking.{Pickable, Stepped, largestNow, pickedNow}
 use Rattle.transform.proofs.Given.{Ready, all-shows, early, set-in, stand, stepped, wide}
-use Rattle.transform.proofs.Picked.{entry-told, front-long, largest-told, pickable, picked-all, picked-below, picked-told, writable}
+use Rattle.transform.proofs.Picked.{entry-gathered, front-long, largest-shown, pickable, picked-all, picked-below, picked-shown, writable}
 
 -- ---- two steps are alike just where their entries are
 
@@ -173,8 +173,8 @@ module _ {d : DerivedBitVecSignal} {inputs : Inputs} {bytes indices : List ℕ} 
       yields : yielded (piecesOf d) (momentAt bytes indices i cs) ≡ s
       yields =
           let h = all-shows R q (a .places) begun inside in
-          let x = picked-told bytes indices cs h (piecesOf d) in
-          let y = largest-told bytes indices cs h in
+          let x = picked-shown bytes indices cs h (piecesOf d) in
+          let y = largest-shown bytes indices cs h in
           λ t. record { index = i; string = textOf (x t); set = y t }
 
       deriving-on : Deriving d inputs bytes indices M q (soonest indices cs) (joined sameStep kept s) (left - 1)
@@ -220,7 +220,7 @@ module _ {d : DerivedBitVecSignal} {inputs : Inputs} {bytes indices : List ℕ} 
 
         entry-is : entry ≡ entryFor (d .width) M (s W a)
         entry-is =
-            entry-told st M up text new (t .stored)
+            entry-gathered st M up text new (t .stored)
             ∙ ap (λ (x : States). entryOf (d .width) M x (pickedNow bytes (cursorsOf inputs q) (piecesOf d))) (t .set)
             ∙ ap (entryOf (d .width) M (largestNow bytes (cursorsOf inputs q))) (sym (string-codes W a))
 

@@ -33,11 +33,11 @@ use Rattle.steps.proofs.InputTests.{noInput}
 use Rattle.steps.proofs.Loops.{cursor-at, cursors-count, shown-at}
 use Rattle.steps.proofs.Sources.{AllStand, Source, all-inputs, all-none, all-none-map, all-stand, set-within, showing, shows}
 use Rattle.steps.proofs.Tables.{kept-as}
-use Rattle.steps.proofs.Tracks.{Begun, Shows, Within, bytes-told, r-indices}
+use Rattle.steps.proofs.Tracks.{Begun, Shows, Within, bytes-shown, r-indices}
 use Rattle.transform.specs.Derive.{codeIsBad, isBeyond, isUnfit, largestAmong, pickIsBad, pickedOf}
 use Rattle.transform.specs.Picking.{PieceIn, Stepped, Under, Walkable, largestNow, largestOver, pickedNow}
 use Rattle.transform.specs.Refusals.{Derivable}
-use Rattle.transform.proofs.PieceTests.{Fit, beyond-told, code-told, fit, pieces-count}
+use Rattle.transform.proofs.PieceTests.{Fit, beyond-by-width, code-by-entries, fit, pieces-count}
 
 -- ---- the sets
 
@@ -146,7 +146,7 @@ module _ {d : DerivedBitVecSignal} {inputs : Inputs} {bytes indices : List ℕ} 
         let s : e .signal < inputs .count = signal-low e b in
         let f = few-inputs in
         let m : e .signal < min (inputs .count) 8 = omega arith in
-        let n = ltb-false _ _ (sym (beyond-told inputs (R .slots) bytes indices e m) ∙ o) in
+        let n = ltb-false _ _ (sym (beyond-by-width inputs (R .slots) bytes indices e m) ∙ o) in
         (rw (cursors-count inputs few-inputs (R .slots) p places) s, rw (shown-at inputs few-inputs (R .slots) (e .signal) s widthNow 0 p places) n))
         (piecesOf d) (all-none (isBadPiece (d .«input_count»)) (piecesOf d) (parts .pieces)) (all-none (isBeyond ks) (piecesOf d) (tests .within))
 
@@ -175,10 +175,10 @@ module _ {d : DerivedBitVecSignal} {inputs : Inputs} {bytes indices : List ℕ} 
           let c = cursor i k in
           let h = cursor-at inputs few-inputs (R .slots) (e .signal) s (Shows bytes indices) p places all-shows in
           let n : k - 1 < length ((inputKept bytes indices i) .indices) = rw (r-indices bytes indices c h) (omega (arith, h .begun, h .within)) in
-          let q = entries-each (inputKept bytes indices i) (pickIsBad e) (sym (code-told inputs (R .slots) bytes indices e m) ∙ y) (k - 1) n in
+          let q = entries-each (inputKept bytes indices i) (pickIsBad e) (sym (code-by-entries inputs (R .slots) bytes indices e m) ∙ y) (k - 1) n in
           rw (shown-at inputs few-inputs (R .slots) (e .signal) s (levelsNow bytes) [] p places)
           (all-below (pickedOf e (levelsNow bytes c))
-          (ap (λ (v : List ℕ). hasNoCode (pickedOf e (levelsIn (i .description .encoding) v))) (sym (bytes-told bytes indices c h)) ∙ q))
+          (ap (λ (v : List ℕ). hasNoCode (pickedOf e (levelsIn (i .description .encoding) v))) (sym (bytes-shown bytes indices c h)) ∙ q))
 
       letters : Below 9 (pickedNow bytes cs (piecesOf d))
       unfolding any pickedNow

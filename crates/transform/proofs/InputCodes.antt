@@ -1,8 +1,8 @@
 -- Whether an input has a number that is no code: by whole bytes, and what that says of each piece.
 -- Assumes nothing.
 use Prim.Native.Nat.{_%_, _*_, _+_, _-_, _/_, _<_, _^_, _≤_, min, suc, zero, ℕ}
-use borrow.Author.Tests.{le-ltb, ltb-true}
-use lib.Bits.{and-le-l, and-le-r, and-mask, bitAnd, bitOr, or-add-and}
+use borrow.Author.Tests.{ltb-true}
+use lib.Bits.{and-mask, bitAnd}
 use lib.Dec.{leb, leb→le, ltb}
 use lib.ListN.{getD, length}
 use mathlib.Core.Bool.{Bool, false, not, true}
@@ -15,18 +15,18 @@ use Rattle.value.specs.Slice.{any, part}
 use Rattle.value.specs.declared.States.{States}
 use Rattle.value.specs.declared.States.the-variants.{Four, Nine, Two}
 use Rattle.value.proofs.Classes.{each-byte}
+use Rattle.value.proofs.Digits.{below-at}
 use Rattle.value.proofs.Levels.{none-foreign}
 use Rattle.value.proofs.Lists.{any-each, any-map}
 use Rattle.value.proofs.Packed.{read}
-use Rattle.value.proofs.Slices.{part-all, part-at, part-length}
+use Rattle.value.proofs.Slices.{any-none, part-all, part-at, part-length}
 use Rattle.value.proofs.Tests.{and-right, by-eq, to-T}
 use Rattle.fst.specs.Record.{keptIn, usedSize, widthOf, widthStands}
-use Rattle.fst.specs.Refusal.{tried}
 use Rattle.fst.specs.declared.Encoding.{Encoding}
 use Rattle.fst.specs.declared.Encoding.the-variants.{BitVector, Event, Real}
 use Rattle.fst.proofs.Records.{indices-used, standing}
 use Rattle.signal.specs.Decode.{Indexed, codesAt, entriesIn, hasBadCode, levelsIn}
-use Rattle.signal.specs.Parts.{Levels}
+use Rattle.signal.specs.Parts.{Levels, isBadByte}
 use Rattle.signal.proofs.Decoding.{level-code, level-in}
 use Rattle.signal.proofs.Entries.{entries-each, entries-none}
 use Rattle.signal.proofs.Reading.{inside}
@@ -40,25 +40,22 @@ use Rattle.steps.specs.declared.Inputs.{Inputs}
 use Rattle.steps.proofs.InputTests.{noInput, slot-none, used-stands}
 use Rattle.steps.proofs.Levels.{levels-length}
 use Rattle.transform.specs.Derive.{codeIsBad, pickIsBad, pickedOf}
-use Rattle.transform.specs.Refusals.{Readable, RecordPick, TwoCodes}
-use Rattle.transform.proofs.PieceTests.{code-told, fit, pick-code, pick-count, pick-none, piece-is, pieces-count, signal-low}
+use Rattle.transform.specs.Refusals.{Readable, RecordPick}
+use Rattle.transform.proofs.PieceTests.{code-by-entries, fit, pick-code, pick-count, pick-none, piece-is, pieces-count, signal-low}
 
 -- ---- one byte
 
-pub two-codes : (b r : ℕ) → b < 256 → ltb 0 r ≡ hasNoCode (digits 16 2 b) → r ≡ 0 → TwoCodes b
-unfolding digits any
-two-codes b r h e z =
-    let n : not (hasNoCode (digits 16 2 b)) ≡ true = ap not (sym e ∙ le-ltb 0 r (omega arith)) in (
-      ltb-true (b / 16) 9 (each-byte (λ (n : ℕ). not (hasNoCode (digits 16 2 n))) (λ (n : ℕ). ltb (n / 16) 9) tt b h n),
-      ltb-true (b % 16) 9 (each-byte (λ (n : ℕ). not (hasNoCode (digits 16 2 n))) (λ (n : ℕ). ltb (n % 16) 9) tt b h n),
-    )
+-- both levels of a byte under the set Nine are codes
+abbrev TwoCodes : ℕ → Type 0
+TwoCodes b = (b / 16 < 9) × (b % 16 < 9)
 
-pub or-zero : (a b : ℕ) → bitOr a b ≡ 0 → (a ≡ 0) × (b ≡ 0)
-or-zero a b e =
-    let s = or-add-and a b in
-    let l = and-le-l a b in
-    let r = and-le-r a b in
-    (omega arith, omega arith)
+two-codes : (b : ℕ) → b < 256 → isBadByte b ≡ false → TwoCodes b
+unfolding digits any
+two-codes b h e =
+    let n : not (isBadByte b) ≡ true = ap not e in (
+      ltb-true (b / 16) 9 (each-byte (λ (n : ℕ). not (isBadByte n)) (λ (n : ℕ). ltb (n / 16) 9) tt b h n),
+      ltb-true (b % 16) 9 (each-byte (λ (n : ℕ). not (isBadByte n)) (λ (n : ℕ). ltb (n % 16) 9) tt b h n),
+    )
 
 -- ---- the picked levels of bytes
 
@@ -87,6 +84,9 @@ module _ (n a b k : ℕ) (x : k + 1 ≤ a) (y : a ≤ n) (z : b ≤ k) where
   between-low : n - 1 - k - (n - a) < n - b - (n - a)
   between-low = omega arith
 
+  between-inside : n - 1 - k < n
+  between-inside = omega arith
+
   between-fits : n - a + (n - b - (n - a)) ≤ n
   between-fits = omega arith
 
@@ -107,7 +107,7 @@ module _ (e : Extract) (w : ℕ) (levels : List ℕ) (h : Levels w Nine levels) 
   abbrev codes : List ℕ
   codes = codesAt w Nine levels
 
-  module _ (tried : (k : ℕ) → k < length (bytesOf e levels) → TwoCodes (getD (bytesOf e levels) k 0)) where
+  module _ (clean : any isBadByte (bytesOf e levels) ≡ false) where
     code : (i : ℕ) → i < e .width → getD (pickedOf e codes) i 0 < 9
     code i k =
         let n = w - endOf e + i in
@@ -118,8 +118,9 @@ module _ (e : Extract) (w : ℕ) (levels : List ℕ) (h : Levels w Nine levels) 
         let at = length levels - 1 - j * 4 / 8 in
         let p : length (bytesOf e levels) ≡ to e levels - from e levels = part-length levels (from e levels) (to e levels - from e levels) (between-fits (length levels) ((endOf e + 1) / 2) (e .lsb / 2) (j * 4 / 8) (g .0) (g .1) (g .2)) in
         let l = between-low (length levels) ((endOf e + 1) / 2) (e .lsb / 2) (j * 4 / 8) (g .0) (g .1) (g .2) in
-        let t : TwoCodes (getD levels at 0) =
-        rw (part-at levels (from e levels) (to e levels - from e levels) (at - from e levels) 0 l, between-at (length levels) ((endOf e + 1) / 2) (e .lsb / 2) (j * 4 / 8) (g .0) (g .1) (g .2)) at (tried (at - from e levels) (rw p l)) in
+        let q : isBadByte (getD levels at 0) ≡ false =
+        rw (part-at levels (from e levels) (to e levels - from e levels) (at - from e levels) 0 l, between-at (length levels) ((endOf e + 1) / 2) (e .lsb / 2) (j * 4 / 8) (g .0) (g .1) (g .2)) at (any-none isBadByte (bytesOf e levels) clean (at - from e levels) 0 (rw p l)) in
+        let t = two-codes (getD levels at 0) (below-at 256 levels bytes at 0 (between-inside (length levels) ((endOf e + 1) / 2) (e .lsb / 2) (j * 4 / 8) (g .0) (g .1) (g .2))) q in
         let s : bitAnd (j * 4) 7 ≡ j * 4 % 8 = and-mask (j * 4) 3 in
         let c : getD (pickedOf e codes) i 0 ≡ getD levels at 0 / 2 ^ bitAnd (j * 4) 7 % 16 =
         sym (pick-code e w Nine levels inside i k)
@@ -136,11 +137,11 @@ module _ (e : Extract) (w : ℕ) (levels : List ℕ) (h : Levels w Nine levels) 
 
 -- under a set of four bits
 pub none-picked : (S : States) → 4 ≤ bitsOf S → (e : Extract) (w : ℕ) (levels : List ℕ) → Levels w S levels → endOf e ≤ w → Below 256 levels
-    → ((k : ℕ) → k < length (bytesOf e levels) → TwoCodes (getD (bytesOf e levels) k 0))
+    → any isBadByte (bytesOf e levels) ≡ false
     → hasNoCode (pickedOf e (codesAt w S levels)) ≡ false
 none-picked Two b = absurd (omega arith)
 none-picked Four b = absurd (omega arith)
-none-picked Nine b = λ e w levels h inside bytes tried. none-nine e w levels h inside bytes tried
+none-picked Nine b = λ e w levels h inside bytes clean. none-nine e w levels h inside bytes clean
 
 pub picked-room : (e : Extract) (w : ℕ) (S : States) (levels : List ℕ) → Levels w S levels → endOf e ≤ w → 4 ≤ bitsOf S → (endOf e + 1) / 2 ≤ length levels
 picked-room e w Two levels h inside b = absurd (omega arith)
@@ -170,7 +171,7 @@ width-narrow Event h = omega arith
 width-narrow Real h = omega arith
 width-narrow (BitVector w M) h = leb→le w 4096 (and-right (leb 1 w) (leb w 4096) (to-T _ h))
 
-module _ (d : DerivedBitVecSignal) (inputs : Inputs) (bytes indices : List ℕ) (slots : length (inputs .slots) ≡ 8) (r : Readable d inputs bytes indices) where
+module _ {d : DerivedBitVecSignal} {inputs : Inputs} {bytes indices : List ℕ} (r : Readable d inputs bytes indices) (slots : length (inputs .slots) ≡ 8) where
   module _ (j : ℕ) (h : j < min (inputs .count) 8) where
     abbrev x : Input
     x = getD (inputs .slots) j noInput
@@ -212,9 +213,9 @@ module _ (d : DerivedBitVecSignal) (inputs : Inputs) (bytes indices : List ℕ) 
       (λ i l.
       let h : i < d .«piece_count» = rw (pieces-count d bits good) at l in
       let e = extractOf (getD (d .bits) i 0) in
-      let low = signal-low d inputs bytes indices bits slots r i h e refl in
+      let low = signal-low r bits slots i h refl in
       let u = slot-none inputs slots (e .signal) low (uncoded bytes indices) n in
       ap (codeIsBad (keptAll bytes indices inputs)) (piece-is d bits good i h e refl)
-      ∙ code-told inputs slots bytes indices e low
+      ∙ code-by-entries inputs slots bytes indices e low
       ∙ entries-none (inputKept bytes indices (getD (inputs .slots) (e .signal) noInput)) (pickIsBad e)
       (λ k m. pick-none e _ (entries-each (inputKept bytes indices (getD (inputs .slots) (e .signal) noInput)) isUncoded u k m)))

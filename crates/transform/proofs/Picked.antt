@@ -32,7 +32,7 @@ use Rattle.steps.proofs.InputTests.{noInput}
 use Rattle.steps.proofs.Levels.{levels-below, levels-length}
 use Rattle.steps.proofs.Loops.{all-map-at, cursor-at, cursors-count, shown-at}
 use Rattle.steps.proofs.Sources.{shows}
-use Rattle.steps.proofs.Tracks.{Shows, bytes-told, now-told, trackOf, tracks}
+use Rattle.steps.proofs.Tracks.{Shows, bytes-shown, now-shown, trackOf, tracks}
 use Rattle.transform.specs.Derive.{codesShown, largestShown, picked, pickedOf, setShown}
 use Rattle.transform.specs.Picking.{Pickable, Picks, PieceIn, Stepped, Under, largestNow, pickedNow}
 
@@ -195,32 +195,32 @@ module _ {inputs : Inputs} {bytes p packed : List ℕ} {S : States} {width : ℕ
           fits = rw (front-long, r) (omega arith);
         }
 
-    pub entry-told : entryFrom M S (take width new) ≡ entryOf width M S gathered
-    entry-told = ap₂ (λ (n : ℕ) (cs : List ℕ). entryOf n M S cs) front-long front-codes
+    pub entry-gathered : entryFrom M S (take width new) ≡ entryOf width M S gathered
+    entry-gathered = ap₂ (λ (n : ℕ) (cs : List ℕ). entryOf n M S cs) front-long front-codes
 
 -- ---- by the definition's tracks
 
 module _ (bytes indices : List ℕ) where
   set-shown : (c : Cursor) → Shows bytes indices c → setShown (nowOf (trackOf bytes indices c)) ≡ setNow bytes c
   unfolding keptIn
-  set-shown c h = ap setShown (now-told bytes indices c h) ∙ ap (setIn (c .input .description .encoding)) (bytes-told bytes indices c h)
+  set-shown c h = ap setShown (now-shown bytes indices c h) ∙ ap (setIn (c .input .description .encoding)) (bytes-shown bytes indices c h)
 
   codes-shown : (c : Cursor) → Shows bytes indices c → codesShown (nowOf (trackOf bytes indices c)) ≡ levelsNow bytes c
   unfolding keptIn
-  codes-shown c h = ap codesShown (now-told bytes indices c h) ∙ ap (levelsIn (c .input .description .encoding)) (bytes-told bytes indices c h)
+  codes-shown c h = ap codesShown (now-shown bytes indices c h) ∙ ap (levelsIn (c .input .description .encoding)) (bytes-shown bytes indices c h)
 
-  pub largest-told : (cs : List Cursor) → All (Shows bytes indices) cs → largestShown (map nowOf (tracks bytes indices cs)) ≡ largestNow bytes cs
+  pub largest-shown : (cs : List Cursor) → All (Shows bytes indices) cs → largestShown (map nowOf (tracks bytes indices cs)) ≡ largestNow bytes cs
   unfolding joinAll
-  largest-told [] s = refl
-  largest-told (c ∷ cs) s = ap₂ join (set-shown c (s .0)) (largest-told cs (s .1))
+  largest-shown [] s = refl
+  largest-shown (c ∷ cs) s = ap₂ join (set-shown c (s .0)) (largest-shown cs (s .1))
 
   codes-at : (cs : List Cursor) → All (Shows bytes indices) cs → (i : ℕ) → codesShown (getD (map nowOf (tracks bytes indices cs)) i none) ≡ getD (map (levelsNow bytes) cs) i []
   codes-at [] s i = refl
   codes-at (c ∷ cs) s zero = codes-shown c (s .0)
   codes-at (c ∷ cs) s (suc i) = codes-at cs (s .1) i
 
-  pub picked-told : (cs : List Cursor) → All (Shows bytes indices) cs → (es : List Extract) → picked es (map nowOf (tracks bytes indices cs)) ≡ pickedNow bytes cs es
+  pub picked-shown : (cs : List Cursor) → All (Shows bytes indices) cs → (es : List Extract) → picked es (map nowOf (tracks bytes indices cs)) ≡ pickedNow bytes cs es
   unfolding picked pickedNow
-  picked-told cs s [] = refl
-  picked-told cs s (e ∷ es) =
-      ap₂ (λ (a b : List ℕ). a ++ b) (ap (pickedOf e) (codes-at cs s (e .signal))) (picked-told cs s es)
+  picked-shown cs s [] = refl
+  picked-shown cs s (e ∷ es) =
+      ap₂ (λ (a b : List ℕ). a ++ b) (ap (pickedOf e) (codes-at cs s (e .signal))) (picked-shown cs s es)

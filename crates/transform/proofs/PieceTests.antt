@@ -128,10 +128,10 @@ fit d count ks h =
       within = or-right (a || b || not n || k) p h;
     }
 
-pub unfit-told : (d : DerivedBitVecSignal) (count : ℕ) (ks : List Kept) (b : Bool) → isBadDerivation d ≡ false → (d .«piece_count» ≡ 0 → ⊥) → count ≡ d .«input_count»
+pub unfit-by-beyond : (d : DerivedBitVecSignal) (count : ℕ) (ks : List Kept) (b : Bool) → isBadDerivation d ≡ false → (d .«piece_count» ≡ 0 → ⊥) → count ≡ d .«input_count»
     → any isNoBitVector ks ≡ false → b ≡ any (isBeyond ks) (piecesOf d) → b ≡ isUnfit d count ks
 unfolding isUnfit
-unfit-told d count ks b g p c v e = rw (g, ne-eqb (d .«piece_count») 0 p, eq-eqb count (d .«input_count») c, v) e
+unfit-by-beyond d count ks b g p c v e = rw (g, ne-eqb (d .«piece_count») 0 p, eq-eqb count (d .«input_count») c, v) e
 
 -- ---- the pieces of a derivation that is not bad
 
@@ -170,26 +170,26 @@ module _ (inputs : Inputs) (full : length (inputs .slots) ≡ 8) (bytes indices 
   abbrev its : Input
   its = getD (inputs .slots) (e .signal) noInput
 
-  pub beyond-told : isBeyond (keptAll bytes indices inputs) e ≡ ltb (widthOf (its .description .encoding)) (endOf e)
+  pub beyond-by-width : isBeyond (keptAll bytes indices inputs) e ≡ ltb (widthOf (its .description .encoding)) (endOf e)
   unfolding keptIn
-  beyond-told = ap (λ (x : Encoding). ltb (widthOf x) (endOf e)) (kept-at inputs full bytes indices encodingOf Event (e .signal) noInput h)
+  beyond-by-width = ap (λ (x : Encoding). ltb (widthOf x) (endOf e)) (kept-at inputs full bytes indices encodingOf Event (e .signal) noInput h)
 
-  pub code-told : codeIsBad (keptAll bytes indices inputs) e ≡ any (pickIsBad e) (entriesIn (inputKept bytes indices its))
-  code-told = ap (any (pickIsBad e)) (kept-at inputs full bytes indices entriesIn [] (e .signal) noInput h)
+  pub code-by-entries : codeIsBad (keptAll bytes indices inputs) e ≡ any (pickIsBad e) (entriesIn (inputKept bytes indices its))
+  code-by-entries = ap (any (pickIsBad e)) (kept-at inputs full bytes indices entriesIn [] (e .signal) noInput h)
 
   pub beyond-is : (w n : ℕ) → w ≡ widthOf (its .description .encoding) → n ≡ endOf e → w < n → isBeyond (keptAll bytes indices inputs) e ≡ true
-  beyond-is w n a b k = beyond-told ∙ lt-ltb (widthOf (its .description .encoding)) (endOf e) (rw (← a, ← b) k)
+  beyond-is w n a b k = beyond-by-width ∙ lt-ltb (widthOf (its .description .encoding)) (endOf e) (rw (← a, ← b) k)
 
   pub beyond-not : (w n : ℕ) → w ≡ widthOf (its .description .encoding) → n ≡ endOf e → n ≤ w → isBeyond (keptAll bytes indices inputs) e ≡ false
-  beyond-not w n a b k = beyond-told ∙ le-ltb (widthOf (its .description .encoding)) (endOf e) (rw (← a, ← b) k)
+  beyond-not w n a b k = beyond-by-width ∙ le-ltb (widthOf (its .description .encoding)) (endOf e) (rw (← a, ← b) k)
 
   pub its-test : (test : Input → Bool) → any test (inputsOf inputs) ≡ false → test its ≡ false
   its-test test n = slot-none inputs full (e .signal) h test n
 
 -- ---- what 10 is tried upon
 
-module _ (d : DerivedBitVecSignal) (inputs : Inputs) (bytes indices : List ℕ) (bits : length (d .bits) ≡ 64) (slots : length (inputs .slots) ≡ 8)
-    (r : Readable d inputs bytes indices) (i : ℕ) (h : i < d .«piece_count») (e : Extract) (is : e ≡ extractOf (getD (d .bits) i 0)) where
+module _ {d : DerivedBitVecSignal} {inputs : Inputs} {bytes indices : List ℕ} (r : Readable d inputs bytes indices) (bits : length (d .bits) ≡ 64) (slots : length (inputs .slots) ≡ 8)
+    (i : ℕ) (h : i < d .«piece_count») {e : Extract} (is : e ≡ extractOf (getD (d .bits) i 0)) where
   abbrev f : Fit d (inputs .count) (keptAll bytes indices inputs)
   f = fit d (inputs .count) (keptAll bytes indices inputs) (r .fit)
 
@@ -211,15 +211,15 @@ module _ (d : DerivedBitVecSignal) (inputs : Inputs) (bytes indices : List ℕ) 
       record {
         stands = used-stands (standing input-good);
         marked = λ k l. entries-each (inputKept bytes indices x) entryIsBad m k (rw (indices-used (standing input-good)) l);
-        inside = ltb-false _ _ (sym (beyond-told inputs slots bytes indices e signal-low) ∙ ap (isBeyond (keptAll bytes indices inputs)) (sym n) ∙ b);
+        inside = ltb-false _ _ (sym (beyond-by-width inputs slots bytes indices e signal-low) ∙ ap (isBeyond (keptAll bytes indices inputs)) (sym n) ∙ b);
       }
 
-  pub picks-told : (r b : Bool) (u : List ℕ) → u ≡ part (x .«byte_start») (usedSize (x .description)) bytes
+  pub code-by-picks : (r b : Bool) (u : List ℕ) → u ≡ part (x .«byte_start») (usedSize (x .description)) bytes
       → ((l : List ℕ) → length l ≡ x .description .count → r ≡ any (pickIsBad e) (entriesIn (keptWith (x .description) u l))) → r ≡ b
       → codeIsBad (keptAll bytes indices inputs) e ≡ b
   unfolding keptIn
-  picks-told r b u q g z =
+  code-by-picks r b u q g z =
       let l = part (x .«index_start») (x .description .count) indices in
-      code-told inputs slots bytes indices e signal-low
+      code-by-entries inputs slots bytes indices e signal-low
       ∙ sym (g l (indices-used (standing input-good)) ∙ ap (λ (v : List ℕ). any (pickIsBad e) (entriesIn (keptWith (x .description) v l))) q)
       ∙ z

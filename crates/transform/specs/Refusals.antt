@@ -1,6 +1,6 @@
 -- Inner: the tests of Derive before its room: what they ask, and what they leave known.
 -- Assumes nothing.
-use Prim.Native.Nat.{_%_, _/_, _<_, _≤_, ℕ}
+use Prim.Native.Nat.{_<_, _≤_, ℕ}
 use mathlib.Core.Bool.{false}
 use mathlib.Core.List.{List, [], _∷_}
 use mathlib.Core.Path.{_≡_}
@@ -22,10 +22,6 @@ use Rattle.steps.specs.declared.Inputs.{Inputs}
 use Rattle.transform.specs.Derive.{codeIsBad, isUnfit}
 
 -- ---- one piece
-
--- both levels of a byte under the set Nine are codes
-abbrev pub TwoCodes : ℕ → Type 0
-TwoCodes b = (b / 16 < 9) × (b % 16 < 9)
 
 -- an entry whose mark is a set's, and a piece within its width
 pub record EntryPick (e : Extract) (w : ℕ) (M : States) (v : List ℕ) : Type 0 where

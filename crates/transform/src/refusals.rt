@@ -3,7 +3,7 @@ ghost use mathlib.Core.Bool.{true, false};
 ghost use mathlib.Core.List.{List};
 ghost use mathlib.Core.Path.{_≡_};
 ghost use Prim.Native.Nat.{ℕ, _≤_, _<_};
-ghost use lib.ListN.{length, getD};
+ghost use lib.ListN.{length};
 ghost use Rattle.value.specs.Slice.{any};
 ghost use Rattle.value.specs.Level.{bitsOf, hasNoCode};
 ghost use Rattle.fst.specs.declared.Encoding.the-variants.{BitVector};
@@ -14,15 +14,15 @@ ghost use Rattle.derivation.specs.Piece.{endOf, piecesOf};
 ghost use Rattle.steps.specs.Inputs.{inputsOf, isBadInput, keptAll};
 ghost use Rattle.steps.specs.Refusals.{keptWith};
 ghost use Rattle.transform.specs.Derive.{isUnfit, isBeyond, pickIsBad, pickedOf, codeIsBad};
-ghost use Rattle.transform.specs.Refusals.{TwoCodes, EntryPick, RecordPick, Matched, Readable, firstTests, verdictReply};
+ghost use Rattle.transform.specs.Refusals.{EntryPick, RecordPick, Matched, Readable, firstTests, verdictReply};
 use derivation::DerivedBitVecSignal;
 use derivation::Extract;
 use fst::Description;
 use fst::Encoding;
 use fst::Refusal;
 use fst::Verdict;
-use signal::decode::bad_bits;
 use signal::decode::code_at;
+use signal::decode::has_bad_byte;
 use signal::decode::level_part;
 use signal::decode::mark_in;
 use signal::decode::states_of;
@@ -90,19 +90,6 @@ fn any_bad_level(extract: Extract, width: u32, states: States, levels: &[u8]) ->
     false
 }
 
-// Whether all levels of bytes under the set Nine are codes.
-fn are_codes(levels: &[u8]) -> bool
-    ensures { λ r. ⌜ (r ≡ true → (k : ℕ) → k < length (now (levels .entry)) → TwoCodes (getD (now (levels .entry)) k 0)) ⌝ }
-{
-    let mut union: u8 = 0;
-    let mut k = 0;
-    while k < levels.len() {
-        union |= bad_bits(levels[k]);
-        k += 1;
-    }
-    union == 0
-}
-
 // `any_bad_level` under the set Nine, where the levels are tried one by one only if their bytes hold a number that is no code.
 fn has_bad_level(extract: Extract, width: u32, states: States, levels: &[u8]) -> bool
     requires { ⌜ Levels width states (now levels) × (endOf extract ≤ width) × (4 ≤ bitsOf states) ⌝ }
@@ -111,13 +98,13 @@ fn has_bad_level(extract: Extract, width: u32, states: States, levels: &[u8]) ->
     let end = extract.lsb + extract.width as u32;
     let from = levels.len() - ((end + 1) >> 1) as usize;
     let to = levels.len() - (extract.lsb >> 1) as usize;
-    if are_codes(&levels[from..to]) {
-        return false;
+    if has_bad_byte(&levels[from..to]) {
+        return any_bad_level(extract, width, states, levels);
     }
-    any_bad_level(extract, width, states, levels)
+    false
 }
 
-// The same of an entry, where only the set Nine has such codes.
+// Whether a picked level of an entry is no code, as only the set Nine can have it.
 fn has_bad_pick(extract: Extract, width: u32, max_states: States, entry: &[u8]) -> bool
     requires { ⌜ EntryPick extract width «max_states» (now entry) ⌝ }
     ensures { λ r. ⌜ r ≡ hasNoCode (pickedOf extract (levelsIn (BitVector width «max_states») (now (entry .entry)))) ⌝ }
@@ -129,7 +116,7 @@ fn has_bad_pick(extract: Extract, width: u32, max_states: States, entry: &[u8]) 
     has_bad_level(extract, width, states, level_part(width, states, entry))
 }
 
-// The same of every entry of a record.
+// Whether a picked level of an entry of a record is no code.
 fn any_bad_pick(extract: Extract, description: Description, used: &[u8]) -> bool
     requires { ⌜ RecordPick extract description (now used) ⌝ }
     ensures { λ r. ⌜ ((indices : List ℕ) → length indices ≡ description .count → r ≡ any (pickIsBad extract) (entriesIn (keptWith description (now (used .entry)) indices))) ⌝ }

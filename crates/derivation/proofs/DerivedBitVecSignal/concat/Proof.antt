@@ -59,23 +59,11 @@ module _ (c : tie.After-with-input) (side : Side) (e : start (c .before .before)
       joined here (room (c .before)) (c .with-input .result) (c .with-input .ensures) next put
       ∙ ap (λ (t : Side). addPiece (start k .args .self) t (start k .args .signal) (start k .args .msb) (start k .args .lsb)) (sym e)
 
-is-bad-requires : tie.Need-is-bad-requires
-is-bad-requires c κs = search needs
-
-refused-requires : tie.Need-refused-requires
-refused-requires c κs = search needs
-
 returns : tie.Need-returns
 returns c =
     let b = c .before in
     let a = b .before .before .args in
     ap joinedOf (c .refused .ensures) ∙ sym (refused-bad (a .self) (a .side) (a .signal) (a .msb) (a .lsb) (sym (b .before .is-bad .ensures) ∙ b .if1 .taken))
-
-is-bad-range-requires : tie.Need-is-bad-range-requires
-is-bad-range-requires c κs = search needs
-
-refused-requires-2 : tie.Need-refused-requires-2
-refused-requires-2 c κs = search needs
 
 returns-2 : tie.Need-returns-2
 returns-2 c =
@@ -94,9 +82,6 @@ merges-requires c κs = good (c .before .before .before)
 has-no-room-requires : tie.Need-has-no-room-requires
 has-no-room-requires c κs = good (c .before .before .before .before)
 
-refused-requires-3 : tie.Need-refused-requires-3
-refused-requires-3 c κs = search needs
-
 returns-3 : tie.Need-returns-3
 returns-3 c =
     let k = c .before in
@@ -105,14 +90,8 @@ returns-3 c =
 with-input-requires : tie.Need-with-input-requires
 with-input-requires c κs = naming (piece (c .before)) (room c)
 
-enum-told : tie.Need-enum-told
-enum-told c = search needs
-
 put-left-requires : tie.Need-put-left-requires
 put-left-requires c κs = joins (c .before .before) Left (c .enum-told .given .1)
-
-enum-told-2 : tie.Need-enum-told-2
-enum-told-2 c = search needs
 
 put-right-requires : tie.Need-put-right-requires
 put-right-requires c κs = joins (c .before .before) Right (c .enum-told2 .given .1)
@@ -127,21 +106,21 @@ pub concat-spec : {M : Type 1} → statement M
 concat-spec =
     tie.close
     (tie.spec
-    is-bad-requires
-    refused-requires
+    (λ c κs. search needs)
+    (λ c κs. search needs)
     returns
-    is-bad-range-requires
-    refused-requires-2
+    (λ c κs. search needs)
+    (λ c κs. search needs)
     returns-2
     make-extract-requires
     merges-requires
     has-no-room-requires
-    refused-requires-3
+    (λ c κs. search needs)
     returns-3
     with-input-requires
-    enum-told
+    (λ c. search needs)
     put-left-requires
-    enum-told-2
+    (λ c. search needs)
     put-right-requires
     returns-4
     returns-5)

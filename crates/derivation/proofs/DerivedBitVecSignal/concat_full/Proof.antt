@@ -10,24 +10,12 @@ use Rattle.derivation.specs.Piece.{isBadDerivation, joinedOf, addFull}
 use Rattle.derivation.proofs.DerivedBitVecSignal.concat_full.Statement.{statement}
 use Rattle.derivation.proofs.DerivedBitVecSignal.concat_full.Tie as tie
 
-sub-concat : tie.Need-sub-concat
-sub-concat c = search needs
-
-concat-requires : tie.Need-concat-requires
-concat-requires c κs = search needs
-
 returns : tie.Need-returns
 unfolding addFull
 returns c =
     let a = c .before .before .args in
     let e : a .width ≡ suc (a .width - 1) = omega arith in
     c .concat .ensures ∙ ap (addFull (a .self) (a .side) (a .signal)) (sym e)
-
-is-bad-requires : tie.Need-is-bad-requires
-is-bad-requires c κs = search needs
-
-refused-requires : tie.Need-refused-requires
-refused-requires c κs = search needs
 
 returns-2 : tie.Need-returns-2
 unfolding addFull tried
@@ -50,10 +38,10 @@ pub concat-full-spec : {M : Type 1} → statement M
 concat-full-spec =
     tie.close
     (tie.spec
-    sub-concat
-    concat-requires
+    (λ c. search needs)
+    (λ c κs. search needs)
     returns
-    is-bad-requires
-    refused-requires
+    (λ c κs. search needs)
+    (λ c κs. search needs)
     returns-2
     returns-3)

@@ -4,11 +4,8 @@ use borrow.Author.Needs.{needs}
 use Rattle.derivation.proofs.DerivedBitVecSignal.concat_right_full.Statement.{statement}
 use Rattle.derivation.proofs.DerivedBitVecSignal.concat_right_full.Tie as tie
 
-concat-full-requires : tie.Need-concat-full-requires
-concat-full-requires c κs = search needs
-
 returns : tie.Need-returns
 returns c = c .concat-full .ensures
 
 pub concat-right-full-spec : {M : Type 1} → statement M
-concat-right-full-spec = tie.close (tie.spec concat-full-requires returns)
+concat-right-full-spec = tie.close (tie.spec (λ c κs. search needs) returns)

@@ -8,15 +8,9 @@ use Rattle.derivation.proofs.Pieces.{sound}
 use Rattle.derivation.proofs.DerivedBitVecSignal.has_no_room.Statement.{statement}
 use Rattle.derivation.proofs.DerivedBitVecSignal.has_no_room.Tie as tie
 
-cast-if1 : tie.Need-cast-if1
-cast-if1 c = search needs
-
 returns : tie.Need-returns
 unfolding hasNoRoom
 returns c = simp (le-leb _ _ (c .if1 .taken))
-
-cast-if2 : tie.Need-cast-if2
-cast-if2 c = search needs
 
 add-if2 : tie.Need-add-if2
 add-if2 c = omega (arith, (sound (c .before .before .before .before .args .self) (c .before .before .before .before .pre)) .narrow)
@@ -34,4 +28,4 @@ unfolding hasNoRoom
 returns-4 c = simp (lt-leb _ _ (c .before .before .before .before .before .if1 .left), le-ltb _ _ (c .before .before .if2 .left), c .before .if3 .left)
 
 pub has-no-room-spec : {M : Type 1} → statement M
-has-no-room-spec = tie.close (tie.spec cast-if1 returns cast-if2 add-if2 returns-2 returns-3 returns-4)
+has-no-room-spec = tie.close (tie.spec (λ c. search needs) returns (λ c. search needs) add-if2 returns-2 returns-3 returns-4)

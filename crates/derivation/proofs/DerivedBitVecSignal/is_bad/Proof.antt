@@ -38,21 +38,6 @@ returns-2 c = simp (le-ltb _ _ (c .before .if1 .left), lt-ltb _ _ (c .if2 .taken
 loop-holds : tie.Need-loop-holds Inv-loop μ-loop
 loop-holds c = (omega arith, passed-none (c .before .before .args .t1))
 
-cast-loop : tie.Need-cast-loop Inv-loop μ-loop
-cast-loop c = search needs
-
-mul-from-u64 : tie.Need-mul-from-u64 Inv-loop μ-loop
-mul-from-u64 c = omega arith
-
-element-copy-out-from-u64 : tie.Need-element-copy-out-from-u64 Inv-loop μ-loop
-element-copy-out-from-u64 c = omega arith
-
-from-u64-requires : tie.Need-from-u64-requires Inv-loop μ-loop
-from-u64-requires c κs = search needs
-
-is-bad-requires : tie.Need-is-bad-requires Inv-loop μ-loop
-is-bad-requires c κs = search needs
-
 returns-3 : tie.Need-returns-3 Inv-loop μ-loop
 unfolding isBadDerivation
 returns-3 c =
@@ -62,17 +47,8 @@ returns-3 c =
     let any-bad = passed-bad (l .loop .inv .1) (room (l .before)) (omega arith) (b .before .from-u64 .result) (b .before .from-u64 .ensures) (sym (b .is-bad .ensures) ∙ c .if3 .taken) in
     simp (le-ltb _ _ (l .before .before .if1 .left), le-ltb _ _ (l .before .if2 .left), any-bad)
 
-cast-sum : tie.Need-cast-sum Inv-loop μ-loop
-cast-sum c = omega arith
-
 add-sum : tie.Need-add-sum Inv-loop μ-loop
 add-sum c = omega (arith, c .before .before .before .before .before .before .loop .inv .1 .small)
-
-add-i : tie.Need-add-i Inv-loop μ-loop
-add-i c = omega arith
-
-loop-less : tie.Need-loop-less Inv-loop μ-loop
-loop-less c = omega arith
 
 loop-again : tie.Need-loop-again Inv-loop μ-loop
 loop-again c =
@@ -80,9 +56,6 @@ loop-again c =
     let l = b .before .before .before .before in
     let d = l .before .before .before .args .t1 in
     (omega arith, passed-more (l .loop .inv .1) (room (l .before)) (omega arith) (b .before .from-u64 .result) (b .before .from-u64 .ensures) (sym (b .is-bad .ensures) ∙ c .before .if3 .left) (omega arith))
-
-cast-if4 : tie.Need-cast-if4 Inv-loop μ-loop
-cast-if4 c = search needs
 
 returns-4 : tie.Need-returns-4 Inv-loop μ-loop
 unfolding isBadDerivation
@@ -107,17 +80,17 @@ is-bad-spec =
     returns
     returns-2
     loop-holds
-    cast-loop
-    mul-from-u64
-    element-copy-out-from-u64
-    from-u64-requires
-    is-bad-requires
+    (λ c. search needs)
+    (λ c. omega arith)
+    (λ c. omega arith)
+    (λ c κs. search needs)
+    (λ c κs. search needs)
     returns-3
-    cast-sum
+    (λ c. omega arith)
     add-sum
-    add-i
-    loop-less
+    (λ c. omega arith)
+    (λ c. omega arith)
     loop-again
-    cast-if4
+    (λ c. search needs)
     returns-4
     returns-5)

@@ -26,19 +26,10 @@ sub-width c = omega (arith, good-range (c .args .msb) (c .args .lsb) (c .pre .1)
 cast-width : tie.Need-cast-width
 cast-width c = omega (arith, good-range (c .args .msb) (c .args .lsb) (c .pre .1))
 
-cast-find-input : tie.Need-cast-find-input
-cast-find-input c = search needs
-
 find-input-requires : tie.Need-find-input-requires
 find-input-requires c κs =
     let s = c .before .before in
     ((sound (s .args .t1) (s .pre .0)) .named, (sized (s .args .t1) _ (s .good .0)) .names)
-
-enum-known-number : tie.Need-enum-known-number
-enum-known-number c = search needs
-
-enum-told : tie.Need-enum-told
-enum-told c = search needs
 
 cast-t14 : tie.Need-cast-t14
 cast-t14 c =
@@ -66,10 +57,10 @@ make-extract-spec =
     add-width
     sub-width
     cast-width
-    cast-find-input
+    (λ c. search needs)
     find-input-requires
-    enum-known-number
-    enum-told
+    (λ c. search needs)
+    (λ c. search needs)
     cast-t14
     returns
     returns-2)

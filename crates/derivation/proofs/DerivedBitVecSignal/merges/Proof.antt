@@ -27,38 +27,8 @@ returns c =
     let a = c .before .args in
     sym (merges-none (a .side) (a .extract) (piecesOf (a .t1)) (ap (λ (n : ℕ). map extractOf (take n (a .t1 .bits))) (c .if1 .taken)))
 
-enum-told : tie.Need-enum-told
-enum-told c = search needs
-
-element-copy-out-from-u64 : tie.Need-element-copy-out-from-u64
-element-copy-out-from-u64 c = search needs
-
-from-u64-requires : tie.Need-from-u64-requires
-from-u64-requires c κs = search needs
-
-adjoins-requires : tie.Need-adjoins-requires
-adjoins-requires c κs = search needs
-
-enum-told-2 : tie.Need-enum-told-2
-enum-told-2 c = search needs
-
-cast-last : tie.Need-cast-last
-cast-last c = search needs
-
-sub-last : tie.Need-sub-last
-sub-last c = search needs
-
-mul-from-u64 : tie.Need-mul-from-u64
-mul-from-u64 c = search needs
-
 element-copy-out-from-u64-2 : tie.Need-element-copy-out-from-u64-2
 element-copy-out-from-u64-2 c = omega (arith, (sound (c .before .before .before .args .t1) (c .before .before .before .pre)) .few)
-
-from-u64-requires-2 : tie.Need-from-u64-requires-2
-from-u64-requires-2 c κs = search needs
-
-adjoins-requires-2 : tie.Need-adjoins-requires-2
-adjoins-requires-2 c κs = search needs
 
 returns-2 : tie.Need-returns-2
 returns-2 c =
@@ -85,16 +55,16 @@ merges-spec =
     tie.close
     (tie.spec
     returns
-    enum-told
-    element-copy-out-from-u64
-    from-u64-requires
-    adjoins-requires
-    enum-told-2
-    cast-last
-    sub-last
-    mul-from-u64
+    (λ c. search needs)
+    (λ c. search needs)
+    (λ c κs. search needs)
+    (λ c κs. search needs)
+    (λ c. search needs)
+    (λ c. search needs)
+    (λ c. search needs)
+    (λ c. search needs)
     element-copy-out-from-u64-2
-    from-u64-requires-2
-    adjoins-requires-2
+    (λ c κs. search needs)
+    (λ c κs. search needs)
     returns-2
     returns-3)

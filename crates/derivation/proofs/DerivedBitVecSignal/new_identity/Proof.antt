@@ -8,24 +8,12 @@ use Rattle.derivation.specs.Piece.{joinedOf, identityOf}
 use Rattle.derivation.proofs.DerivedBitVecSignal.new_identity.Statement.{statement}
 use Rattle.derivation.proofs.DerivedBitVecSignal.new_identity.Tie as tie
 
-sub-new-slice : tie.Need-sub-new-slice
-sub-new-slice c = search needs
-
-new-slice-requires : tie.Need-new-slice-requires
-new-slice-requires c κs = search needs
-
 returns : tie.Need-returns
 unfolding identityOf
 returns c =
     let a = c .before .before .args in
     let e : a .width ≡ suc (a .width - 1) = omega arith in
     c .new-slice .ensures ∙ ap (identityOf (a .signal)) (sym e)
-
-empty-requires : tie.Need-empty-requires
-empty-requires c κs = search needs
-
-refused-requires : tie.Need-refused-requires
-refused-requires c κs = search needs
 
 returns-2 : tie.Need-returns-2
 unfolding identityOf
@@ -37,4 +25,4 @@ returns-2 c =
 pub new-identity-spec : {M : Type 1} → statement M
 new-identity-spec =
     tie.close
-    (tie.spec sub-new-slice new-slice-requires returns empty-requires refused-requires returns-2)
+    (tie.spec (λ c. search needs) (λ c κs. search needs) returns (λ c κs. search needs) (λ c κs. search needs) returns-2)

@@ -8,16 +8,10 @@ use Rattle.derivation.specs.declared.DerivedBitVecSignal.{DerivedBitVecS
 use Rattle.derivation.proofs.DerivedBitVecSignal.new_slice.Statement.{statement}
 use Rattle.derivation.proofs.DerivedBitVecSignal.new_slice.Tie as tie
 
-empty-requires : tie.Need-empty-requires
-empty-requires c κs = search needs
-
-concat-left-requires : tie.Need-concat-left-requires
-concat-left-requires c κs = search needs
-
 returns : tie.Need-returns
 returns c =
     let a = c .before .before .args in
     c .concat-left .ensures ∙ ap (λ (d : DerivedBitVecSignal). addPiece d Left (a .signal) (a .msb) (a .lsb)) (c .before .empty .ensures)
 
 pub new-slice-spec : {M : Type 1} → statement M
-new-slice-spec = tie.close (tie.spec empty-requires concat-left-requires returns)
+new-slice-spec = tie.close (tie.spec (λ c κs. search needs) (λ c κs. search needs) returns)

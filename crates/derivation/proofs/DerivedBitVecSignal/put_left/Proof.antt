@@ -14,17 +14,8 @@ use Rattle.derivation.proofs.Joins.{narrow-at, some-piece, piece-put, p
 use Rattle.derivation.proofs.DerivedBitVecSignal.put_left.Statement.{statement}
 use Rattle.derivation.proofs.DerivedBitVecSignal.put_left.Tie as tie
 
-cast-self : tie.Need-cast-self
-cast-self c = omega arith
-
 add-self : tie.Need-add-self
 add-self c = omega (arith, c .before .pre .narrow)
-
-element-copy-out-from-u64 : tie.Need-element-copy-out-from-u64
-element-copy-out-from-u64 c = search needs
-
-from-u64-requires : tie.Need-from-u64-requires
-from-u64-requires c κs = search needs
 
 merged-requires : tie.Need-merged-requires
 merged-requires c κs =
@@ -32,12 +23,6 @@ merged-requires c κs =
     let d = s .args .t1 in
     let k = sized d _ (s .good .0) in
     rw (c .from-u64 .ensures) (omega (arith, narrow-at k (s .pre) 0 (some-piece k (s .pre) (c .before .before .if1 .taken))))
-
-to-u64-requires : tie.Need-to-u64-requires
-to-u64-requires c κs = search needs
-
-element-write-self : tie.Need-element-write-self
-element-write-self c = search needs
 
 returns : tie.Need-returns
 returns c =
@@ -50,12 +35,6 @@ returns c =
     let v : c .to-u64 .result ≡ packedOf (merged e (extractOf (getD (d .bits) 0 0))) = c .to-u64 .ensures ∙ ap packedOf (m .merged .ensures ∙ ap (merged e) (m .before .from-u64 .ensures)) in
     piece-put k (s .pre) (d .«piece_count») (set (d .bits) 0 (c .to-u64 .result)) (rw (b .if1 .taken))
     (ap (set (d .bits) 0) v ∙ put-left-one (d .bits) (d .«piece_count») e (omega (arith, s .pre .few)) (sym (s .pre .told) ∙ b .if1 .taken))
-
-cast-insert-first : tie.Need-cast-insert-first
-cast-insert-first c = search needs
-
-to-u64-requires-2 : tie.Need-to-u64-requires-2
-to-u64-requires-2 c κs = search needs
 
 insert-first-requires : tie.Need-insert-first-requires
 insert-first-requires c κs =
@@ -84,16 +63,16 @@ pub put-left-spec : {M : Type 1} → statement M
 put-left-spec =
     tie.close
     (tie.spec
-    cast-self
+    (λ c. omega arith)
     add-self
-    element-copy-out-from-u64
-    from-u64-requires
+    (λ c. search needs)
+    (λ c κs. search needs)
     merged-requires
-    to-u64-requires
-    element-write-self
+    (λ c κs. search needs)
+    (λ c. search needs)
     returns
-    cast-insert-first
-    to-u64-requires-2
+    (λ c. search needs)
+    (λ c κs. search needs)
     insert-first-requires
     add-self-2
     returns-2)

@@ -13,28 +13,10 @@ use Rattle.derivation.proofs.Joins.{narrow-at, some-piece, piece-put, p
 use Rattle.derivation.proofs.DerivedBitVecSignal.put_right.Statement.{statement}
 use Rattle.derivation.proofs.DerivedBitVecSignal.put_right.Tie as tie
 
-cast-count : tie.Need-cast-count
-cast-count c = search needs
-
-cast-self : tie.Need-cast-self
-cast-self c = search needs
-
-add-self : tie.Need-add-self
-add-self c = search needs
-
 sub-last : tie.Need-sub-last
 sub-last c =
     let s = c .before .before in
     omega (arith, some-piece (sized (s .args .t1) _ (s .good .0)) (s .pre) (c .if1 .taken))
-
-mul-from-u64 : tie.Need-mul-from-u64
-mul-from-u64 c = search needs
-
-element-copy-out-from-u64 : tie.Need-element-copy-out-from-u64
-element-copy-out-from-u64 c = search needs
-
-from-u64-requires : tie.Need-from-u64-requires
-from-u64-requires c κs = search needs
 
 merged-requires : tie.Need-merged-requires
 merged-requires c κs =
@@ -42,15 +24,6 @@ merged-requires c κs =
     let d = s .args .t1 in
     let k = sized d _ (s .good .0) in
     rw (c .from-u64 .ensures) (omega (arith, narrow-at k (s .pre) (d .«piece_count» - 1) (omega (arith, some-piece k (s .pre) (c .before .before .if1 .taken)))))
-
-to-u64-requires : tie.Need-to-u64-requires
-to-u64-requires c κs = search needs
-
-mul-self : tie.Need-mul-self
-mul-self c = search needs
-
-element-write-self : tie.Need-element-write-self
-element-write-self c = search needs
 
 returns : tie.Need-returns
 returns c =
@@ -65,19 +38,10 @@ returns c =
     piece-put k (s .pre) (d .«piece_count») (set (d .bits) at (c .to-u64 .result)) (rw (b .if1 .taken))
     (ap (set (d .bits) at) v ∙ put-right-one (d .bits) (d .«piece_count») (omega (arith, s .pre .few)) e (sym (s .pre .told) ∙ b .if1 .taken))
 
-to-u64-requires-2 : tie.Need-to-u64-requires-2
-to-u64-requires-2 c κs = search needs
-
-mul-self-2 : tie.Need-mul-self-2
-mul-self-2 c = search needs
-
 element-write-self-2 : tie.Need-element-write-self-2
 element-write-self-2 c =
     let b = c .before in
     b .before .before .pre .unmerged (b .if1 .left)
-
-add-self-2 : tie.Need-add-self-2
-add-self-2 c = search needs
 
 returns-2 : tie.Need-returns-2
 returns-2 c =
@@ -95,20 +59,20 @@ pub put-right-spec : {M : Type 1} → statement M
 put-right-spec =
     tie.close
     (tie.spec
-    cast-count
-    cast-self
-    add-self
+    (λ c. search needs)
+    (λ c. search needs)
+    (λ c. search needs)
     sub-last
-    mul-from-u64
-    element-copy-out-from-u64
-    from-u64-requires
+    (λ c. search needs)
+    (λ c. search needs)
+    (λ c κs. search needs)
     merged-requires
-    to-u64-requires
-    mul-self
-    element-write-self
+    (λ c κs. search needs)
+    (λ c. search needs)
+    (λ c. search needs)
     returns
-    to-u64-requires-2
-    mul-self-2
+    (λ c κs. search needs)
+    (λ c. search needs)
     element-write-self-2
-    add-self-2
+    (λ c. search needs)
     returns-2)

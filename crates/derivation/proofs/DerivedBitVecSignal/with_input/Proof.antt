@@ -6,18 +6,6 @@ use Rattle.derivation.proofs.Joins.{name-put, name-kept}
 use Rattle.derivation.proofs.DerivedBitVecSignal.with_input.Statement.{statement}
 use Rattle.derivation.proofs.DerivedBitVecSignal.with_input.Tie as tie
 
-cast-at : tie.Need-cast-at
-cast-at c = search needs
-
-mul-self : tie.Need-mul-self
-mul-self c = search needs
-
-element-write-self : tie.Need-element-write-self
-element-write-self c = search needs
-
-add-self : tie.Need-add-self
-add-self c = search needs
-
 returns : tie.Need-returns
 returns c = name-put (sized (c .before .args .t1) _ (c .before .good .0)) (c .before .pre) (c .if1 .taken)
 
@@ -26,4 +14,4 @@ returns-2 c = name-kept (sized (c .before .args .t1) _ (c .before .good .0)) (c 
 
 pub with-input-spec : {M : Type 1} → statement M
 with-input-spec =
-    tie.close (tie.spec cast-at mul-self element-write-self add-self returns returns-2)
+    tie.close (tie.spec (λ c. search needs) (λ c. search needs) (λ c. search needs) (λ c. search needs) returns returns-2)

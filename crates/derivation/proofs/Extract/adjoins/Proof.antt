@@ -10,15 +10,9 @@ returns : tie.Need-returns
 unfolding adjoin
 returns c = simp (ne-eqb _ _ (c .if1 .taken))
 
-cast-result : tie.Need-cast-result
-cast-result c = search needs
-
-end-requires : tie.Need-end-requires
-end-requires c κs = search needs
-
 returns-2 : tie.Need-returns-2
 unfolding adjoin
 returns-2 c = simp (eq-eqb _ _ (c .before .before .if1 .left), c .end .ensures)
 
 pub adjoins-spec : {M : Type 1} → statement M
-adjoins-spec = tie.close (tie.spec returns cast-result end-requires returns-2)
+adjoins-spec = tie.close (tie.spec returns (λ c. search needs) (λ c κs. search needs) returns-2)

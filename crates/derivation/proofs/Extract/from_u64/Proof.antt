@@ -8,9 +8,6 @@ use Rattle.derivation.specs.Piece.{extractOf}
 use Rattle.derivation.proofs.Extract.from_u64.Statement.{statement}
 use Rattle.derivation.proofs.Extract.from_u64.Tie as tie
 
-cast-t3 : tie.Need-cast-t3
-cast-t3 c = search needs
-
 cast-t6 : tie.Need-cast-t6
 cast-t6 c = omega (arith, mask-lt (c .args .value / 2 ^ 32) 16)
 
@@ -22,4 +19,4 @@ unfolding extractOf
 returns c = rw (and-mask (c .args .value / 2 ^ 32) 16, and-mask (c .args .value) 32)
 
 pub from-u64-spec : {M : Type 1} → statement M
-from-u64-spec = tie.close (tie.spec cast-t3 cast-t6 cast-t8 returns)
+from-u64-spec = tie.close (tie.spec (λ c. search needs) cast-t6 cast-t8 returns)

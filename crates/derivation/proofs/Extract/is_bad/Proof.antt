@@ -10,22 +10,13 @@ returns : tie.Need-returns
 unfolding isBadPiece
 returns c = simp (eq-eqb _ _ (c .if1 .taken))
 
-cast-if2 : tie.Need-cast-if2
-cast-if2 c = search needs
-
 returns-2 : tie.Need-returns-2
 unfolding isBadPiece
 returns-2 c = simp (ne-eqb _ _ (c .before .before .if1 .left), le-leb _ _ (c .if2 .taken))
-
-cast-result : tie.Need-cast-result
-cast-result c = search needs
-
-end-requires : tie.Need-end-requires
-end-requires c κs = search needs
 
 returns-3 : tie.Need-returns-3
 unfolding isBadPiece
 returns-3 c = simp (ne-eqb _ _ (c .before .before .before .if1 .left), lt-leb _ _ (c .before .if2 .left), c .end .ensures)
 
 pub is-bad-spec : {M : Type 1} → statement M
-is-bad-spec = tie.close (tie.spec returns cast-if2 returns-2 cast-result end-requires returns-3)
+is-bad-spec = tie.close (tie.spec returns (λ c. search needs) returns-2 (λ c. search needs) (λ c κs. search needs) returns-3)

@@ -23,16 +23,10 @@ Inv-loop description used max-states most count k₀ k =
 abbrev μ-loop : tie.MeasureT-loop
 μ-loop description used max-states most count k₀ k = count - k
 
-enum-known-encoding : tie.Need-enum-known-encoding Inv-loop μ-loop
-enum-known-encoding c = search needs
-
 returns : tie.Need-returns Inv-loop μ-loop
 returns c indices l =
     let a = c .before .before .args in
     sym (entries-none (keptWith (a .description) (now (a .used)) indices) entryIsBad (λ i h. no-mark (a .description .encoding) _ (no-text (a .description .encoding) (c .match .keys2))))
-
-mark-requires : tie.Need-mark-requires Inv-loop μ-loop
-mark-requires c κs = search needs
 
 loop-holds : tie.Need-loop-holds Inv-loop μ-loop
 loop-holds c = (omega arith, λ j h. absurd (omega arith))
@@ -61,12 +55,6 @@ returns-2 c indices l =
     (entries-one (keptWith (a .description) (now (a .used)) indices) entryIsBad (t .before .loop .k) (rw l (t .loop-test .taken))
     (mark-over (a .description .encoding) _ _ _ _ _ _ (e .encoding .given .1) (k .mark .ensures) (m .mark-in .ensures) (m .before .entry-at .ensures) (c .if1 .taken)))
 
-add-k : tie.Need-add-k Inv-loop μ-loop
-add-k c = omega arith
-
-loop-less : tie.Need-loop-less Inv-loop μ-loop
-loop-less c = omega arith
-
 loop-again : tie.Need-loop-again Inv-loop μ-loop
 loop-again c =
     let m = c .before in
@@ -91,14 +79,14 @@ any-bad-mark-spec =
     (tie.spec
     Inv-loop
     μ-loop
-    enum-known-encoding
+    (λ c. search needs)
     returns
-    mark-requires
+    (λ c κs. search needs)
     loop-holds
     entry-at-requires
     mark-in-requires
     returns-2
-    add-k
-    loop-less
+    (λ c. omega arith)
+    (λ c. omega arith)
     loop-again
     returns-3)

@@ -22,17 +22,8 @@ abbrev μ-loop : tie.MeasureT-loop
 low : (t : tie.In-loop Inv-loop μ-loop) → t .before .loop .i < min (t .before .before .before .before .before .args .t2 .count) 8
 low t = rw (t .before .before .used-slots .ensures) at (t .loop-test .taken)
 
-used-slots-requires : tie.Need-used-slots-requires Inv-loop μ-loop
-used-slots-requires c κs = search needs
-
 loop-holds : tie.Need-loop-holds Inv-loop μ-loop
 loop-holds c = (omega arith, clear-none)
-
-mul-fails : tie.Need-mul-fails Inv-loop μ-loop
-mul-fails c = omega arith
-
-element-copy-out-fails : tie.Need-element-copy-out-fails Inv-loop μ-loop
-element-copy-out-fails c = omega arith
 
 fails-requires : tie.Need-fails-requires Inv-loop μ-loop
 fails-requires c κs n =
@@ -51,12 +42,6 @@ returns c =
     let a = s .args in
     let full = slotted (a .t2) _ (s .good .1 .0) in
     sym (slot-one (a .t2) full (l .loop .i) (low t) (failsBy (a .test) (now (a .bytes)) (now (a .indices))) (sym (c .before .fails .ensures) ∙ c .if1 .taken))
-
-add-i : tie.Need-add-i Inv-loop μ-loop
-add-i c = omega arith
-
-loop-less : tie.Need-loop-less Inv-loop μ-loop
-loop-less c = omega arith
 
 loop-again : tie.Need-loop-again Inv-loop μ-loop
 loop-again c =
@@ -81,13 +66,13 @@ any-fails-spec =
     (tie.spec
     Inv-loop
     μ-loop
-    used-slots-requires
+    (λ c κs. search needs)
     loop-holds
-    mul-fails
-    element-copy-out-fails
+    (λ c. omega arith)
+    (λ c. omega arith)
     fails-requires
     returns
-    add-i
-    loop-less
+    (λ c. omega arith)
+    (λ c. omega arith)
     loop-again
     returns-2)

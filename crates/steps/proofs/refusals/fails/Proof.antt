@@ -16,44 +16,17 @@ use Rattle.steps.proofs.InputTests.{used-stands}
 use Rattle.steps.proofs.refusals.fails.Statement.{statement}
 use Rattle.steps.proofs.refusals.fails.Tie as tie
 
-enum-told : tie.Need-enum-told
-enum-told c = search needs
-
-is-bad-input-requires : tie.Need-is-bad-input-requires
-is-bad-input-requires c κs = search needs
-
-enum-told-2 : tie.Need-enum-told-2
-enum-told-2 c = search needs
-
-has-no-text-requires : tie.Need-has-no-text-requires
-has-no-text-requires c κs = search needs
-
-enum-told-3 : tie.Need-enum-told-3
-enum-told-3 c = search needs
-
 used-indices-requires : tie.Need-used-indices-requires
 used-indices-requires c κs =
     let s = c .before .before .before .before .before in
     let a = s .args in
     standing (s .pre (ap isFirst (c .enum-told3 .given .1))) .room .indices
 
-is-late-requires : tie.Need-is-late-requires
-is-late-requires c κs = search needs
-
-enum-told-4 : tie.Need-enum-told-4
-enum-told-4 c = search needs
-
 used-indices-requires-2 : tie.Need-used-indices-requires-2
 used-indices-requires-2 c κs =
     let s = c .before .before .before .before .before in
     let a = s .args in
     standing (s .pre (ap isFirst (c .enum-told4 .given .1))) .room .indices
-
-falls-requires : tie.Need-falls-requires
-falls-requires c κs = search needs
-
-enum-told-5 : tie.Need-enum-told-5
-enum-told-5 c = search needs
 
 used-part-requires : tie.Need-used-part-requires
 used-part-requires c κs =
@@ -117,17 +90,17 @@ pub fails-spec : {M : Type 1} → statement M
 fails-spec =
     tie.close
     (tie.spec
-    enum-told
-    is-bad-input-requires
-    enum-told-2
-    has-no-text-requires
-    enum-told-3
+    (λ c. search needs)
+    (λ c κs. search needs)
+    (λ c. search needs)
+    (λ c κs. search needs)
+    (λ c. search needs)
     used-indices-requires
-    is-late-requires
-    enum-told-4
+    (λ c κs. search needs)
+    (λ c. search needs)
     used-indices-requires-2
-    falls-requires
-    enum-told-5
+    (λ c κs. search needs)
+    (λ c. search needs)
     used-part-requires
     any-bad-mark-requires
     returns

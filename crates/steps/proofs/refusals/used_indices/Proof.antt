@@ -9,24 +9,6 @@ use Rattle.value.specs.Slice.{part}
 use Rattle.steps.proofs.refusals.used_indices.Statement.{statement}
 use Rattle.steps.proofs.refusals.used_indices.Tie as tie
 
-cast-n : tie.Need-cast-n
-cast-n c = search needs
-
-add-result : tie.Need-add-result
-add-result c = search needs
-
-mul-result : tie.Need-mul-result
-mul-result c = search needs
-
-sub-result : tie.Need-sub-result
-sub-result c = search needs
-
-part-result-start : tie.Need-part-result-start
-part-result-start c = search needs
-
-part-result-end : tie.Need-part-result-end
-part-result-end c = search needs
-
 returns : tie.Need-returns
 unfolding part
 returns c =
@@ -37,4 +19,4 @@ returns c =
 pub used-indices-spec : {M : Type 1} → statement M
 used-indices-spec =
     tie.close
-    (tie.spec cast-n add-result mul-result sub-result part-result-start part-result-end returns)
+    (tie.spec (λ c. search needs) (λ c. search needs) (λ c. search needs) (λ c. search needs) (λ c. search needs) (λ c. search needs) returns)

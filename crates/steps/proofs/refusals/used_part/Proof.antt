@@ -15,23 +15,11 @@ use Rattle.steps.proofs.refusals.used_part.Tie as tie
 placed : (c : tie.After-size) → c .before .before .before .before .args .input .«byte_start» + c .before .before .before .before .args .input .description .count * c .size .result ≤ length (now (c .before .before .before .before .args .bytes))
 placed c = rw (c .size .ensures) (c .before .before .before .before .pre)
 
-cast-n : tie.Need-cast-n
-cast-n c = search needs
-
-size-requires : tie.Need-size-requires
-size-requires c κs = search needs
-
 mul-n : tie.Need-mul-n
 mul-n c = omega (arith, placed c)
 
 add-result : tie.Need-add-result
 add-result c = omega (arith, placed c)
-
-sub-result : tie.Need-sub-result
-sub-result c = search needs
-
-part-result-start : tie.Need-part-result-start
-part-result-start c = search needs
 
 part-result-end : tie.Need-part-result-end
 part-result-end c = omega (arith, placed c)
@@ -50,11 +38,11 @@ pub used-part-spec : {M : Type 1} → statement M
 used-part-spec =
     tie.close
     (tie.spec
-    cast-n
-    size-requires
+    (λ c. search needs)
+    (λ c κs. search needs)
     mul-n
     add-result
-    sub-result
-    part-result-start
+    (λ c. search needs)
+    (λ c. search needs)
     part-result-end
     returns)

@@ -20,20 +20,8 @@ Inv-loop inputs total₀ i₀ total i =
 abbrev μ-loop : tie.MeasureT-loop
 μ-loop inputs total₀ i₀ total i = i
 
-cast-i : tie.Need-cast-i Inv-loop μ-loop
-cast-i c = search needs
-
 loop-holds : tie.Need-loop-holds Inv-loop μ-loop
 loop-holds c = (omega arith, total-none (c .args .t1) (c .pre .0) (slotted (c .args .t1) _ (c .good .0)), omega arith)
-
-sub-i : tie.Need-sub-i Inv-loop μ-loop
-sub-i c = omega arith
-
-mul-input : tie.Need-mul-input Inv-loop μ-loop
-mul-input c = omega arith
-
-element-copy-out-input : tie.Need-element-copy-out-input Inv-loop μ-loop
-element-copy-out-input c = omega arith
 
 -- an input's entries are few
 few : (c : tie.After-struct-known Inv-loop μ-loop)
@@ -45,9 +33,6 @@ few c =
 
 add-total : tie.Need-add-total Inv-loop μ-loop
 add-total c = omega (arith, few c)
-
-loop-less : tie.Need-loop-less Inv-loop μ-loop
-loop-less c = omega arith
 
 loop-again : tie.Need-loop-again Inv-loop μ-loop
 loop-again c =
@@ -70,12 +55,12 @@ total-count-spec =
     (tie.spec
     Inv-loop
     μ-loop
-    cast-i
+    (λ c. search needs)
     loop-holds
-    sub-i
-    mul-input
-    element-copy-out-input
+    (λ c. omega arith)
+    (λ c. omega arith)
+    (λ c. omega arith)
     add-total
-    loop-less
+    (λ c. omega arith)
     loop-again
     returns)

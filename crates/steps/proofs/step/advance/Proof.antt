@@ -46,9 +46,6 @@ loop-holds c =
     let s = c .before .before .before in
     (omega arith, moved-none (inputsIn (s .args .count) (now (s .args .numbers)) (now (s .args .starts))) (s .pre .1 .few) refl (now (s .args .indices)) (s .args .index) (now (s .args .begun)) (s .pre .2))
 
-sub-i : tie.Need-sub-i Inv-loop μ-loop
-sub-i c = omega arith
-
 input-at-requires : tie.Need-input-at-requires Inv-loop μ-loop
 input-at-requires c κs = let s = c .before .before .before .before .before in (omega (arith, s .pre .1 .few), s .pre .0 .held)
 
@@ -69,9 +66,6 @@ mul-begun c = omega (arith, in-eight (c .before .before))
 
 element-write-begun : tie.Need-element-write-begun Inv-loop μ-loop
 element-write-begun c = in-eight (c .before .before)
-
-loop-less : tie.Need-loop-less Inv-loop μ-loop
-loop-less c = omega arith
 
 loop-again : tie.Need-loop-again Inv-loop μ-loop
 loop-again c =
@@ -98,13 +92,13 @@ advance-spec =
     Inv-loop
     μ-loop
     loop-holds
-    sub-i
+    (λ c. omega arith)
     input-at-requires
     mul-begun-at
     element-copy-out-begun-at
     begun-at-requires
     mul-begun
     element-write-begun
-    loop-less
+    (λ c. omega arith)
     loop-again
     returns)

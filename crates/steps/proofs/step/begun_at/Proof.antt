@@ -10,15 +10,6 @@ use Rattle.steps.proofs.Loops.{begun-none, begun-on, begun-stays, next-
 use Rattle.steps.proofs.step.begun_at.Statement.{statement}
 use Rattle.steps.proofs.step.begun_at.Tie as tie
 
-next-of-requires : tie.Need-next-of-requires
-next-of-requires c κs = search needs
-
-enum-known-next : tie.Need-enum-known-next
-enum-known-next c = search needs
-
-enum-told : tie.Need-enum-told
-enum-told c = search needs
-
 returns : tie.Need-returns
 returns c =
     let b = c .before .before in
@@ -48,4 +39,4 @@ returns-3 c =
 pub begun-at-spec : {M : Type 1} → statement M
 begun-at-spec =
     tie.close
-    (tie.spec next-of-requires enum-known-next enum-told returns add-result returns-2 returns-3)
+    (tie.spec (λ c κs. search needs) (λ c. search needs) (λ c. search needs) returns add-result returns-2 returns-3)

@@ -44,9 +44,6 @@ loop-holds c =
     let s = c .before .before .before in
     (omega arith, soonest-none (inputsIn (s .args .count) (now (s .args .numbers)) (now (s .args .starts))) (s .pre .1 .few) refl (now (s .args .indices)) (now (s .args .begun)))
 
-sub-i : tie.Need-sub-i Inv-loop μ-loop
-sub-i c = omega arith
-
 input-at-requires : tie.Need-input-at-requires Inv-loop μ-loop
 input-at-requires c κs = let s = c .before .before .before .before .before in (omega (arith, s .pre .1 .few), s .pre .0 .held)
 
@@ -61,12 +58,6 @@ next-of-requires c κs =
     let a = c .before in
     let s = start a in
     rw (told a) (input-at (its a) (s .pre .1 .few) refl (turn a .loop .i - 1) (low a) (Reaches (now (s .args .indices))) (s .pre .1 .reach))
-
-smaller-requires : tie.Need-smaller-requires Inv-loop μ-loop
-smaller-requires c κs = search needs
-
-loop-less : tie.Need-loop-less Inv-loop μ-loop
-loop-less c = omega arith
 
 loop-again : tie.Need-loop-again Inv-loop μ-loop
 loop-again c =
@@ -94,12 +85,12 @@ next-index-spec =
     Inv-loop
     μ-loop
     loop-holds
-    sub-i
+    (λ c. omega arith)
     input-at-requires
     mul-next-of
     element-copy-out-next-of
     next-of-requires
-    smaller-requires
-    loop-less
+    (λ c κs. search needs)
+    (λ c. omega arith)
     loop-again
     returns)

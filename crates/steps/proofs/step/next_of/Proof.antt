@@ -6,15 +6,6 @@ use Rattle.steps.proofs.Loops.{next-none, next-some}
 use Rattle.steps.proofs.step.next_of.Statement.{statement}
 use Rattle.steps.proofs.step.next_of.Tie as tie
 
-add-at : tie.Need-add-at
-add-at c = search needs
-
-mul-t6 : tie.Need-mul-t6
-mul-t6 c = search needs
-
-shared-slice-read-t8 : tie.Need-shared-slice-read-t8
-shared-slice-read-t8 c = search needs
-
 returns : tie.Need-returns
 returns c =
     let t = c .before .before in
@@ -27,4 +18,4 @@ returns-2 c =
     next-none (now (s .args .indices)) (s .args .input) (s .args .begun) (s .pre) (c .if1 .left)
 
 pub next-of-spec : {M : Type 1} → statement M
-next-of-spec = tie.close (tie.spec add-at mul-t6 shared-slice-read-t8 returns returns-2)
+next-of-spec = tie.close (tie.spec (λ c. search needs) (λ c. search needs) (λ c. search needs) returns returns-2)

@@ -7,21 +7,6 @@ use Rattle.steps.proofs.Loops.{smaller-left, smaller-right}
 use Rattle.steps.proofs.step.smaller.Statement.{statement}
 use Rattle.steps.proofs.step.smaller.Tie as tie
 
-enum-known-a : tie.Need-enum-known-a
-enum-known-a c = search needs
-
-enum-told : tie.Need-enum-told
-enum-told c = search needs
-
-returns : tie.Need-returns
-returns c = search needs
-
-enum-known-b : tie.Need-enum-known-b
-enum-known-b c = search needs
-
-enum-told-2 : tie.Need-enum-told-2
-enum-told-2 c = search needs
-
 returns-2 : tie.Need-returns-2
 returns-2 c = let k = c .before .before .before in rw (k .a .given .1, c .enum-told2 .given .1)
 
@@ -39,11 +24,11 @@ pub smaller-spec : {M : Type 1} → statement M
 smaller-spec =
     tie.close
     (tie.spec
-    enum-known-a
-    enum-told
-    returns
-    enum-known-b
-    enum-told-2
+    (λ c. search needs)
+    (λ c. search needs)
+    (λ c. search needs)
+    (λ c. search needs)
+    (λ c. search needs)
     returns-2
     returns-3
     returns-4)

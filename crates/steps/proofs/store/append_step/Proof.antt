@@ -24,17 +24,11 @@ module _ (e : tie.Else1) where
   fits : start .args .count * start .args .stride + start .args .size ≤ length (now (start .args .out-bytes))
   fits = start .pre .room new
 
-entry-number-requires : tie.Need-entry-number-requires
-entry-number-requires c κs = search needs
-
 repeats-last-requires : tie.Need-repeats-last-requires
 repeats-last-requires c κs =
     let n = c .before in
     let s = n .before .before .before in
     (λ h. writable-at (s .pre .written) (s .pre .sized) _ _ (s .pre .last h), n .entry-number .ensures)
-
-same-length : tie.Need-same-length
-same-length c = search needs
 
 returns : tie.Need-returns
 returns c =
@@ -50,12 +44,6 @@ store-entry-requires c κs =
     let s = start e in
     (writable-at (s .pre .written) (s .pre .sized) _ _ (fits e), e .before .before .before .entry-number .ensures)
 
-add-result : tie.Need-add-result
-add-result c = search needs
-
-same-length-2 : tie.Need-same-length-2
-same-length-2 c = search needs
-
 returns-2 : tie.Need-returns-2
 returns-2 c =
     let w = c .before .before in
@@ -67,12 +55,12 @@ pub append-step-spec : {M : Type 1} → statement M
 append-step-spec =
     tie.close
     (tie.spec
-    entry-number-requires
+    (λ c κs. search needs)
     repeats-last-requires
-    same-length
+    (λ c. search needs)
     returns
     mul-at
     store-entry-requires
-    add-result
-    same-length-2
+    (λ c. search needs)
+    (λ c. search needs)
     returns-2)

@@ -12,17 +12,8 @@ returns c = let a = c .before .args in put-none (a .count) (a .kept) (a .index) 
 returns-2 : tie.Need-returns-2
 returns-2 c = let a = c .before .before .args in put-past (a .count) (a .kept) (a .index) (now (a .indices)) (c .before .if1 .left) (c .if2 .taken)
 
-mul-indices : tie.Need-mul-indices
-mul-indices c = search needs
-
-slice-write-indices : tie.Need-slice-write-indices
-slice-write-indices c = search needs
-
-same-length : tie.Need-same-length
-same-length c = search needs
-
 returns-3 : tie.Need-returns-3
 returns-3 c = let a = c .before .before .args in put-one (a .count) (a .kept) (a .index) (now (a .indices)) (c .before .if1 .left)
 
 pub put-index-spec : {M : Type 1} → statement M
-put-index-spec = tie.close (tie.spec returns returns-2 mul-indices slice-write-indices same-length returns-3)
+put-index-spec = tie.close (tie.spec returns returns-2 (λ c. search needs) (λ c. search needs) (λ c. search needs) returns-3)

@@ -24,9 +24,6 @@ module _ (e : tie.Else1) where
 returns : tie.Need-returns
 returns c = let s = c .before .before .before in none-before (s .args .count) _ _ (c .if1 .taken)
 
-sub-at : tie.Need-sub-at
-sub-at c = search needs
-
 mul-at : tie.Need-mul-at
 mul-at c = omega (arith, there c .fits)
 
@@ -42,4 +39,4 @@ returns-2 c =
     ∙ one-before (a .count) (lastAt (a .size) (a .stride) (a .count) (now (a .bytes))) _ (e .if1 .left)
 
 pub repeats-last-spec : {M : Type 1} → statement M
-repeats-last-spec = tie.close (tie.spec returns sub-at mul-at equals-entry-requires returns-2)
+repeats-last-spec = tie.close (tie.spec returns (λ c. search needs) mul-at equals-entry-requires returns-2)

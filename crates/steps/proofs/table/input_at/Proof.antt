@@ -3,14 +3,14 @@
 use borrow.Author.Needs.{needs}
 use denote.Ref.{now}
 use native.Mathlib.Omega.{arith}
-use Rattle.steps.proofs.Tables.{input-told}
+use Rattle.steps.proofs.Tables.{input-read}
 use Rattle.steps.proofs.table.input_at.Statement.{statement}
 use Rattle.steps.proofs.table.input_at.Tie as tie
 
 returns : tie.Need-returns
 returns c =
     let s = c .before .before .before .before .before .before .before .before .before in
-    rw (c .new .ensures) (input-told (now (s .args .numbers)) (now (s .args .starts)) (s .args .i) _ (c .before .before .before .before .states-at .ensures))
+    rw (c .new .ensures) (input-read (now (s .args .numbers)) (now (s .args .starts)) (s .args .i) _ (c .before .before .before .before .states-at .ensures))
 
 pub input-at-spec : {M : Type 1} → statement M
 input-at-spec =

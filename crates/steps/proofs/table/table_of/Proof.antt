@@ -24,84 +24,6 @@ loop-holds : tie.Need-loop-holds Inv-loop μ-loop
 loop-holds c =
     (omega arith, record { held = record { numbered = length-replicate {A = ℕ} 24 0; started = length-replicate {A = ℕ} 24 0 }; rows = λ k h. absurd (omega arith); sizes = λ k h. absurd (omega arith) })
 
-cast-loop : tie.Need-cast-loop Inv-loop μ-loop
-cast-loop c = search needs
-
-mul-input : tie.Need-mul-input Inv-loop μ-loop
-mul-input c = omega arith
-
-element-copy-out-input : tie.Need-element-copy-out-input Inv-loop μ-loop
-element-copy-out-input c = omega arith
-
-mul-numbers : tie.Need-mul-numbers Inv-loop μ-loop
-mul-numbers c = omega arith
-
-array-write-numbers : tie.Need-array-write-numbers Inv-loop μ-loop
-array-write-numbers c = omega arith
-
-width-requires : tie.Need-width-requires Inv-loop μ-loop
-width-requires c κs = search needs
-
-add-numbers : tie.Need-add-numbers Inv-loop μ-loop
-add-numbers c = omega arith
-
-mul-numbers-2 : tie.Need-mul-numbers-2 Inv-loop μ-loop
-mul-numbers-2 c = omega arith
-
-array-write-numbers-2 : tie.Need-array-write-numbers-2 Inv-loop μ-loop
-array-write-numbers-2 c = omega arith
-
-largest-requires : tie.Need-largest-requires Inv-loop μ-loop
-largest-requires c κs = search needs
-
-mark-requires : tie.Need-mark-requires Inv-loop μ-loop
-mark-requires c κs = search needs
-
-cast-numbers : tie.Need-cast-numbers Inv-loop μ-loop
-cast-numbers c = search needs
-
-add-numbers-2 : tie.Need-add-numbers-2 Inv-loop μ-loop
-add-numbers-2 c = omega arith
-
-mul-numbers-3 : tie.Need-mul-numbers-3 Inv-loop μ-loop
-mul-numbers-3 c = omega arith
-
-array-write-numbers-3 : tie.Need-array-write-numbers-3 Inv-loop μ-loop
-array-write-numbers-3 c = omega arith
-
-mul-starts : tie.Need-mul-starts Inv-loop μ-loop
-mul-starts c = omega arith
-
-array-write-starts : tie.Need-array-write-starts Inv-loop μ-loop
-array-write-starts c = omega arith
-
-add-starts : tie.Need-add-starts Inv-loop μ-loop
-add-starts c = omega arith
-
-mul-starts-2 : tie.Need-mul-starts-2 Inv-loop μ-loop
-mul-starts-2 c = omega arith
-
-array-write-starts-2 : tie.Need-array-write-starts-2 Inv-loop μ-loop
-array-write-starts-2 c = omega arith
-
-size-requires : tie.Need-size-requires Inv-loop μ-loop
-size-requires c κs = search needs
-
-add-starts-2 : tie.Need-add-starts-2 Inv-loop μ-loop
-add-starts-2 c = omega arith
-
-mul-starts-3 : tie.Need-mul-starts-3 Inv-loop μ-loop
-mul-starts-3 c = omega arith
-
-array-write-starts-3 : tie.Need-array-write-starts-3 Inv-loop μ-loop
-array-write-starts-3 c = omega arith
-
-add-i : tie.Need-add-i Inv-loop μ-loop
-add-i c = omega arith
-
-loop-less : tie.Need-loop-less Inv-loop μ-loop
-loop-less c = omega arith
-
 loop-again : tie.Need-loop-again Inv-loop μ-loop
 loop-again c =
     let k = c .before in
@@ -131,31 +53,31 @@ table-of-spec =
     Inv-loop
     μ-loop
     loop-holds
-    cast-loop
-    mul-input
-    element-copy-out-input
-    mul-numbers
-    array-write-numbers
-    width-requires
-    add-numbers
-    mul-numbers-2
-    array-write-numbers-2
-    largest-requires
-    mark-requires
-    cast-numbers
-    add-numbers-2
-    mul-numbers-3
-    array-write-numbers-3
-    mul-starts
-    array-write-starts
-    add-starts
-    mul-starts-2
-    array-write-starts-2
-    size-requires
-    add-starts-2
-    mul-starts-3
-    array-write-starts-3
-    add-i
-    loop-less
+    (λ c. search needs)
+    (λ c. omega arith)
+    (λ c. omega arith)
+    (λ c. omega arith)
+    (λ c. omega arith)
+    (λ c κs. search needs)
+    (λ c. omega arith)
+    (λ c. omega arith)
+    (λ c. omega arith)
+    (λ c κs. search needs)
+    (λ c κs. search needs)
+    (λ c. search needs)
+    (λ c. omega arith)
+    (λ c. omega arith)
+    (λ c. omega arith)
+    (λ c. omega arith)
+    (λ c. omega arith)
+    (λ c. omega arith)
+    (λ c. omega arith)
+    (λ c. omega arith)
+    (λ c κs. search needs)
+    (λ c. omega arith)
+    (λ c. omega arith)
+    (λ c. omega arith)
+    (λ c. omega arith)
+    (λ c. omega arith)
     loop-again
     returns)

@@ -9,29 +9,11 @@ use Rattle.transform.proofs.RefusalsInOrder.{derivable}
 use Rattle.transform.proofs.derive.derive.Statement.{statement}
 use Rattle.transform.proofs.derive.derive.Tie as tie
 
-first-refusal-requires : tie.Need-first-refusal-requires
-first-refusal-requires c κs = search needs
-
-enum-told : tie.Need-enum-told
-enum-told c = search needs
-
 derive-all-requires : tie.Need-derive-all-requires
 derive-all-requires c κs =
     let f = c .before .before .before .before in
     let s = f .before .before .before .before .before in
     derivable (s .args .derivation) (s .args .inputs) (now (s .args .bytes)) (now (s .args .indices)) (sym (f .first-refusal .ensures) ∙ ap verdictReply (c .before .before .enum-told .given .1))
-
-enum-known-verdict : tie.Need-enum-known-verdict
-enum-known-verdict c = search needs
-
-same-length : tie.Need-same-length
-same-length c = search needs
-
-same-length-2 : tie.Need-same-length-2
-same-length-2 c = search needs
-
-returns : tie.Need-returns
-returns c = search needs
 
 returns-2 : tie.Need-returns-2
 returns-2 c =
@@ -44,11 +26,11 @@ pub derive-spec : {M : Type 1} → statement M
 derive-spec =
     tie.close
     (tie.spec
-    first-refusal-requires
-    enum-told
+    (λ c κs. search needs)
+    (λ c. search needs)
     derive-all-requires
-    enum-known-verdict
-    same-length
-    same-length-2
-    returns
+    (λ c. search needs)
+    (λ c. search needs)
+    (λ c. search needs)
+    (λ c. search needs)
     returns-2)

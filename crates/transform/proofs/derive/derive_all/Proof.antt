@@ -37,9 +37,6 @@ largest-states-requires c κs =
 steps-fit-requires : tie.Need-steps-fit-requires
 steps-fit-requires c κs = walkable c
 
-entry-size-requires : tie.Need-entry-size-requires
-entry-size-requires c κs = search needs
-
 write-steps-requires : tie.Need-write-steps-requires
 write-steps-requires c κs =
     let z = c .before .before in
@@ -48,15 +45,6 @@ write-steps-requires c κs =
     let g = f .before in
     let a = start g .args in
     (walkable g, rw (z .entry-size .ensures) (roomy (walkable g) (now (a .out-bytes)) (now (a .out-indices)) (f .steps-fit .ensures) (t .if1 .taken) .0))
-
-record-of-requires : tie.Need-record-of-requires
-record-of-requires c κs = search needs
-
-same-length : tie.Need-same-length
-same-length c = search needs
-
-same-length-2 : tie.Need-same-length-2
-same-length-2 c = search needs
 
 returns : tie.Need-returns
 returns c =
@@ -82,10 +70,10 @@ derive-all-spec =
     (tie.spec
     largest-states-requires
     steps-fit-requires
-    entry-size-requires
+    (λ c κs. search needs)
     write-steps-requires
-    record-of-requires
-    same-length
-    same-length-2
+    (λ c κs. search needs)
+    (λ c. search needs)
+    (λ c. search needs)
     returns
     returns-2)

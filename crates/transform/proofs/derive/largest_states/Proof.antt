@@ -18,29 +18,8 @@ Inv-loop inputs states₀ i₀ states i = (i ≤ inputs .count) × (states ≡ l
 abbrev μ-loop : tie.MeasureT-loop
 μ-loop inputs states₀ i₀ states i = i
 
-cast-i : tie.Need-cast-i Inv-loop μ-loop
-cast-i c = search needs
-
 loop-holds : tie.Need-loop-holds Inv-loop μ-loop
 loop-holds c = (omega arith, over-none (c .args .t1) (c .pre) (slotted (c .args .t1) _ (c .good .0)))
-
-sub-i : tie.Need-sub-i Inv-loop μ-loop
-sub-i c = omega arith
-
-mul-input : tie.Need-mul-input Inv-loop μ-loop
-mul-input c = omega arith
-
-element-copy-out-input : tie.Need-element-copy-out-input Inv-loop μ-loop
-element-copy-out-input c = omega arith
-
-largest-requires : tie.Need-largest-requires Inv-loop μ-loop
-largest-requires c κs = search needs
-
-join-requires : tie.Need-join-requires Inv-loop μ-loop
-join-requires c κs = search needs
-
-loop-less : tie.Need-loop-less Inv-loop μ-loop
-loop-less c = omega arith
 
 loop-again : tie.Need-loop-again Inv-loop μ-loop
 loop-again c =
@@ -64,13 +43,13 @@ largest-states-spec =
     (tie.spec
     Inv-loop
     μ-loop
-    cast-i
+    (λ c. search needs)
     loop-holds
-    sub-i
-    mul-input
-    element-copy-out-input
-    largest-requires
-    join-requires
-    loop-less
+    (λ c. omega arith)
+    (λ c. omega arith)
+    (λ c. omega arith)
+    (λ c κs. search needs)
+    (λ c κs. search needs)
+    (λ c. omega arith)
     loop-again
     returns)

@@ -28,9 +28,6 @@ module _ (s : tie.Start) where
 abbrev start : tie.After-entry-size → tie.Start
 start e = e .before .before .before
 
-entry-size-requires : tie.Need-entry-size-requires
-entry-size-requires c κs = search needs
-
 total-count-requires : tie.Need-total-count-requires
 total-count-requires c κs = let r = ready (start c) in (few-inputs r, few-each (stand r))
 
@@ -44,12 +41,6 @@ returns c =
     let s = start (t .before) in
     fits-together _ _ (s .args .out-bytes) (s .args .out-indices) _ _ (t .before .entry-size .ensures) (h .has-room .ensures) _ (t .total-count .ensures)
     (steps-bound (stand (ready s)) (yielded (piecesOf (s .args .derivation))) sameStep) (c .if1 .taken)
-
-slice-aggregate-write-steps : tie.Need-slice-aggregate-write-steps
-slice-aggregate-write-steps c = search needs
-
-slice-aggregate-write-steps-2 : tie.Need-slice-aggregate-write-steps-2
-slice-aggregate-write-steps-2 c = search needs
 
 write-steps-requires : tie.Need-write-steps-requires
 write-steps-requires c κs =
@@ -70,12 +61,12 @@ pub steps-fit-spec : {M : Type 1} → statement M
 steps-fit-spec =
     tie.close
     (tie.spec
-    entry-size-requires
+    (λ c κs. search needs)
     total-count-requires
     has-room-requires
     returns
-    slice-aggregate-write-steps
-    slice-aggregate-write-steps-2
+    (λ c. search needs)
+    (λ c. search needs)
     write-steps-requires
     has-room-requires-2
     returns-2)

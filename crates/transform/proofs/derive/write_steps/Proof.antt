@@ -126,22 +126,10 @@ module _ (t : tie.After-step-states Inv-loop μ-loop) where
             ∙ ap (λ (ps : List ℕ). overlay (v .loop .text) 0 (textOf (pickedNow (now (start v .args .bytes)) (cursorsOf (its (made v)) (a .advance .last .1 .1 .1 .1 .0)) (map extractOf ps)))) (v .loop .inv .2);
       }
 
-cast-pieces : tie.Need-cast-pieces Inv-loop μ-loop
-cast-pieces c = search needs
-
-sub-pieces : tie.Need-sub-pieces Inv-loop μ-loop
-sub-pieces c = search needs
-
-part-pieces-start : tie.Need-part-pieces-start Inv-loop μ-loop
-part-pieces-start c = search needs
-
 part-pieces-end : tie.Need-part-pieces-end Inv-loop μ-loop
 part-pieces-end c =
     let r = ready (c .before .before .before .before .before .before .before) in
     omega (arith, few-pieces r, r .size .bits)
-
-entry-size-requires : tie.Need-entry-size-requires Inv-loop μ-loop
-entry-size-requires c κs = search needs
 
 table-of-requires : tie.Need-table-of-requires Inv-loop μ-loop
 table-of-requires c κs = vectors (ready (c .before .before .before .before .before .before .before .before .before))
@@ -161,12 +149,6 @@ slice-aggregate-next-index-2 c = started (made (c .before .before))
 
 next-index-requires : tie.Need-next-index-requires Inv-loop μ-loop
 next-index-requires c κs = let l = c .before .before .before in (made l .table-of .ensures .long, indexable (stand (ready-as (made l))), l .loop .inv .1)
-
-enum-known-next : tie.Need-enum-known-next Inv-loop μ-loop
-enum-known-next c = search needs
-
-enum-told : tie.Need-enum-told Inv-loop μ-loop
-enum-told c = search needs
 
 same-length : tie.Need-same-length Inv-loop μ-loop
 same-length c = c .before .before .before .before .before .before .loop .inv .0 .storing .long
@@ -211,9 +193,6 @@ slice-aggregate-step-states-2 c = started (made (l (k (c .before .before .before
 step-states-requires : tie.Need-step-states-requires Inv-loop μ-loop
 step-states-requires c κs = let a = c .before .before .before .before .before .before .before .before .before in (made (l (k a)) .table-of .ensures .long, pickable a _ (l (k a) .loop .inv .2) .shown)
 
-cast-text : tie.Need-cast-text Inv-loop μ-loop
-cast-text c = search needs
-
 array-share-prefix-text : tie.Need-array-share-prefix-text Inv-loop μ-loop
 array-share-prefix-text c = let t = c .before in wide-text (v t) (text t) (text-long t)
 
@@ -226,9 +205,6 @@ append-step-requires c κs =
     let u = v t in
     let m = made u in
     rw (m .before .entry-size .ensures) (appendable-on (ready-as m) (u .loop .inv .0) (next (k (a t))) (a t .advance .ensures) (yields t) (room m))
-
-put-index-requires : tie.Need-put-index-requires Inv-loop μ-loop
-put-index-requires c κs = search needs
 
 loop-less : tie.Need-loop-less Inv-loop μ-loop
 loop-less c =
@@ -254,18 +230,18 @@ write-steps-spec =
     (tie.spec
     Inv-loop
     μ-loop
-    cast-pieces
-    sub-pieces
-    part-pieces-start
+    (λ c. search needs)
+    (λ c. search needs)
+    (λ c. search needs)
     part-pieces-end
-    entry-size-requires
+    (λ c κs. search needs)
     table-of-requires
     loop-holds
     slice-aggregate-next-index
     slice-aggregate-next-index-2
     next-index-requires
-    enum-known-next
-    enum-told
+    (λ c. search needs)
+    (λ c. search needs)
     same-length
     same-length-2
     returns
@@ -279,10 +255,10 @@ write-steps-spec =
     slice-aggregate-step-states
     slice-aggregate-step-states-2
     step-states-requires
-    cast-text
+    (λ c. search needs)
     array-share-prefix-text
     slice-aggregate-value
     append-step-requires
-    put-index-requires
+    (λ c κs. search needs)
     loop-less
     loop-again)

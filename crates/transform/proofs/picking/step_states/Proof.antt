@@ -63,9 +63,6 @@ loop-holds c =
     let s = c .before .before .before in
     (omega arith, largest-none (inputsIn (s .args .count) (now (s .args .numbers)) (now (s .args .starts))) (s .pre .1 .few) refl (now (s .args .bytes)) (now (s .args .begun)))
 
-sub-i : tie.Need-sub-i Inv-loop μ-loop
-sub-i c = omega arith
-
 mul-shown-entry : tie.Need-mul-shown-entry Inv-loop μ-loop
 mul-shown-entry c = omega (arith, in-eight c)
 
@@ -78,7 +75,7 @@ shown-entry-requires c κs =
     let s = start b in (
       omega (arith, in-eight b, s .pre .0 .held .started),
       shows b .begun,
-      found-fits (now (s .args .numbers)) (now (s .args .starts)) (now (s .args .bytes)) (i b) (sized b) (begun b) (shows b),
+      found-fits (now (s .args .numbers)) (now (s .args .starts)) (i b) (sized b) (shows b),
     )
 
 add-states-in : tie.Need-add-states-in Inv-loop μ-loop
@@ -95,13 +92,7 @@ states-in-requires c κs =
     let a = c .before in
     let b = a .before .before in
     let s = start b in
-    found-some (now (s .args .numbers)) (now (s .args .starts)) (now (s .args .bytes)) (i b) (sized b) (begun b) (shows b) _ (a .shown-entry .ensures)
-
-join-requires : tie.Need-join-requires Inv-loop μ-loop
-join-requires c κs = search needs
-
-loop-less : tie.Need-loop-less Inv-loop μ-loop
-loop-less c = omega arith
+    found-some (now (s .args .numbers)) (now (s .args .starts)) (i b) (sized b) (shows b) (a .shown-entry .ensures)
 
 loop-again : tie.Need-loop-again Inv-loop μ-loop
 loop-again c =
@@ -113,7 +104,7 @@ loop-again c =
       omega arith,
       c .join .ensures
           ∙ largest-more (its b) (s .pre .1 .few) refl (i b) (low b) (now (s .args .bytes)) (now (s .args .begun)) (s .pre .1 .places) _ _
-          (found-set (now (s .args .numbers)) (now (s .args .starts)) (now (s .args .bytes)) (i b) (sized b) (begun b) (shows b) _ (a .shown-entry .ensures) _ (n .states-in .ensures)
+          (found-set (now (s .args .numbers)) (now (s .args .starts)) (i b) (sized b) (shows b) (a .shown-entry .ensures) (n .states-in .ensures)
           ∙ ap (λ (x : Input). setNow (now (s .args .bytes)) (cursor x (begun b))) (told b))
           (l .loop .i) (omega arith) (l .loop .inv .1),
     )
@@ -132,7 +123,7 @@ step-states-spec =
     Inv-loop
     μ-loop
     loop-holds
-    sub-i
+    (λ c. omega arith)
     mul-shown-entry
     element-copy-out-shown-entry
     shown-entry-requires
@@ -140,7 +131,7 @@ step-states-spec =
     mul-states-in
     shared-slice-read-states-in
     states-in-requires
-    join-requires
-    loop-less
+    (λ c κs. search needs)
+    (λ c. omega arith)
     loop-again
     returns)

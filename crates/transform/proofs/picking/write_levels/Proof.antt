@@ -27,29 +27,8 @@ abbrev μ-loop : tie.MeasureT-loop
 loop-holds : tie.Need-loop-holds Inv-loop μ-loop
 loop-holds c = (omega arith, refl, sym (overlay-nil _ _))
 
-add-code-at : tie.Need-add-code-at Inv-loop μ-loop
-add-code-at c = omega arith
-
 code-at-requires : tie.Need-code-at-requires Inv-loop μ-loop
 code-at-requires c κs = let s = c .before .before .before .before in (s .pre .0, omega (arith, s .pre .1))
-
-num-to-bit-char-requires : tie.Need-num-to-bit-char-requires Inv-loop μ-loop
-num-to-bit-char-requires c κs = search needs
-
-cast-text : tie.Need-cast-text Inv-loop μ-loop
-cast-text c = omega arith
-
-add-text : tie.Need-add-text Inv-loop μ-loop
-add-text c = omega arith
-
-slice-write-text : tie.Need-slice-write-text Inv-loop μ-loop
-slice-write-text c = omega arith
-
-add-j : tie.Need-add-j Inv-loop μ-loop
-add-j c = omega arith
-
-loop-less : tie.Need-loop-less Inv-loop μ-loop
-loop-less c = omega arith
 
 loop-again : tie.Need-loop-again Inv-loop μ-loop
 loop-again c =
@@ -83,14 +62,14 @@ write-levels-spec =
     Inv-loop
     μ-loop
     loop-holds
-    add-code-at
+    (λ c. omega arith)
     code-at-requires
-    num-to-bit-char-requires
-    cast-text
-    add-text
-    slice-write-text
-    add-j
-    loop-less
+    (λ c κs. search needs)
+    (λ c. omega arith)
+    (λ c. omega arith)
+    (λ c. omega arith)
+    (λ c. omega arith)
+    (λ c. omega arith)
     loop-again
     same-length
     returns)

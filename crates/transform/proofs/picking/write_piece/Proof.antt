@@ -36,58 +36,31 @@ module _ (e : tie.After-struct-known3) where
   found : Levels wide own held
       × (codesAt wide own held ≡ levelsNow (now (start .args .bytes)) (cursor (inputIn (now (start .args .numbers)) (now (start .args .starts)) (start .args .extract .signal)) (start .args .begun)))
   found =
-      found-levels (now (start .args .numbers)) (now (start .args .starts)) (now (start .args .bytes)) (start .args .extract .signal) (start .pre .2) (start .args .begun) (start .pre .3 .shows)
-      _ (e .before .before .before .before .before .shown-entry .ensures) own (e .before .before .before .states-in .ensures) held (e .before .before .level-part .ensures)
+      found-levels (now (start .args .numbers)) (now (start .args .starts)) (start .args .extract .signal) (start .pre .2) (start .pre .3 .shows)
+      (e .before .before .before .before .before .shown-entry .ensures) (e .before .before .before .states-in .ensures) held (e .before .before .level-part .ensures)
 
   within : start .args .extract .lsb + start .args .extract .width ≤ wide
   within = start .pre .3 .within
-
-  fits : wide - (start .args .extract .lsb + start .args .extract .width) + start .args .extract .width ≤ wide
-  fits = omega (arith, within)
-
-cast-i : tie.Need-cast-i
-cast-i c = search needs
-
-add-width : tie.Need-add-width
-add-width c = search needs
-
-mul-width : tie.Need-mul-width
-mul-width c = search needs
-
-shared-slice-read-width : tie.Need-shared-slice-read-width
-shared-slice-read-width c = search needs
 
 shown-entry-requires : tie.Need-shown-entry-requires
 shown-entry-requires c κs =
     let s = c .before .before .before .before .before .before in (
       omega (arith, s .pre .0, s .pre .1 .started),
       s .pre .3 .shows .begun,
-      found-fits (now (s .args .numbers)) (now (s .args .starts)) (now (s .args .bytes)) (s .args .extract .signal) (s .pre .2) (s .args .begun) (s .pre .3 .shows),
+      found-fits (now (s .args .numbers)) (now (s .args .starts)) (s .args .extract .signal) (s .pre .2) (s .pre .3 .shows),
     )
-
-add-states-in : tie.Need-add-states-in
-add-states-in c = search needs
-
-mul-states-in : tie.Need-mul-states-in
-mul-states-in c = search needs
-
-shared-slice-read-states-in : tie.Need-shared-slice-read-states-in
-shared-slice-read-states-in c = search needs
 
 states-in-requires : tie.Need-states-in-requires
 states-in-requires c κs =
     let a = c .before in
     let s = a .before .before .before .before .before .before .before in
-    found-some (now (s .args .numbers)) (now (s .args .starts)) (now (s .args .bytes)) (s .args .extract .signal) (s .pre .2) (s .args .begun) (s .pre .3 .shows) _ (a .shown-entry .ensures)
+    found-some (now (s .args .numbers)) (now (s .args .starts)) (s .args .extract .signal) (s .pre .2) (s .pre .3 .shows) (a .shown-entry .ensures)
 
 level-part-requires : tie.Need-level-part-requires
 level-part-requires c κs =
     let a = c .before .before in
     let s = a .before .before .before .before .before .before .before in
-    found-room (now (s .args .numbers)) (now (s .args .starts)) (now (s .args .bytes)) (s .args .extract .signal) (s .pre .2) (s .args .begun) (s .pre .3 .shows) _ (a .shown-entry .ensures) _ (c .states-in .ensures)
-
-cast-count : tie.Need-cast-count
-cast-count c = search needs
+    found-room (now (s .args .numbers)) (now (s .args .starts)) (s .args .extract .signal) (s .pre .2) (s .pre .3 .shows) (a .shown-entry .ensures) (c .states-in .ensures)
 
 add-first : tie.Need-add-first
 add-first c = omega (arith, within c, found c .0 .short)
@@ -96,10 +69,7 @@ sub-first : tie.Need-sub-first
 sub-first c = within c
 
 write-levels-of-requires : tie.Need-write-levels-of-requires
-write-levels-of-requires c κs = let e = c .before in (found e .0, fits e, start e .pre .3 .fits)
-
-same-length : tie.Need-same-length
-same-length c = search needs
+write-levels-of-requires c κs = let e = c .before in (found e .0, omega (arith, within e), start e .pre .3 .fits)
 
 returns : tie.Need-returns
 returns c =
@@ -113,19 +83,19 @@ pub write-piece-spec : {M : Type 1} → statement M
 write-piece-spec =
     tie.close
     (tie.spec
-    cast-i
-    add-width
-    mul-width
-    shared-slice-read-width
+    (λ c. search needs)
+    (λ c. search needs)
+    (λ c. search needs)
+    (λ c. search needs)
     shown-entry-requires
-    add-states-in
-    mul-states-in
-    shared-slice-read-states-in
+    (λ c. search needs)
+    (λ c. search needs)
+    (λ c. search needs)
     states-in-requires
     level-part-requires
-    cast-count
+    (λ c. search needs)
     add-first
     sub-first
     write-levels-of-requires
-    same-length
+    (λ c. search needs)
     returns)

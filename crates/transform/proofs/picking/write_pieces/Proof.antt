@@ -65,15 +65,6 @@ module _ (k : tie.After-from-u64 Inv-loop μ-loop) where
 loop-holds : tie.Need-loop-holds Inv-loop μ-loop
 loop-holds c = (omega arith, refl, omega (arith, c .before .before .before .before .before .pre .1 .fits), refl)
 
-mul-from-u64 : tie.Need-mul-from-u64 Inv-loop μ-loop
-mul-from-u64 c = search needs
-
-shared-slice-read-from-u64 : tie.Need-shared-slice-read-from-u64 Inv-loop μ-loop
-shared-slice-read-from-u64 c = omega arith
-
-from-u64-requires : tie.Need-from-u64-requires Inv-loop μ-loop
-from-u64-requires c κs = search needs
-
 cast-signal : tie.Need-cast-signal Inv-loop μ-loop
 cast-signal c = omega (arith, in-eight (c .before))
 
@@ -88,20 +79,11 @@ write-piece-requires c κs =
     let k = c .before .before .before in
     (in-eight k, start k .pre .0 .held, start k .pre .0 .sized (k .from-u64 .result .signal) (among k), rw (turn k .loop .inv .1, told k) (picks k))
 
-cast-at : tie.Need-cast-at Inv-loop μ-loop
-cast-at c = search needs
-
 add-at : tie.Need-add-at Inv-loop μ-loop
 add-at c =
     let k = c .before .before .before .before .before .before .before in
     let g = start k .good .1 .1 .1 .1 .1 .1 in
     omega (arith, picks k .fits)
-
-add-i : tie.Need-add-i Inv-loop μ-loop
-add-i c = omega arith
-
-loop-less : tie.Need-loop-less Inv-loop μ-loop
-loop-less c = omega arith
 
 loop-again : tie.Need-loop-again Inv-loop μ-loop
 loop-again c =
@@ -137,17 +119,17 @@ write-pieces-spec =
     Inv-loop
     μ-loop
     loop-holds
-    mul-from-u64
-    shared-slice-read-from-u64
-    from-u64-requires
+    (λ c. search needs)
+    (λ c. omega arith)
+    (λ c κs. search needs)
     cast-signal
     mul-write-piece
     element-copy-out-write-piece
     write-piece-requires
-    cast-at
+    (λ c. search needs)
     add-at
-    add-i
-    loop-less
+    (λ c. omega arith)
+    (λ c. omega arith)
     loop-again
     same-length
     returns)

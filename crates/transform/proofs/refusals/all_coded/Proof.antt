@@ -46,22 +46,10 @@ module _ (v : tie.After-width Inv-loop μ-loop) where
   abbrev a : tie.Start Inv-loop μ-loop
   a = start t
 
-used-slots-requires : tie.Need-used-slots-requires Inv-loop μ-loop
-used-slots-requires c κs = search needs
-
 loop-holds : tie.Need-loop-holds Inv-loop μ-loop
 loop-holds c =
     let a = c .before .before .before .args in
     (omega arith, clear-none)
-
-mul-input : tie.Need-mul-input Inv-loop μ-loop
-mul-input c = omega arith
-
-element-copy-out-input : tie.Need-element-copy-out-input Inv-loop μ-loop
-element-copy-out-input c = omega arith
-
-width-requires : tie.Need-width-requires Inv-loop μ-loop
-width-requires c κs = search needs
 
 mul-if1 : tie.Need-mul-if1 Inv-loop μ-loop
 mul-if1 c =
@@ -77,29 +65,23 @@ cast-t20 : tie.Need-cast-t20 Inv-loop μ-loop
 cast-t20 c =
     let v = c .before .before in
     let s = a v in
-    omega (arith, v .width .ensures, input-narrow (s .args .derivation) (s .args .t2) (now (s .args .bytes)) (now (s .args .indices)) (slots (t v)) (s .pre) (l (t v) .loop .i) (low (t v)))
+    omega (arith, v .width .ensures, input-narrow (s .pre) (slots (t v)) (l (t v) .loop .i) (low (t v)))
 
 used-part-requires : tie.Need-used-part-requires Inv-loop μ-loop
 used-part-requires c κs =
     let v = c .before .before in
     let s = a v in
     let i = l (t v) .loop .i in
-    standing (input-sound (s .args .derivation) (s .args .t2) (now (s .args .bytes)) (now (s .args .indices)) (slots (t v)) (s .pre) i (low (t v))) .room .bytes
+    standing (input-sound (s .pre) (slots (t v)) i (low (t v))) .room .bytes
 
 any-bad-pick-requires : tie.Need-any-bad-pick-requires Inv-loop μ-loop
 any-bad-pick-requires c κs =
     let v = c .before .before .before in
     let s = a v in
-    whole-picking (s .args .derivation) (s .args .t2) (now (s .args .bytes)) (now (s .args .indices)) (slots (t v)) (s .pre) (l (t v) .loop .i) (low (t v)) (v .width .result) (v .width .ensures) _ (c .used-part .ensures)
+    whole-picking (s .pre) (slots (t v)) (l (t v) .loop .i) (low (t v)) (v .width .result) (v .width .ensures) _ (c .used-part .ensures)
 
 returns-2 : tie.Need-returns-2 Inv-loop μ-loop
 returns-2 c e = absurd (true≢false (sym e))
-
-add-i : tie.Need-add-i Inv-loop μ-loop
-add-i c = omega arith
-
-loop-less : tie.Need-loop-less Inv-loop μ-loop
-loop-less c = omega arith
 
 loop-again : tie.Need-loop-again Inv-loop μ-loop
 loop-again c =
@@ -110,7 +92,7 @@ loop-again c =
     let i = l (t v) .loop .i in (
       omega arith,
       slot-more (s .args .t2) (slots (t v)) i (low (t v)) (uncoded (now (s .args .bytes)) (now (s .args .indices)))
-          (whole-coded (s .args .derivation) (s .args .t2) (now (s .args .bytes)) (now (s .args .indices)) (slots (t v)) (s .pre) i (low (t v)) (v .width .result) (v .width .ensures) _ (u .used-part .ensures)
+          (whole-coded (s .pre) (slots (t v)) i (low (t v)) (v .width .result) (v .width .ensures) _ (u .used-part .ensures)
           _ (b .any-bad-pick .ensures) (c .if2 .left))
           (l (t v) .loop .inv .1),
     )
@@ -120,7 +102,7 @@ returns-3 c e =
     let v = c .before in
     let s = v .before .before .before .before in
     let full = slotted (s .args .t2) _ (s .good .1 .0) in
-    pieces-coded (s .args .derivation) (s .args .t2) (now (s .args .bytes)) (now (s .args .indices)) full (s .pre) ((sized (s .args .derivation) _ (s .good .0)) .bits)
+    pieces-coded (s .pre) full ((sized (s .args .derivation) _ (s .good .0)) .bits)
     (slots-all (s .args .t2) full (v .loop .i) (rw (v .before .used-slots .ensures) at (c .loop-test .left)) (uncoded (now (s .args .bytes)) (now (s .args .indices))) (v .loop .inv .1))
 
 pub all-coded-spec : {M : Type 1} → statement M
@@ -129,18 +111,18 @@ all-coded-spec =
     (tie.spec
     Inv-loop
     μ-loop
-    used-slots-requires
+    (λ c κs. search needs)
     loop-holds
-    mul-input
-    element-copy-out-input
-    width-requires
+    (λ c. omega arith)
+    (λ c. omega arith)
+    (λ c κs. search needs)
     mul-if1
     returns
     cast-t20
     used-part-requires
     any-bad-pick-requires
     returns-2
-    add-i
-    loop-less
+    (λ c. omega arith)
+    (λ c. omega arith)
     loop-again
     returns-3)

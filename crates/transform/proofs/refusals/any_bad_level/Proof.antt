@@ -23,23 +23,8 @@ Inv-loop extract width states levels from i₀ i = (i ≤ extract .width) × (ha
 abbrev μ-loop : tie.MeasureT-loop
 μ-loop extract width states levels from i₀ i = extract .width - i
 
-cast-from : tie.Need-cast-from Inv-loop μ-loop
-cast-from c = search needs
-
-add-from : tie.Need-add-from Inv-loop μ-loop
-add-from c = omega arith
-
-sub-from : tie.Need-sub-from Inv-loop μ-loop
-sub-from c = omega arith
-
 loop-holds : tie.Need-loop-holds Inv-loop μ-loop
 loop-holds c = (omega arith, none-yet [])
-
-cast-if1 : tie.Need-cast-if1 Inv-loop μ-loop
-cast-if1 c = search needs
-
-add-code-at : tie.Need-add-code-at Inv-loop μ-loop
-add-code-at c = omega arith
 
 code-at-requires : tie.Need-code-at-requires Inv-loop μ-loop
 code-at-requires c κs = (c .before .before .before .before .before .before .pre .0, omega arith)
@@ -54,12 +39,6 @@ returns c =
     bad-at cs (l .loop .i) (rw (pick-count (a .extract) (a .width) (a .states) (now (a .levels)) (s .pre .1)) (b .before .if1 .taken)) (b .code-at .result)
     (b .code-at .ensures ∙ pick-code (a .extract) (a .width) (a .states) (now (a .levels)) (s .pre .1) (l .loop .i) (b .before .if1 .taken))
     (c .if2 .taken)
-
-add-i : tie.Need-add-i Inv-loop μ-loop
-add-i c = omega arith
-
-loop-less : tie.Need-loop-less Inv-loop μ-loop
-loop-less c = omega arith
 
 loop-again : tie.Need-loop-again Inv-loop μ-loop
 loop-again c =
@@ -89,15 +68,15 @@ any-bad-level-spec =
     (tie.spec
     Inv-loop
     μ-loop
-    cast-from
-    add-from
-    sub-from
+    (λ c. search needs)
+    (λ c. omega arith)
+    (λ c. omega arith)
     loop-holds
-    cast-if1
-    add-code-at
+    (λ c. search needs)
+    (λ c. omega arith)
     code-at-requires
     returns
-    add-i
-    loop-less
+    (λ c. omega arith)
+    (λ c. omega arith)
     loop-again
     returns-2)

@@ -24,16 +24,10 @@ Inv-loop extract description used width max-states count k₀ k =
 abbrev μ-loop : tie.MeasureT-loop
 μ-loop extract description used width max-states count k₀ k = count - k
 
-enum-known-encoding : tie.Need-enum-known-encoding Inv-loop μ-loop
-enum-known-encoding c = search needs
-
 returns : tie.Need-returns Inv-loop μ-loop
 returns c indices l =
     let a = c .before .before .args in
     sym (entries-none (keptWith (a .description) (now (a .used)) indices) (pickIsBad (a .extract)) (λ i h. no-levels (a .extract) (a .description .encoding) _ (no-text (a .description .encoding) (c .match .keys2))))
-
-bits-requires : tie.Need-bits-requires Inv-loop μ-loop
-bits-requires c κs = search needs
 
 returns-2 : tie.Need-returns-2 Inv-loop μ-loop
 returns-2 c indices l =
@@ -72,12 +66,6 @@ returns-3 c indices l =
     (entries-one (keptWith (a .description) (now (a .used)) indices) (pickIsBad (a .extract)) (t .before .loop .k) (rw l (t .loop-test .taken))
     (levels-as (a .extract) _ (e .encoding .given .1) (rw (b .before .entry-at .ensures) at (sym (b .has-bad-pick .ensures) ∙ c .if2 .taken))))
 
-add-k : tie.Need-add-k Inv-loop μ-loop
-add-k c = omega arith
-
-loop-less : tie.Need-loop-less Inv-loop μ-loop
-loop-less c = omega arith
-
 loop-again : tie.Need-loop-again Inv-loop μ-loop
 loop-again c =
     let b = c .before in
@@ -101,15 +89,15 @@ any-bad-pick-spec =
     (tie.spec
     Inv-loop
     μ-loop
-    enum-known-encoding
+    (λ c. search needs)
     returns
-    bits-requires
+    (λ c κs. search needs)
     returns-2
     loop-holds
     entry-at-requires
     has-bad-pick-requires
     returns-3
-    add-k
-    loop-less
+    (λ c. omega arith)
+    (λ c. omega arith)
     loop-again
     returns-4)

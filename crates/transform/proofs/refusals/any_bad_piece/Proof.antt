@@ -15,7 +15,7 @@ use Rattle.steps.specs.Inputs.{keptAll}
 use Rattle.fst.proofs.Records.{standing}
 use Rattle.steps.proofs.InputTests.{slotted}
 use Rattle.transform.specs.Derive.{codeIsBad}
-use Rattle.transform.proofs.PieceTests.{fit, input-good, picking, picks-told, piece-low, piece-more, piece-one, pieces-all, signal-low}
+use Rattle.transform.proofs.PieceTests.{fit, input-good, picking, code-by-picks, piece-low, piece-more, piece-one, pieces-all, signal-low}
 use Rattle.transform.proofs.refusals.any_bad_piece.Statement.{statement}
 use Rattle.transform.proofs.refusals.any_bad_piece.Tie as tie
 
@@ -50,7 +50,7 @@ module _ (f : tie.After-from-u64 Inv-loop μ-loop) where
 
   -- its input is one of those that are used
   low : f .from-u64 .result .signal < min (start .args .t2 .count) 8
-  low = signal-low (start .args .t1) (start .args .t2) (now (start .args .bytes)) (now (start .args .indices)) bits full (start .pre) (l .loop .i) (f .before .before .loop-test .taken) (f .from-u64 .result) (f .from-u64 .ensures)
+  low = signal-low (start .pre) bits full (l .loop .i) (f .before .before .loop-test .taken) (f .from-u64 .ensures)
 
   abbrev test : Extract → Bool
   test = codeIsBad (keptAll (now (start .args .bytes)) (now (start .args .indices)) (start .args .t2))
@@ -63,11 +63,8 @@ module _ (b : tie.After-any-bad-pick Inv-loop μ-loop) where
   told : (r : Bool) → b .any-bad-pick .result ≡ r → test f (f .from-u64 .result) ≡ r
   told r =
       let s = start f in
-      picks-told (s .args .t1) (s .args .t2) (now (s .args .bytes)) (now (s .args .indices)) (bits f) (full f) (s .pre) (l f .loop .i) (f .before .before .loop-test .taken) (f .from-u64 .result) (f .from-u64 .ensures)
+      code-by-picks (s .pre) (bits f) (full f) (l f .loop .i) (f .before .before .loop-test .taken) (f .from-u64 .ensures)
       _ r _ (b .before .used-part .ensures) (b .any-bad-pick .ensures)
-
-cast-count : tie.Need-cast-count Inv-loop μ-loop
-cast-count c = search needs
 
 loop-holds : tie.Need-loop-holds Inv-loop μ-loop
 loop-holds c = (omega arith, clear-none)
@@ -77,12 +74,6 @@ mul-from-u64 c = omega (arith, few c)
 
 element-copy-out-from-u64 : tie.Need-element-copy-out-from-u64 Inv-loop μ-loop
 element-copy-out-from-u64 c = few c
-
-from-u64-requires : tie.Need-from-u64-requires Inv-loop μ-loop
-from-u64-requires c κs = search needs
-
-cast-input : tie.Need-cast-input Inv-loop μ-loop
-cast-input c = search needs
 
 mul-input : tie.Need-mul-input Inv-loop μ-loop
 mul-input c = omega (arith, low (c .before))
@@ -94,24 +85,18 @@ used-part-requires : tie.Need-used-part-requires Inv-loop μ-loop
 used-part-requires c κs =
     let f = c .before .before .before in
     let a = start f .args in
-    standing (input-good (a .t1) (a .t2) (now (a .bytes)) (now (a .indices)) (bits f) (full f) (start f .pre) (l f .loop .i) (f .before .before .loop-test .taken) (f .from-u64 .result) (f .from-u64 .ensures)) .room .bytes
+    standing (input-good (start f .pre) (bits f) (full f) (l f .loop .i) (f .before .before .loop-test .taken) (f .from-u64 .ensures)) .room .bytes
 
 any-bad-pick-requires : tie.Need-any-bad-pick-requires Inv-loop μ-loop
 any-bad-pick-requires c κs =
     let f = c .before .before .before .before in
     let a = start f .args in
-    rw (c .used-part .ensures) (picking (a .t1) (a .t2) (now (a .bytes)) (now (a .indices)) (bits f) (full f) (start f .pre) (l f .loop .i) (f .before .before .loop-test .taken) (f .from-u64 .result) (f .from-u64 .ensures))
+    rw (c .used-part .ensures) (picking (start f .pre) (bits f) (full f) (l f .loop .i) (f .before .before .loop-test .taken) (f .from-u64 .ensures))
 
 returns : tie.Need-returns Inv-loop μ-loop
 returns c =
     let p = f (c .before) in
     sym (piece-one (start p .args .t1) (bits p) (good (start p)) (l p .loop .i) (p .before .before .loop-test .taken) (p .from-u64 .result) (p .from-u64 .ensures) (test p) (told (c .before) true (c .if1 .taken)))
-
-add-i : tie.Need-add-i Inv-loop μ-loop
-add-i c = omega arith
-
-loop-less : tie.Need-loop-less Inv-loop μ-loop
-loop-less c = omega arith
 
 loop-again : tie.Need-loop-again Inv-loop μ-loop
 loop-again c =
@@ -134,18 +119,18 @@ any-bad-piece-spec =
     (tie.spec
     Inv-loop
     μ-loop
-    cast-count
+    (λ c. search needs)
     loop-holds
     mul-from-u64
     element-copy-out-from-u64
-    from-u64-requires
-    cast-input
+    (λ c κs. search needs)
+    (λ c. search needs)
     mul-input
     element-copy-out-input
     used-part-requires
     any-bad-pick-requires
     returns
-    add-i
-    loop-less
+    (λ c. omega arith)
+    (λ c. omega arith)
     loop-again
     returns-2)

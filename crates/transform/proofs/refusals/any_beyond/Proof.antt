@@ -35,9 +35,6 @@ low f =
     let p = piece-input (s .args .t1) ((sized (s .args .t1) _ (s .good .0)) .bits) (s .pre .sound) (t .before .loop .i) (t .loop-test .taken) (f .from-u64 .result) (f .from-u64 .ensures) in
     omega (arith, s .pre .counted)
 
-cast-count : tie.Need-cast-count Inv-loop μ-loop
-cast-count c = search needs
-
 loop-holds : tie.Need-loop-holds Inv-loop μ-loop
 loop-holds c = (omega arith, λ bytes indices. clear-none)
 
@@ -47,26 +44,11 @@ mul-from-u64 c = omega (arith, few c)
 element-copy-out-from-u64 : tie.Need-element-copy-out-from-u64 Inv-loop μ-loop
 element-copy-out-from-u64 c = few c
 
-from-u64-requires : tie.Need-from-u64-requires Inv-loop μ-loop
-from-u64-requires c κs = search needs
-
-cast-input : tie.Need-cast-input Inv-loop μ-loop
-cast-input c = search needs
-
 mul-input : tie.Need-mul-input Inv-loop μ-loop
 mul-input c = omega (arith, low (c .before))
 
 element-copy-out-input : tie.Need-element-copy-out-input Inv-loop μ-loop
 element-copy-out-input c = omega (arith, low (c .before))
-
-width-requires : tie.Need-width-requires Inv-loop μ-loop
-width-requires c κs = search needs
-
-cast-if1 : tie.Need-cast-if1 Inv-loop μ-loop
-cast-if1 c = search needs
-
-end-requires : tie.Need-end-requires Inv-loop μ-loop
-end-requires c κs = search needs
 
 returns : tie.Need-returns Inv-loop μ-loop
 returns c bytes indices =
@@ -82,12 +64,6 @@ returns c bytes indices =
     sym
     (piece-one (a .t1) bits (s .pre .sound) (l .loop .i) (t .loop-test .taken) (f .from-u64 .result) (f .from-u64 .ensures) (isBeyond (keptAll bytes indices (a .t2)))
     (beyond-is (a .t2) full bytes indices (f .from-u64 .result) (low f) _ _ (w .width .ensures) (n .end .ensures) (c .if1 .taken)))
-
-add-i : tie.Need-add-i Inv-loop μ-loop
-add-i c = omega arith
-
-loop-less : tie.Need-loop-less Inv-loop μ-loop
-loop-less c = omega arith
 
 loop-again : tie.Need-loop-again Inv-loop μ-loop
 loop-again c =
@@ -120,19 +96,19 @@ any-beyond-spec =
     (tie.spec
     Inv-loop
     μ-loop
-    cast-count
+    (λ c. search needs)
     loop-holds
     mul-from-u64
     element-copy-out-from-u64
-    from-u64-requires
-    cast-input
+    (λ c κs. search needs)
+    (λ c. search needs)
     mul-input
     element-copy-out-input
-    width-requires
-    cast-if1
-    end-requires
+    (λ c κs. search needs)
+    (λ c. search needs)
+    (λ c κs. search needs)
     returns
-    add-i
-    loop-less
+    (λ c. omega arith)
+    (λ c. omega arith)
     loop-again
     returns-2)

@@ -17,12 +17,6 @@ own b = b .before .states-of .ensures ∙ ap setAt (b .before .before .mark-in .
 mark-in-requires : tie.Need-mark-in-requires
 mark-in-requires c κs = some (c .before .pre .whole)
 
-states-of-requires : tie.Need-states-of-requires
-states-of-requires c κs = search needs
-
-bits-requires : tie.Need-bits-requires
-bits-requires c κs = search needs
-
 returns : tie.Need-returns
 returns c =
     let b = c .before in
@@ -55,8 +49,8 @@ has-bad-pick-spec =
     tie.close
     (tie.spec
     mark-in-requires
-    states-of-requires
-    bits-requires
+    (λ c κs. search needs)
+    (λ c κs. search needs)
     returns
     level-part-requires
     has-bad-level-requires

@@ -7,12 +7,9 @@ use mathlib.Core.Path.{_∙_, sym}
 use Rattle.value.proofs.Lists.{any-map}
 use Rattle.steps.specs.Inputs.{inputKept, inputsOf, isNoBitVector, keptAll}
 use Rattle.transform.specs.Derive.{isUnfit}
-use Rattle.transform.proofs.PieceTests.{unfit-told}
+use Rattle.transform.proofs.PieceTests.{unfit-by-beyond}
 use Rattle.transform.proofs.refusals.is_unfit.Statement.{statement}
 use Rattle.transform.proofs.refusals.is_unfit.Tie as tie
-
-is-bad-requires : tie.Need-is-bad-requires
-is-bad-requires c κs = search needs
 
 returns : tie.Need-returns
 unfolding isUnfit
@@ -30,9 +27,6 @@ returns-3 c =
     let p = c .before .before .before in
     let e = p .before .before in
     simp (sym (e .before .is-bad .ensures) ∙ e .if1 .left, ne-eqb _ _ (p .if2 .left), ne-eqb _ _ (c .if3 .taken))
-
-any-fails-requires : tie.Need-any-fails-requires
-any-fails-requires c κs = search needs
 
 returns-4 : tie.Need-returns-4
 unfolding isUnfit
@@ -58,18 +52,18 @@ returns-5 c =
     let e = p .before .before in
     let a = e .before .before .before .before .args in
     let v = any-map isNoBitVector (inputKept (now (a .bytes)) (now (a .indices))) (inputsOf (a .inputs)) ∙ sym (k .before .any-fails .ensures) ∙ k .if4 .left in
-    unfit-told (a .derivation) (a .inputs .count) (keptAll (now (a .bytes)) (now (a .indices)) (a .inputs)) _ (sym (e .before .is-bad .ensures) ∙ e .if1 .left) (p .if2 .left) (n .if3 .left) v
+    unfit-by-beyond (a .derivation) (a .inputs .count) (keptAll (now (a .bytes)) (now (a .indices)) (a .inputs)) _ (sym (e .before .is-bad .ensures) ∙ e .if1 .left) (p .if2 .left) (n .if3 .left) v
     (c .any-beyond .ensures (now (a .bytes)) (now (a .indices)))
 
 pub is-unfit-spec : {M : Type 1} → statement M
 is-unfit-spec =
     tie.close
     (tie.spec
-    is-bad-requires
+    (λ c κs. search needs)
     returns
     returns-2
     returns-3
-    any-fails-requires
+    (λ c κs. search needs)
     returns-4
     any-beyond-requires
     returns-5)
