@@ -122,7 +122,6 @@ below-some i (suc n) l last e = let z : getD l n 0 ≡ last = cc in rw z
 
 -- ---- what a record leaves in the slices
 
--- its used indices
 abbrev pub indicesKept : Lent → ℕ → List ℕ
 indicesKept l n = part (l .indexStart) n (l .indices)
 

@@ -13,8 +13,10 @@ use Rattle.value.specs.Slice.{part, overlay, same}
 use Rattle.value.specs.Level.{markOf}
 use Rattle.value.proofs.Slices.{part-length, part-all, part-overlay}
 use Rattle.layout.specs.Entry.{entrySize, widenEntry, widenAll}
+use Rattle.layout.specs.Writable.{Writable, entryFrom}
 use Rattle.fst.specs.Change.{repeats}
-use Rattle.layout.proofs.Sizes.{widen-length}
+use Rattle.fst.specs.Adding.{Repeatable, equalsWidened, repeatsPlain, repeatsWidened}
+use Rattle.layout.proofs.Sizes.{widen-length, widen-same}
 
 -- a part of a part
 pub part-part : (l : List ℕ) (start n at m : ℕ) → at + m ≤ n → part at m (part start n l) ≡ part (start + at) m l
@@ -110,3 +112,43 @@ module _ (w : ℕ) (pos : 1 ≤ w) (from to : States) (up : markOf from ≤ mark
       let a : part 0 (1 * s) copy ≡ v = rw (one-mul, e) (part-overlay room v 0 s zero-le l) in
       let b : widenAll w from to 1 (part 0 (1 * s) copy) ≡ widenEntry w from to v = ap (widenAll w from to 1) a ∙ one-widened v l in
       rw (f, b) (part-overlay copy (widenEntry w from to v) 0 (entrySize w to) zero-le (widen-length w pos from to v up l))
+
+-- ---- the last of entries that a string may repeat
+
+module _ {M J own : States} {v : List ℕ} {room start n : ℕ} (p : Repeatable M J own v room start n) (some : n ≡ 0 → ⊥) {size : ℕ} (sized : size ≡ entrySize (length v) M) where
+  pub last-within : start + (n - 1) * size + size ≤ room
+  last-within = rw sized (last-place n _ start _ some (p .fits))
+
+  -- what is asked of it, under a set of which it has the size
+  pub last-writable : size ≡ entrySize (length v) J → Writable J own v room (start + (n - 1) * size)
+  last-writable e = record { under = p .under; codes = p .codes; wide = p .wide; short = p .short; fits = omega (arith, last-within) }
+
+  pub last-repeatable : Repeatable M J own v room (start + (n - 1) * size) 1
+  last-repeatable =
+      record {
+        under = p .under;
+        up = p .up;
+        codes = p .codes;
+        wide = p .wide;
+        short = p .short;
+        few = omega arith;
+        fits = omega (arith, one-mul (entrySize (length v) M), last-within);
+      }
+
+  module _ (bytes : List ℕ) where
+    pub last-plain : same (part (start + (n - 1) * size) (entrySize (length v) M) bytes) (entryFrom M own v) ≡ repeatsPlain M own v start n bytes
+    last-plain = rw sized (repeats-plain (entrySize (length v) M) n start bytes (entryFrom M own v) some)
+
+    module _ (long : length bytes ≡ room) where
+      -- whether the string repeats it, laid out anew
+      pub last-widened : equalsWidened M J own v (start + (n - 1) * size) bytes ≡ repeatsWidened M J own v start n bytes
+      last-widened = rw sized (repeats-widened (length v) (p .wide) M J (p .up) n start bytes (entryFrom J own v) some (omega (arith, p .fits)))
+
+      -- or as it stands
+      pub last-as-is : size ≡ entrySize (length v) J
+          → same (part (start + (n - 1) * size) (entrySize (length v) J) bytes) (entryFrom J own v) ≡ repeatsWidened M J own v start n bytes
+      last-as-is e =
+          let z : entrySize (length v) M ≡ entrySize (length v) J = sym sized ∙ e in
+          ap (λ (k : ℕ). same (part (start + (n - 1) * size) k bytes) (entryFrom J own v)) (sym z)
+          ∙ ap (λ (l : List ℕ). same l (entryFrom J own v)) (sym (widen-same (length v) M J _ z))
+          ∙ last-widened

@@ -18,7 +18,6 @@ use borrow.Author.Needs.{needs}
 use Rattle.fst.proofs.Description.append_levels.Statement.{statement}
 use Rattle.fst.proofs.Description.append_levels.Tie as tie
 
--- the slices that are lent
 abbrev here : tie.Start → Lent
 here x = lent (now (x .args .bytes)) (x .args .byte-start) (now (x .args .indices)) (x .args .index-start)
 

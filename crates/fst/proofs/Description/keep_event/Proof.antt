@@ -17,7 +17,6 @@ use borrow.Author.Needs.{needs}
 use Rattle.fst.proofs.Description.keep_event.Statement.{statement}
 use Rattle.fst.proofs.Description.keep_event.Tie as tie
 
--- the slices that are lent
 abbrev here : tie.Start → Lent
 here x = lent (now (x .args .bytes)) (x .args .byte-start) (now (x .args .indices)) (x .args .index-start)
 
