@@ -1,9 +1,9 @@
 // Add a piece and Derive, as the operations on records.
 ghost use Prim.Native.Nat.{_<_};
-use crate::fields::has_bytes;
 use crate::fields::has_indices;
 use crate::fields::has_number;
 use crate::fields::has_pieces;
+use crate::fields::has_slices;
 use crate::fields::is_framed;
 use crate::fields::number_32;
 use crate::fields::place;
@@ -15,6 +15,7 @@ use crate::records::has_made;
 use crate::records::index_buffer;
 use derivation::DerivedBitVecSignal;
 use derivation::Joined;
+use fst::Made;
 use steps::Input;
 use steps::Inputs;
 
@@ -91,6 +92,18 @@ fn inputs(line: &[u8]) -> Inputs {
     }
 }
 
+fn derived(
+    line: &[u8],
+    bytes: &[u8],
+    indices: &[u32],
+    out_bytes: &mut [u8],
+    out_indices: &mut [u32],
+) -> Made {
+    let known = derivation(line);
+    let records = inputs(line);
+    transform::derive::derive(known, records, bytes, indices, out_bytes, out_indices)
+}
+
 // `from` is the first field after the inputs.
 fn is_derived(
     line: &[u8],
@@ -102,17 +115,25 @@ fn is_derived(
 ) -> bool
     requires { ⌜ from < 60 ⌝ }
 {
-    let made = transform::derive::derive(
-        derivation(line),
-        inputs(line),
+    let made = derived(line, bytes, indices, out_bytes, out_indices);
+    has_made(line, from + 5, made) && has_slices(line, from + 10, out_bytes, out_indices)
+}
+
+fn derive_into(line: &[u8], from: usize, bytes: &[u8], indices: &[u32]) -> bool
+    requires { ⌜ from < 60 ⌝ }
+{
+    let mut out_bytes = io::large_buffer();
+    let mut out_indices = index_buffer();
+    let b = read_bytes(line, from + 2, &mut out_bytes);
+    let i = read_indices(line, from + 3, &mut out_indices);
+    is_derived(
+        line,
+        from,
         bytes,
         indices,
-        out_bytes,
-        out_indices,
-    );
-    has_made(line, from + 5, made)
-        && has_bytes(line, from + 10, out_bytes)
-        && has_indices(line, from + 11, out_indices)
+        &mut out_bytes[..b],
+        &mut out_indices[..i],
+    )
 }
 
 fn derive_from(line: &[u8], from: usize) -> bool
@@ -120,20 +141,9 @@ fn derive_from(line: &[u8], from: usize) -> bool
 {
     let mut bytes = io::large_buffer();
     let mut indices = index_buffer();
-    let mut out_bytes = io::large_buffer();
-    let mut out_indices = index_buffer();
     let b = read_bytes(line, from, &mut bytes);
     let i = read_indices(line, from + 1, &mut indices);
-    let c = read_bytes(line, from + 2, &mut out_bytes);
-    let j = read_indices(line, from + 3, &mut out_indices);
-    is_derived(
-        line,
-        from,
-        &bytes[..b],
-        &indices[..i],
-        &mut out_bytes[..c],
-        &mut out_indices[..j],
-    )
+    derive_into(line, from, &bytes[..b], &indices[..i])
 }
 
 // A line with more inputs than there are slots counts as one that came out otherwise.

@@ -91,6 +91,12 @@ pub fn has_word(line: &[u8], field: usize, word: &[u8]) -> bool {
     is_word_at(line, start(line, field), word)
 }
 
+// Whether a field is one letter.
+pub fn has_letter(line: &[u8], field: usize, letter: u8) -> bool {
+    let at = start(line, field);
+    at < line.len() && line[at] == letter && is_end(line, after(at, 1))
+}
+
 // Whether a line has so many fields, `=` at the place named.
 pub fn is_framed(line: &[u8], equals: usize, fields: usize) -> bool {
     has_word(line, equals, b"=") && start(line, fields) == line.len()
@@ -115,6 +121,12 @@ pub fn has_number(line: &[u8], field: usize, value: u64) -> bool {
     let at = start(line, field);
     let read = digits(line, at, 10, 20);
     0 < read.count && read.value == value && is_end(line, after(at, read.count))
+}
+
+pub fn has_pair(line: &[u8], field: usize, first: u64, second: u64) -> bool
+    requires { ⌜ field < 100 ⌝ }
+{
+    has_number(line, field, first) && has_number(line, field + 1, second)
 }
 
 // ---- lists: read into a buffer, and how many
@@ -225,4 +237,10 @@ pub fn has_pieces(line: &[u8], field: usize, pieces: &[u64]) -> bool {
         i += 1;
     }
     is_list_end(line, at, pieces.len())
+}
+
+pub fn has_slices(line: &[u8], field: usize, bytes: &[u8], indices: &[u32]) -> bool
+    requires { ⌜ field < 100 ⌝ }
+{
+    has_bytes(line, field, bytes) && has_indices(line, field + 1, indices)
 }

@@ -13,26 +13,33 @@ const LONGEST: usize = 32768;
 // The place of a line's operation among the nine, and 9 for any other.
 fn operation(line: &[u8]) -> usize {
     if has_word(line, 1, b"fresh") {
-        0
-    } else if has_word(line, 1, b"add") {
-        1
-    } else if has_word(line, 1, b"read") {
-        2
-    } else if has_word(line, 1, b"text") {
-        3
-    } else if has_word(line, 1, b"compare") {
-        4
-    } else if has_word(line, 1, b"lookup") {
-        5
-    } else if has_word(line, 1, b"left") {
-        6
-    } else if has_word(line, 1, b"right") {
-        7
-    } else if has_word(line, 1, b"derive") {
-        8
-    } else {
-        9
+        return 0;
     }
+    if has_word(line, 1, b"add") {
+        return 1;
+    }
+    if has_word(line, 1, b"read") {
+        return 2;
+    }
+    if has_word(line, 1, b"text") {
+        return 3;
+    }
+    if has_word(line, 1, b"compare") {
+        return 4;
+    }
+    if has_word(line, 1, b"lookup") {
+        return 5;
+    }
+    if has_word(line, 1, b"left") {
+        return 6;
+    }
+    if has_word(line, 1, b"right") {
+        return 7;
+    }
+    if has_word(line, 1, b"derive") {
+        return 8;
+    }
+    9
 }
 
 // Whether the call of a line comes out as stored.

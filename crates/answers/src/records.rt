@@ -3,9 +3,10 @@ ghost use Prim.Native.Nat.{_<_};
 ghost use mathlib.Core.Path.{_≡_};
 ghost use lib.ListN.{length};
 use crate::fields::has_bytes;
-use crate::fields::has_indices;
+use crate::fields::has_letter;
 use crate::fields::has_number;
-use crate::fields::has_word;
+use crate::fields::has_pair;
+use crate::fields::has_slices;
 use crate::fields::is_framed;
 use crate::fields::number;
 use crate::fields::number_32;
@@ -40,17 +41,24 @@ fn states_of(mark: u64) -> States {
     }
 }
 
+fn empty_event() -> Description {
+    Description {
+        encoding: Encoding::Event,
+        count: 0,
+    }
+}
+
 pub fn description(line: &[u8], field: usize) -> Description
     requires { ⌜ field < 100 ⌝ }
 {
     let count = number_32(line, field + 3);
-    if has_word(line, field, b"e") {
+    if has_letter(line, field, b'e') {
         return Description {
             encoding: Encoding::Event,
             count,
         };
     }
-    if has_word(line, field, b"r") {
+    if has_letter(line, field, b'r') {
         return Description {
             encoding: Encoding::Real,
             count,
@@ -65,43 +73,42 @@ pub fn description(line: &[u8], field: usize) -> Description
 }
 
 // A kind, a width and a set.
-fn has_encoding(line: &[u8], field: usize, kind: &[u8], width: u32, set: u8) -> bool
-    requires { ⌜ field < 100 ⌝ }
+fn has_encoding(line: &[u8], field: usize, kind: u8, width: u32, set: u8) -> bool
+    requires { ⌜ field < 99 ⌝ }
 {
-    has_word(line, field, kind)
-        && has_number(line, field + 1, width as u64)
-        && has_number(line, field + 2, set as u64)
+    has_letter(line, field, kind) && has_pair(line, field + 1, width as u64, set as u64)
 }
 
 pub fn has_description(line: &[u8], field: usize, description: Description) -> bool
-    requires { ⌜ field < 100 ⌝ }
+    requires { ⌜ field < 99 ⌝ }
 {
     if !has_number(line, field + 3, description.count as u64) {
         return false;
     }
     let encoding = description.encoding;
     match encoding {
-        Encoding::Event => has_encoding(line, field, b"e", 0, 0),
-        Encoding::Real => has_encoding(line, field, b"r", 0, 0),
+        Encoding::Event => has_encoding(line, field, b'e', 0, 0),
+        Encoding::Real => has_encoding(line, field, b'r', 0, 0),
         Encoding::BitVector { width, max_states } => {
-            has_encoding(line, field, b"b", width, max_states.mark())
+            has_encoding(line, field, b'b', width, max_states.mark())
         }
     }
 }
 
-// A number and a description, that of an empty event after a refusal.
+// A number and a description.
+fn has_outcome(line: &[u8], field: usize, number: u8, description: Description) -> bool
+    requires { ⌜ field < 98 ⌝ }
+{
+    has_number(line, field, number as u64) && has_description(line, field + 1, description)
+}
+
+// After a refusal the description is that of an empty event.
 pub fn has_made(line: &[u8], field: usize, made: Made) -> bool
-    requires { ⌜ field < 99 ⌝ }
+    requires { ⌜ field < 98 ⌝ }
 {
     match made {
-        Made::Record(description) => {
-            has_number(line, field, 0) && has_description(line, field + 1, description)
-        }
-        Made::Refused(refusal) => {
-            has_number(line, field, refusal.number() as u64)
-                && has_encoding(line, field + 1, b"e", 0, 0)
-                && has_number(line, field + 4, 0)
-        }
+        Made::Record(description) => has_outcome(line, field, 0, description),
+        Made::Refused(refusal) => has_outcome(line, field, refusal.number(), empty_event()),
     }
 }
 
@@ -111,34 +118,64 @@ pub fn fresh(line: &[u8]) -> bool {
     is_framed(line, 3, 9) && has_made(line, 4, fst::record::fresh(number_32(line, 2)))
 }
 
-fn change(line: &[u8], bytes: &mut [u8], indices: &mut [u32]) -> Added {
+// What Add a change is asked beside the value and the slices.
+struct Offer {
+    record: Description,
+    byte_start: usize,
+    index_start: usize,
+    index: u32,
+}
+
+fn offered(line: &[u8]) -> Offer {
     let record = description(line, 2);
-    let byte_start = place(line, 7);
-    let index_start = place(line, 9);
-    let index = number_32(line, 10);
-    if has_word(line, 11, b"r") {
-        let bits = number(line, 12);
-        return record.add_real(bytes, byte_start, indices, index_start, index, bits);
+    Offer {
+        record,
+        byte_start: place(line, 7),
+        index_start: place(line, 9),
+        index: number_32(line, 10),
     }
-    let mut string = io::large_buffer();
-    let count = read_bytes(line, 12, &mut string);
+}
+
+fn add_real(line: &[u8], bytes: &mut [u8], indices: &mut [u32]) -> Added {
+    let to = offered(line);
+    let bits = number(line, 12);
+    let record = to.record;
+    record.add_real(
+        bytes,
+        to.byte_start,
+        indices,
+        to.index_start,
+        to.index,
+        bits,
+    )
+}
+
+fn add_value(line: &[u8], bytes: &mut [u8], indices: &mut [u32], value: &[u8]) -> Added {
+    let to = offered(line);
+    let record = to.record;
     record.add_change(
         bytes,
-        byte_start,
+        to.byte_start,
         indices,
-        index_start,
-        index,
-        &string[..count],
+        to.index_start,
+        to.index,
+        value,
     )
+}
+
+fn change(line: &[u8], bytes: &mut [u8], indices: &mut [u32]) -> Added {
+    if has_letter(line, 11, b'r') {
+        return add_real(line, bytes, indices);
+    }
+    let mut value = io::large_buffer();
+    let count = read_bytes(line, 12, &mut value);
+    add_value(line, bytes, indices, &value[..count])
 }
 
 fn is_added(line: &[u8], bytes: &mut [u8], indices: &mut [u32]) -> bool {
     let added = change(line, bytes, indices);
     let verdict = added.verdict;
-    has_number(line, 14, verdict.number() as u64)
-        && has_description(line, 15, added.next)
-        && has_bytes(line, 19, bytes)
-        && has_indices(line, 20, indices)
+    has_outcome(line, 14, verdict.number(), added.next) && has_slices(line, 19, bytes, indices)
 }
 
 pub fn add(line: &[u8]) -> bool {
@@ -149,7 +186,7 @@ pub fn add(line: &[u8]) -> bool {
     is_framed(line, 13, 21) && is_added(line, &mut bytes[..byte_count], &mut indices[..index_count])
 }
 
-fn kind_word(kind: Kind) -> u8 {
+fn kind_letter(kind: Kind) -> u8 {
     match kind {
         Kind::Event => b'e',
         Kind::Real => b'r',
@@ -157,18 +194,18 @@ fn kind_word(kind: Kind) -> u8 {
     }
 }
 
+fn has_shape(line: &[u8], number: u8, kind: u8, set: u8) -> bool {
+    has_number(line, 10, number as u64)
+        && has_letter(line, 11, kind)
+        && has_number(line, 12, set as u64)
+}
+
 fn has_entry(line: &[u8], answer: EntryAnswer) -> bool {
     match answer {
         EntryAnswer::Entry { kind, states } => {
-            has_number(line, 10, 0)
-                && has_word(line, 11, &[kind_word(kind)])
-                && has_number(line, 12, states.mark() as u64)
+            has_shape(line, 0, kind_letter(kind), states.mark())
         }
-        EntryAnswer::Refused(refusal) => {
-            has_number(line, 10, refusal.number() as u64)
-                && has_word(line, 11, b"e")
-                && has_number(line, 12, 0)
-        }
+        EntryAnswer::Refused(refusal) => has_shape(line, refusal.number(), b'e', 0),
     }
 }
 
@@ -211,11 +248,9 @@ pub fn text(line: &[u8]) -> bool {
 
 fn has_equal(line: &[u8], answer: EqualAnswer) -> bool {
     match answer {
-        EqualAnswer::Equal => has_number(line, 19, 0) && has_number(line, 20, 1),
-        EqualAnswer::Unequal => has_number(line, 19, 0) && has_number(line, 20, 0),
-        EqualAnswer::Refused(refusal) => {
-            has_number(line, 19, refusal.number() as u64) && has_number(line, 20, 0)
-        }
+        EqualAnswer::Equal => has_pair(line, 19, 0, 1),
+        EqualAnswer::Unequal => has_pair(line, 19, 0, 0),
+        EqualAnswer::Refused(refusal) => has_pair(line, 19, refusal.number() as u64, 0),
     }
 }
 
@@ -262,28 +297,16 @@ pub fn compare(line: &[u8]) -> bool {
 
 fn has_next(line: &[u8], next: NextIndex) -> bool {
     match next {
-        NextIndex::At(index) => has_number(line, 10, 1) && has_number(line, 11, index as u64),
-        NextIndex::Absent => has_number(line, 10, 0) && has_number(line, 11, 0),
+        NextIndex::At(index) => has_pair(line, 10, 1, index as u64),
+        NextIndex::Absent => has_pair(line, 10, 0, 0),
     }
-}
-
-fn has_place(line: &[u8], found: bool, start: usize, elements: u16, equal: bool) -> bool {
-    has_number(line, 6, found as u64)
-        && has_number(line, 7, start as u64)
-        && has_number(line, 8, elements as u64)
-        && has_number(line, 9, equal as u64)
 }
 
 fn has_offset(line: &[u8], number: u8, found: bool, offset: DataOffset) -> bool {
     let next = offset.next_index;
-    has_number(line, 5, number as u64)
-        && has_place(
-            line,
-            found,
-            offset.start,
-            offset.elements,
-            offset.time_match,
-        )
+    has_pair(line, 5, number as u64, found as u64)
+        && has_pair(line, 7, offset.start as u64, offset.elements as u64)
+        && has_number(line, 9, offset.time_match as u64)
         && has_next(line, next)
 }
 

@@ -1,6 +1,6 @@
 -- The exported operations on derivations, from what the operations leave.
 -- Assumes nothing.
-use mathlib.Core.Path.{_≡_, refl, ap, _∙_}
+use mathlib.Core.Path.{_≡_, refl, ap}
 use mathlib.Core.Bool.{true}
 use mathlib.Core.List.{List, [], _∷_}
 use Prim.Native.Nat.{ℕ}
@@ -15,10 +15,11 @@ use Rattle.transform.specs.Derive.{Derived, derive}
 use Rattle.yoksimert.specs.declared.Decoded.{Decoded}
 use Rattle.yoksimert.specs.declared.Decoded.the-variants.{Unknown}
 use Rattle.yoksimert.specs.declared.FlatMade.{FlatMade}
+use Rattle.yoksimert.specs.declared.FlatDerivation.{FlatDerivation}
 use Rattle.yoksimert.specs.declared.FlatInput.{FlatInput}
 use Rattle.yoksimert.specs.declared.FlatInputs.{FlatInputs}
 use Rattle.yoksimert.specs.Flat.{decoded, flatMade}
-use Rattle.yoksimert.specs.Derivations.{describedBy, inputOf, inputsBy, FlatDerived, flatDerived}
+use Rattle.yoksimert.specs.Derivations.{derivationOf, describedBy, inputOf, inputsBy, derivedBy, flatDerived, flatDerive}
 
 pub input-by : (f : FlatInput) (x : Decoded) → decoded (f .description) ≡ x
     → _≡_ {A = Input} (record { description = describedBy x; «byte_start» = f .«byte_start»; «index_start» = f .«index_start» }) (inputOf f)
@@ -34,12 +35,10 @@ pub inputs-by : (f : FlatInputs) {a b c d e g h i : Input} → a ≡ inputOf (f 
     → _≡_ {A = Inputs} (record { count = f .count; slots = a ∷ b ∷ c ∷ d ∷ e ∷ g ∷ h ∷ i ∷ [] }) (inputsBy f)
 inputs-by f p q r s t u v w = rw (p, q, r, s, t, u, v, w)
 
-pub derive-by : (d : DerivedBitVecSignal) (is : Inputs) (bytes indices outBytes outIndices : List ℕ) {e : DerivedBitVecSignal} {js : Inputs} → e ≡ d → js ≡ is
-    → {r : FlatMade} {m : Reply Description} {b i : List ℕ} → r ≡ flatMade m
-    → _≡_ {A = Derived} (record { answer = m; bytes = b; indices = i }) (derive e js bytes indices outBytes outIndices)
-    → _≡_ {A = FlatDerived} (record { answer = r; bytes = b; indices = i }) (flatDerived (derive d is bytes indices outBytes outIndices))
-derive-by d is bytes indices outBytes outIndices {e} {js} p q {r} {m} {b} {i} s t =
-    ap (λ (x : FlatMade). record { answer = x; bytes = b; indices = i }) s
-    ∙ ap flatDerived t
-    ∙ ap (λ (x : DerivedBitVecSignal). flatDerived (derive x js bytes indices outBytes outIndices)) p
-    ∙ ap (λ (x : Inputs). flatDerived (derive d x bytes indices outBytes outIndices)) q
+module _ (f : FlatDerivation) (names pieces : List ℕ) (inputs : FlatInputs) (bytes indices outBytes outIndices : List ℕ) where
+  pub derive-by : {d : DerivedBitVecSignal} {is : Inputs} → d ≡ derivationOf f names pieces → is ≡ inputsBy inputs
+      → {r : FlatMade} {m : Reply Description} {b i : List ℕ} → r ≡ flatMade m
+      → _≡_ {A = Derived} (record { answer = m; bytes = b; indices = i }) (derive d is bytes indices outBytes outIndices)
+      → derivedBy r b i ≡ flatDerive f names pieces inputs bytes indices outBytes outIndices
+  unfolding flatDerive
+  derive-by p q s t = rw (s, ← p, ← q) (ap flatDerived t)

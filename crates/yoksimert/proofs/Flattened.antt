@@ -38,14 +38,14 @@ pub made-equal : {n m : ℕ} {f g : FlatDescription} → n ≡ m → f ≡ g →
 made-equal p q = rw (p, q)
 
 module _ (f : FlatDescription) (l : Lent) (i : ℕ) (c : Change) where
-  pub add-unknown : decoded f ≡ Unknown → leftByFlat (record { number = 2; next = f }) (l .bytes) (l .indices) ≡ flatAdd f l i c
+  pub add-unknown : decoded f ≡ Unknown → leftByFlat 2 f (l .bytes) (l .indices) ≡ flatAdd f l i c
   unfolding flatAdd
   add-unknown h = rw h
 
-  pub add-known : (d : Description) → decoded f ≡ Known d → (a : Added) (bytes indices : List ℕ) → leftBy a bytes indices ≡ addChange d l i c
-      → (r : FlatAdded) → r ≡ record { number = numberOf (a .verdict); next = encoded (a .next) } → leftByFlat r bytes indices ≡ flatAdd f l i c
+  pub add-known : {d : Description} → decoded f ≡ Known d → (a : Added) {bytes indices : List ℕ} → leftBy a bytes indices ≡ addChange d l i c
+      → leftByFlat (numberOf (a .verdict)) (encoded (a .next)) bytes indices ≡ flatAdd f l i c
   unfolding flatAdd
-  add-known d h a bytes indices e r q = rw h (ap (λ (x : FlatAdded). leftByFlat x bytes indices) q ∙ ap flatLeft e)
+  add-known h a e = rw h (ap flatLeft e)
 
 -- on a refusal the numbers and the slices come back as they were
 pub add-refused : (f : FlatDescription) (l : Lent) (i : ℕ) (c : Change) (n : ℕ) → (flatAdd f l i c) .refused ≡ suc n

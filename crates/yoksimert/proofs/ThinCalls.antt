@@ -19,7 +19,7 @@ use Rattle.yoksimert.specs.declared.recorder.Recorded.{Recorded}
 use Rattle.yoksimert.specs.declared.Decoded.the-variants.{Known}
 use Rattle.yoksimert.specs.Flat.{decoded, flatOf, encoded}
 use Rattle.yoksimert.specs.Exports.{flatAdd, leftByFlat}
-use Rattle.yoksimert.specs.Recorder.{addedTo, madeOver, flatFresh}
+use Rattle.yoksimert.specs.Recorder.{recordedBy, addedTo, madeOver, flatFresh}
 use Rattle.yoksimert.proofs.Numbers.{forth}
 use Rattle.yoksimert.proofs.Flattened.{add-known}
 
@@ -75,11 +75,12 @@ added-alike d l i c =
 -- ---- the calls
 
 module _ (f : FlatDescription) (l : Lent) (i : ℕ) (c : Change) where
-  pub record-known : (d : Description) → decoded f ≡ Known d → (a : Added) (bytes indices : List ℕ) → leftBy a bytes indices ≡ addChange d l i c
-      → (r : Recorded) → r ≡ record { number = numberOf (a .verdict); set = (encoded (a .next)) .set; count = (encoded (a .next)) .count }
-      → leftByFlat (addedTo f r) bytes indices ≡ flatAdd f l i c
-  record-known d h a bytes indices e r q =
-      add-known f l i c d h a bytes indices e (addedTo f r) (ap (addedTo f) q ∙ same)
+  pub record-known : {d : Description} → decoded f ≡ Known d → (a : Added) {bytes indices : List ℕ} → leftBy a bytes indices ≡ addChange d l i c
+      → {r : Recorded} → r ≡ recordedBy a → leftByFlat (r .number) (addedTo f r) bytes indices ≡ flatAdd f l i c
+  record-known {d} h a {bytes} {indices} e q =
+      ap (λ (r : Recorded). leftByFlat (r .number) (addedTo f r) bytes indices) q
+      ∙ ap (λ (g : FlatDescription). leftByFlat (numberOf (a .verdict)) g bytes indices) same
+      ∙ add-known f l i c h a e
     where
       next : a .next ≡ (addChange d l i c) .left .description
       next = ap (λ (o : Outcome Recorder). o .left .description) e
@@ -90,8 +91,7 @@ module _ (f : FlatDescription) (l : Lent) (i : ℕ) (c : Change) where
       width : f .width ≡ (encoded (a .next)) .width
       width = rw next (ap (λ (g : FlatDescription). g .width) (sym (forth f d h)) ∙ sym (added-alike d l i c .width _ _))
 
-      same : addedTo f (record { number = numberOf (a .verdict); set = (encoded (a .next)) .set; count = (encoded (a .next)) .count })
-          ≡ record { number = numberOf (a .verdict); next = encoded (a .next) }
+      same : addedTo f (recordedBy a) ≡ encoded (a .next)
       same = rw (kind, width)
 
 module _ (f : FlatDescription) (w : ℕ) (m : Made) (e : madeOf m ≡ fresh w) where

@@ -9,7 +9,7 @@ use Rattle.fst.specs.Refusal.{Outcome}
 use Rattle.derivation.specs.declared.DerivedBitVecSignal.{DerivedBitVecSignal}
 use Rattle.steps.specs.declared.Input.{Input}
 use Rattle.steps.specs.declared.Inputs.{Inputs}
-use Rattle.transform.specs.Derive.{Derived}
+use Rattle.transform.specs.Derive.{Derived, derive}
 use Rattle.yoksimert.specs.declared.Decoded.{Decoded}
 use Rattle.yoksimert.specs.declared.Decoded.the-variants.{Known, Unknown}
 use Rattle.yoksimert.specs.declared.FlatMade.{FlatMade}
@@ -68,5 +68,14 @@ pub record FlatDerived : Type 0 where
   pub bytes : List ℕ
   pub indices : List ℕ
 
+-- by the answer and the slices as they are then
+abbrev pub derivedBy : FlatMade → List ℕ → List ℕ → FlatDerived
+derivedBy r bytes indices = record { answer = r; bytes = bytes; indices = indices }
+
 abbrev pub flatDerived : Derived → FlatDerived
-flatDerived d = record { answer = flatMade (d .answer); bytes = d .bytes; indices = d .indices }
+flatDerived d = derivedBy (flatMade (d .answer)) (d .bytes) (d .indices)
+
+-- of a derivation and its arrays, inputs with the slices lent, and the output slices
+unfoldable pub flatDerive : FlatDerivation → List ℕ → List ℕ → FlatInputs → List ℕ → List ℕ → List ℕ → List ℕ → FlatDerived
+flatDerive f names pieces inputs bytes indices outBytes outIndices =
+    flatDerived (derive (derivationOf f names pieces) (inputsBy inputs) bytes indices outBytes outIndices)

@@ -10,7 +10,6 @@ use Rattle.signal.specs.Compare.{compareRecords}
 use Rattle.yoksimert.specs.declared.FlatDescription.{FlatDescription}
 use Rattle.yoksimert.specs.declared.Decoded.{Decoded}
 use Rattle.yoksimert.specs.declared.Decoded.the-variants.{Known, Unknown}
-use Rattle.yoksimert.specs.declared.FlatAdded.{FlatAdded}
 use Rattle.yoksimert.specs.declared.FlatEntry.{FlatEntry}
 use Rattle.yoksimert.specs.declared.FlatEqual.{FlatEqual}
 use Rattle.yoksimert.specs.Flat.{decoded, encoded, noEntry, flatEntry, flatEqual}
@@ -28,17 +27,16 @@ flatLeft o =
       left = record { description = encoded (o .left .description); bytes = o .left .bytes; indices = o .left .indices };
     }
 
+-- what a call leaves, by its number and by the recorder and the slices as they are then
+abbrev pub leftByFlat : ℕ → FlatDescription → List ℕ → List ℕ → Outcome FlatRecorder
+leftByFlat n f bytes indices = record { refused = n; left = record { description = f; bytes = bytes; indices = indices } }
+
 abbrev pub addTo : Decoded → FlatDescription → Lent → ℕ → Change → Outcome FlatRecorder
 addTo (Known d) f l i c = flatLeft (addChange d l i c)
-addTo Unknown f l i c = record { refused = 2; left = record { description = f; bytes = l .bytes; indices = l .indices } }
+addTo Unknown f l i c = leftByFlat 2 f (l .bytes) (l .indices)
 
 unfoldable pub flatAdd : FlatDescription → Lent → ℕ → Change → Outcome FlatRecorder
 flatAdd f l i c = addTo (decoded f) f l i c
-
--- what a call leaves, by its answer and the slices as they are then
-abbrev pub leftByFlat : FlatAdded → List ℕ → List ℕ → Outcome FlatRecorder
-leftByFlat r bytes indices =
-    record { refused = r .number; left = record { description = r .next; bytes = bytes; indices = indices } }
 
 -- ---- Read an entry, Text of an entry, Compare
 

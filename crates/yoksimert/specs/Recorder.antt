@@ -4,24 +4,24 @@ use Prim.Native.Nat.{ℕ}
 use mathlib.Core.List.{[]}
 use Rattle.value.specs.Slice.{part}
 use Rattle.fst.specs.declared.Description.{Description}
-use Rattle.fst.specs.Refusal.{Reply, refused, given, Outcome, outcome}
+use Rattle.fst.specs.declared.Added.{Added}
+use Rattle.fst.specs.Refusal.{Reply, refused, given, Outcome, outcome, numberOf}
 use Rattle.fst.specs.Record.{Lent, Held, usedSize, fresh}
 use Rattle.runs.specs.Runs.{Records}
 use Rattle.yoksimert.specs.declared.FlatDescription.{FlatDescription}
-use Rattle.yoksimert.specs.declared.FlatAdded.{FlatAdded}
 use Rattle.yoksimert.specs.declared.recorder.Recorded.{Recorded}
 use Rattle.yoksimert.specs.declared.Decoded.{Decoded}
 use Rattle.yoksimert.specs.declared.Decoded.the-variants.{Known, Unknown}
 use Rattle.yoksimert.specs.Flat.{decoded, encoded}
 use Rattle.yoksimert.specs.Exports.{flatAdd}
 
+-- what an answer says of a recorder
+abbrev pub recordedBy : Added → Recorded
+recordedBy a = record { number = numberOf (a .verdict); set = (encoded (a .next)) .set; count = (encoded (a .next)) .count }
+
 -- a change alters no more of a recorder than its set and its count
-abbrev pub addedTo : FlatDescription → Recorded → FlatAdded
-addedTo f r =
-    record {
-      number = r .number;
-      next = record { kind = f .kind; width = f .width; set = r .set; count = r .count };
-    }
+abbrev pub addedTo : FlatDescription → Recorded → FlatDescription
+addedTo f r = record { kind = f .kind; width = f .width; set = r .set; count = r .count }
 
 abbrev pub numbersOf : Reply Description → Reply FlatDescription
 numbersOf (refused n) = refused n

@@ -2,8 +2,7 @@
 ghost use mathlib.Core.Path.{_≡_};
 ghost use Rattle.derivation.specs.declared.Side.the-variants.{Left, Right};
 ghost use Rattle.derivation.specs.Piece.{joinedOf, addPiece, addFull};
-ghost use Rattle.transform.specs.Derive.{derive};
-ghost use Rattle.yoksimert.specs.Derivations.{derivationOf, leftByJoined, inputOf, inputsBy, FlatDerived, flatDerived};
+ghost use Rattle.yoksimert.specs.Derivations.{derivationOf, leftByJoined, inputOf, inputsBy, derivedBy, flatDerive};
 use crate::Decoded;
 use crate::FlatDerivation;
 use crate::FlatInput;
@@ -176,7 +175,7 @@ pub extern "C" fn yoksimert_derive(
     out_bytes: &mut [u8],
     out_indices: &mut [u32],
 ) -> FlatMade
-    ensures { λ r. ⌜ _≡_ {A = FlatDerived} (record { answer = r; bytes = now («out_bytes» .exit); indices = now («out_indices» .exit) }) (flatDerived (derive (derivationOf derivation (now (names .entry)) (now (pieces .entry))) (inputsBy inputs) (now (bytes .entry)) (now (indices .entry)) (now («out_bytes» .entry)) (now («out_indices» .entry)))) ⌝ }
+    ensures { λ r. ⌜ derivedBy r (now («out_bytes» .exit)) (now («out_indices» .exit)) ≡ flatDerive derivation (now (names .entry)) (now (pieces .entry)) inputs (now (bytes .entry)) (now (indices .entry)) (now («out_bytes» .entry)) (now («out_indices» .entry)) ⌝ }
 {
     let known = derivation_of(derivation, names, pieces);
     let records = inputs_of(inputs);

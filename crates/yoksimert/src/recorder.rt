@@ -1,14 +1,14 @@
 // The recorder lent by `&mut`: it is a description by numbers, and each call changes it in place. The work is done by value, and a call
 // stores what that hands back.
 ghost use mathlib.Core.Path.{_≡_};
-ghost use Rattle.fst.specs.Refusal.{Outcome, numberOf};
+ghost use Rattle.fst.specs.Refusal.{Outcome};
 ghost use Rattle.fst.specs.Record.{freshReal};
 ghost use Rattle.fst.specs.Change.{text, real};
 ghost use Rattle.yoksimert.specs.Flat.{encoded};
 ghost use Rattle.yoksimert.specs.Exports.{leftByFlat, flatAdd};
 ghost use Rattle.yoksimert.specs.declared.FlatDescription.{FlatDescription};
 ghost use Rattle.yoksimert.specs.declared.FlatAdded.{FlatAdded};
-ghost use Rattle.yoksimert.specs.Recorder.{addedTo, flatFresh};
+ghost use Rattle.yoksimert.specs.Recorder.{recordedBy, addedTo, flatFresh};
 use crate::Decoded;
 use crate::FlatAdded;
 use crate::FlatDescription;
@@ -29,7 +29,7 @@ pub struct Recorded {
 }
 
 fn left_of(added: Added) -> Recorded
-    ensures { λ r. ⌜ r ≡ record { number = numberOf (added .verdict); set = (encoded (added .next)) .set; count = (encoded (added .next)) .count } ⌝ }
+    ensures { λ r. ⌜ r ≡ recordedBy added ⌝ }
 {
     let verdict = added.verdict;
     let next = added.next;
@@ -51,7 +51,7 @@ fn record_change(
     index: u32,
     value: &[u8],
 ) -> Recorded
-    ensures { λ r. ⌜ leftByFlat (addedTo recorder r) (now (bytes .exit)) (now (indices .exit)) ≡ flatAdd recorder (record { bytes = now (bytes .entry); byteStart = «byte_start»; indices = now (indices .entry); indexStart = «index_start» }) index (text (now (value .entry))) ⌝ }
+    ensures { λ r. ⌜ leftByFlat (r .number) (addedTo recorder r) (now (bytes .exit)) (now (indices .exit)) ≡ flatAdd recorder (record { bytes = now (bytes .entry); byteStart = «byte_start»; indices = now (indices .entry); indexStart = «index_start» }) index (text (now (value .entry))) ⌝ }
 {
     let Decoded::Known(known) = decode(recorder) else {
         return Recorded {
@@ -72,7 +72,7 @@ fn record_real(
     index: u32,
     bits: u64,
 ) -> Recorded
-    ensures { λ r. ⌜ leftByFlat (addedTo recorder r) (now (bytes .exit)) (now (indices .exit)) ≡ flatAdd recorder (record { bytes = now (bytes .entry); byteStart = «byte_start»; indices = now (indices .entry); indexStart = «index_start» }) index (real bits) ⌝ }
+    ensures { λ r. ⌜ leftByFlat (r .number) (addedTo recorder r) (now (bytes .exit)) (now (indices .exit)) ≡ flatAdd recorder (record { bytes = now (bytes .entry); byteStart = «byte_start»; indices = now (indices .entry); indexStart = «index_start» }) index (real bits) ⌝ }
 {
     let Decoded::Known(known) = decode(recorder) else {
         return Recorded {
@@ -141,7 +141,7 @@ pub extern "C" fn yoksimert_recorder_add_change(
     index: u32,
     value: &[u8],
 ) -> u32
-    ensures { λ n. ⌜ leftByFlat (record { number = n; next = now (recorder .exit) }) (now (bytes .exit)) (now (indices .exit)) ≡ flatAdd (now (recorder .entry)) (record { bytes = now (bytes .entry); byteStart = «byte_start»; indices = now (indices .entry); indexStart = «index_start» }) index (text (now (value .entry))) ⌝ }
+    ensures { λ n. ⌜ leftByFlat n (now (recorder .exit)) (now (bytes .exit)) (now (indices .exit)) ≡ flatAdd (now (recorder .entry)) (record { bytes = now (bytes .entry); byteStart = «byte_start»; indices = now (indices .entry); indexStart = «index_start» }) index (text (now (value .entry))) ⌝ }
 {
     let s = record_change(
         *recorder,
@@ -168,7 +168,7 @@ pub extern "C" fn yoksimert_recorder_add_real(
     index: u32,
     bits: u64,
 ) -> u32
-    ensures { λ n. ⌜ leftByFlat (record { number = n; next = now (recorder .exit) }) (now (bytes .exit)) (now (indices .exit)) ≡ flatAdd (now (recorder .entry)) (record { bytes = now (bytes .entry); byteStart = «byte_start»; indices = now (indices .entry); indexStart = «index_start» }) index (real bits) ⌝ }
+    ensures { λ n. ⌜ leftByFlat n (now (recorder .exit)) (now (bytes .exit)) (now (indices .exit)) ≡ flatAdd (now (recorder .entry)) (record { bytes = now (bytes .entry); byteStart = «byte_start»; indices = now (indices .entry); indexStart = «index_start» }) index (real bits) ⌝ }
 {
     let s = record_real(
         *recorder,

@@ -108,7 +108,7 @@ fn adds(name: &'static str, callee: &'static str, last: Parameter, change: &'sta
         parameters: changed(last),
         stores: Stores::SetAndCount,
         ensures: format!(
-            "leftByFlat (addedTo old r) bytes′ indices′ ≡ flatAdd old {lent} index ({change} {put})"
+            "leftByFlat (r .number) (addedTo old r) bytes′ indices′ ≡ flatAdd old {lent} index ({change} {put})"
         ),
         cites: vec![
             ("Rattle.fst.specs.Change", change),

@@ -236,7 +236,7 @@ impl<'a> Walk<'a> {
     fn new_recorder(&self) -> &'static str {
         match self.call.stores {
             Stores::Whole => "r .next",
-            Stores::SetAndCount => "(addedTo old r) .next",
+            Stores::SetAndCount => "addedTo old r",
         }
     }
 

@@ -12,37 +12,16 @@ Inv-loop bytes i₀ i = i ≤ length bytes
 abbrev μ-loop : tie.MeasureT-loop
 μ-loop bytes i₀ i = length bytes - i
 
-loop-holds : tie.Need-loop-holds Inv-loop μ-loop
-loop-holds c = search needs
-
-shared-slice-read-write-byte : tie.Need-shared-slice-read-write-byte Inv-loop μ-loop
-shared-slice-read-write-byte c = search needs
-
-write-byte-requires : tie.Need-write-byte-requires Inv-loop μ-loop
-write-byte-requires c κs = search needs
-
-add-i : tie.Need-add-i Inv-loop μ-loop
-add-i c = search needs
-
-loop-less : tie.Need-loop-less Inv-loop μ-loop
-loop-less c = search needs
-
-loop-again : tie.Need-loop-again Inv-loop μ-loop
-loop-again c = search needs
-
-returns : tie.Need-returns Inv-loop μ-loop
-returns c = search needs
-
 pub write-bytes-spec : {M : Type 1} → statement M
 write-bytes-spec =
     tie.close
     (tie.spec
     Inv-loop
     μ-loop
-    loop-holds
-    shared-slice-read-write-byte
-    write-byte-requires
-    add-i
-    loop-less
-    loop-again
-    returns)
+    (λ c. search needs)
+    (λ c. search needs)
+    (λ c κs. search needs)
+    (λ c. search needs)
+    (λ c. search needs)
+    (λ c. search needs)
+    (λ c. search needs))

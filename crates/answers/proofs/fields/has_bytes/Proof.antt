@@ -6,59 +6,20 @@ use borrow.Author.Needs.{needs}
 use Rattle.answers.proofs.fields.has_bytes.Statement.{statement}
 use Rattle.answers.proofs.fields.has_bytes.Tie as tie
 
-abbrev Inv-loop : tie.InvT-loop
-Inv-loop line field bytes at₀ i₀ at i = i ≤ length bytes
-
-abbrev μ-loop : tie.MeasureT-loop
-μ-loop line field bytes at₀ i₀ at i = length bytes - i
-
-start-requires : tie.Need-start-requires Inv-loop μ-loop
-start-requires c κs = search needs
-
-loop-holds : tie.Need-loop-holds Inv-loop μ-loop
-loop-holds c = search needs
-
-shared-slice-read-is-byte-at : tie.Need-shared-slice-read-is-byte-at Inv-loop μ-loop
-shared-slice-read-is-byte-at c = search needs
-
-is-byte-at-requires : tie.Need-is-byte-at-requires Inv-loop μ-loop
-is-byte-at-requires c κs = search needs
-
-returns : tie.Need-returns Inv-loop μ-loop
-returns c = search needs
-
-after-requires : tie.Need-after-requires Inv-loop μ-loop
-after-requires c κs = search needs
-
-add-i : tie.Need-add-i Inv-loop μ-loop
-add-i c = search needs
-
-loop-less : tie.Need-loop-less Inv-loop μ-loop
-loop-less c = search needs
-
-loop-again : tie.Need-loop-again Inv-loop μ-loop
-loop-again c = search needs
-
-is-list-end-requires : tie.Need-is-list-end-requires Inv-loop μ-loop
-is-list-end-requires c κs = search needs
-
-returns-2 : tie.Need-returns-2 Inv-loop μ-loop
-returns-2 c = search needs
-
 pub has-bytes-spec : {M : Type 1} → statement M
 has-bytes-spec =
     tie.close
     (tie.spec
-    Inv-loop
-    μ-loop
-    start-requires
-    loop-holds
-    shared-slice-read-is-byte-at
-    is-byte-at-requires
-    returns
-    after-requires
-    add-i
-    loop-less
-    loop-again
-    is-list-end-requires
-    returns-2)
+    (λ line field bytes at₀ i₀ at i. i ≤ length bytes)
+    (λ line field bytes at₀ i₀ at i. length bytes - i)
+    (λ c κs. search needs)
+    (λ c. search needs)
+    (λ c. search needs)
+    (λ c κs. search needs)
+    (λ c. search needs)
+    (λ c κs. search needs)
+    (λ c. search needs)
+    (λ c. search needs)
+    (λ c. search needs)
+    (λ c κs. search needs)
+    (λ c. search needs))

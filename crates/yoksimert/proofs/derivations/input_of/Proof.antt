@@ -6,15 +6,6 @@ use borrow.Author.Needs.{needs}
 use Rattle.yoksimert.proofs.derivations.input_of.Statement.{statement}
 use Rattle.yoksimert.proofs.derivations.input_of.Tie as tie
 
-decode-requires : tie.Need-decode-requires
-decode-requires c κs = search needs
-
-enum-known-description : tie.Need-enum-known-description
-enum-known-description c = search needs
-
-enum-told : tie.Need-enum-told
-enum-told c = search needs
-
 returns : tie.Need-returns
 returns c = input-by (c .before .before .before .before .args .flat) _ (sym (c .before .before .decode .ensures) ∙ c .enum-told .given .1)
 
@@ -23,4 +14,4 @@ returns-2 c = input-by (c .before .before .before .before .before .args .flat) _
 
 pub input-of-spec : {M : Type 1} → statement M
 input-of-spec =
-    tie.close (tie.spec decode-requires enum-known-description enum-told returns returns-2)
+    tie.close (tie.spec (λ c κs. search needs) (λ c. search needs) (λ c. search needs) returns returns-2)

@@ -6,11 +6,8 @@ use borrow.Author.Needs.{needs}
 use Rattle.yoksimert.proofs.derivations.store_joined.Statement.{statement}
 use Rattle.yoksimert.proofs.derivations.store_joined.Tie as tie
 
-verdict-number-requires : tie.Need-verdict-number-requires
-verdict-number-requires c κs = search needs
-
 returns : tie.Need-returns
 returns c = ap (λ (n : ℕ). record { refused = n; left = c .before .before .before .before .args .joined .next }) (c .verdict-number .ensures)
 
 pub store-joined-spec : {M : Type 1} → statement M
-store-joined-spec = tie.close (tie.spec verdict-number-requires returns)
+store-joined-spec = tie.close (tie.spec (λ c κs. search needs) returns)

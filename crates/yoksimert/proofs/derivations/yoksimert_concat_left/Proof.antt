@@ -8,18 +8,9 @@ use borrow.Author.Needs.{needs}
 use Rattle.yoksimert.proofs.derivations.yoksimert_concat_left.Statement.{statement}
 use Rattle.yoksimert.proofs.derivations.yoksimert_concat_left.Tie as tie
 
-derivation-of-requires : tie.Need-derivation-of-requires
-derivation-of-requires c κs = search needs
-
-concat-left-requires : tie.Need-concat-left-requires
-concat-left-requires c κs = search needs
-
-store-joined-requires : tie.Need-store-joined-requires
-store-joined-requires c κs = search needs
-
 returns : tie.Need-returns
 returns c = let a = c .before .before .before .before .before .before .before .args in c .store-joined .ensures ∙ c .before .before .before .concat-left .ensures ∙ ap (λ (d : DerivedBitVecSignal). addPiece d Left (a .signal) (a .msb) (a .lsb)) (c .before .before .before .before .derivation-of .ensures)
 
 pub yoksimert-concat-left-spec : {M : Type 1} → statement M
 yoksimert-concat-left-spec =
-    tie.close (tie.spec derivation-of-requires concat-left-requires store-joined-requires returns)
+    tie.close (tie.spec (λ c κs. search needs) (λ c κs. search needs) (λ c κs. search needs) returns)

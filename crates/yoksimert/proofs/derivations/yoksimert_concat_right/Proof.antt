@@ -8,18 +8,9 @@ use borrow.Author.Needs.{needs}
 use Rattle.yoksimert.proofs.derivations.yoksimert_concat_right.Statement.{statement}
 use Rattle.yoksimert.proofs.derivations.yoksimert_concat_right.Tie as tie
 
-derivation-of-requires : tie.Need-derivation-of-requires
-derivation-of-requires c κs = search needs
-
-concat-right-requires : tie.Need-concat-right-requires
-concat-right-requires c κs = search needs
-
-store-joined-requires : tie.Need-store-joined-requires
-store-joined-requires c κs = search needs
-
 returns : tie.Need-returns
 returns c = let a = c .before .before .before .before .before .before .before .args in c .store-joined .ensures ∙ c .before .before .before .concat-right .ensures ∙ ap (λ (d : DerivedBitVecSignal). addPiece d Right (a .signal) (a .msb) (a .lsb)) (c .before .before .before .before .derivation-of .ensures)
 
 pub yoksimert-concat-right-spec : {M : Type 1} → statement M
 yoksimert-concat-right-spec =
-    tie.close (tie.spec derivation-of-requires concat-right-requires store-joined-requires returns)
+    tie.close (tie.spec (λ c κs. search needs) (λ c κs. search needs) (λ c κs. search needs) returns)

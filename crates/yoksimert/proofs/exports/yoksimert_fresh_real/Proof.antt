@@ -6,14 +6,8 @@ use borrow.Author.Needs.{needs}
 use Rattle.yoksimert.proofs.exports.yoksimert_fresh_real.Statement.{statement}
 use Rattle.yoksimert.proofs.exports.yoksimert_fresh_real.Tie as tie
 
-fresh-real-requires : tie.Need-fresh-real-requires
-fresh-real-requires c κs = search needs
-
-encode-requires : tie.Need-encode-requires
-encode-requires c κs = search needs
-
 returns : tie.Need-returns
 returns c = c .encode .ensures ∙ ap encoded (c .before .fresh-real .ensures)
 
 pub yoksimert-fresh-real-spec : {M : Type 1} → statement M
-yoksimert-fresh-real-spec = tie.close (tie.spec fresh-real-requires encode-requires returns)
+yoksimert-fresh-real-spec = tie.close (tie.spec (λ c κs. search needs) (λ c κs. search needs) returns)

@@ -6,14 +6,8 @@ use borrow.Author.Needs.{needs}
 use Rattle.yoksimert.proofs.exports.yoksimert_look_up.Statement.{statement}
 use Rattle.yoksimert.proofs.exports.yoksimert_look_up.Tie as tie
 
-get-offset-requires : tie.Need-get-offset-requires
-get-offset-requires c κs = search needs
-
-flat-offset-requires : tie.Need-flat-offset-requires
-flat-offset-requires c κs = search needs
-
 returns : tie.Need-returns
 returns c = c .flat-offset .ensures ∙ ap flatOffset (c .before .get-offset .ensures)
 
 pub yoksimert-look-up-spec : {M : Type 1} → statement M
-yoksimert-look-up-spec = tie.close (tie.spec get-offset-requires flat-offset-requires returns)
+yoksimert-look-up-spec = tie.close (tie.spec (λ c κs. search needs) (λ c κs. search needs) returns)

@@ -20,43 +20,10 @@ at c =
     let p = placed _ (now (a .bytes)) (a .byte-start) (a .entry) _ (c .before .before .before .before .before .read-entry .ensures) _ _ (c .before .before .before .kind .given .1) in
     rw (c .before .size-of .ensures, c .level-length .ensures, p .own) (p .inside, p .short)
 
-decode-requires : tie.Need-decode-requires
-decode-requires c κs = search needs
-
-enum-known-known : tie.Need-enum-known-known
-enum-known-known c = search needs
-
-enum-told : tie.Need-enum-told
-enum-told c = search needs
-
-no-entry-requires : tie.Need-no-entry-requires
-no-entry-requires c κs = search needs
-
 returns : tie.Need-returns
 returns c =
     let a = c .before .before .before .before .before .args in
     c .no-entry .ensures ∙ read-unknown (a .description) (now (a .bytes)) (a .byte-start) (a .entry) (sym (c .before .before .before .decode .ensures) ∙ c .before .enum-told .given .1)
-
-read-entry-requires : tie.Need-read-entry-requires
-read-entry-requires c κs = search needs
-
-enum-known-refusal : tie.Need-enum-known-refusal
-enum-known-refusal c = search needs
-
-refusal-number-requires : tie.Need-refusal-number-requires
-refusal-number-requires c κs = search needs
-
-no-entry-requires-2 : tie.Need-no-entry-requires-2
-no-entry-requires-2 c κs = search needs
-
-enum-known-kind : tie.Need-enum-known-kind
-enum-known-kind c = search needs
-
-size-of-requires : tie.Need-size-of-requires
-size-of-requires c κs = search needs
-
-level-length-requires : tie.Need-level-length-requires
-level-length-requires c κs = search needs
 
 mul-end : tie.Need-mul-end
 mul-end c = omega (arith, at c .0)
@@ -66,12 +33,6 @@ add-end c = omega (arith, at c .0)
 
 add-end-2 : tie.Need-add-end-2
 add-end-2 c = omega (arith, at c .0)
-
-kind-number-requires : tie.Need-kind-number-requires
-kind-number-requires c κs = search needs
-
-set-number-requires : tie.Need-set-number-requires
-set-number-requires c κs = search needs
 
 sub-t17 : tie.Need-sub-t17
 sub-t17 c = omega (arith, at (c .before .before) .0, at (c .before .before) .1)
@@ -94,23 +55,23 @@ pub yoksimert-read-spec : {M : Type 1} → statement M
 yoksimert-read-spec =
     tie.close
     (tie.spec
-    decode-requires
-    enum-known-known
-    enum-told
-    no-entry-requires
+    (λ c κs. search needs)
+    (λ c. search needs)
+    (λ c. search needs)
+    (λ c κs. search needs)
     returns
-    read-entry-requires
-    enum-known-refusal
-    refusal-number-requires
-    no-entry-requires-2
-    enum-known-kind
-    size-of-requires
-    level-length-requires
+    (λ c κs. search needs)
+    (λ c. search needs)
+    (λ c κs. search needs)
+    (λ c κs. search needs)
+    (λ c. search needs)
+    (λ c κs. search needs)
+    (λ c κs. search needs)
     mul-end
     add-end
     add-end-2
-    kind-number-requires
-    set-number-requires
+    (λ c κs. search needs)
+    (λ c κs. search needs)
     sub-t17
     returns-2
     returns-3)

@@ -8,15 +8,6 @@ use borrow.Author.Needs.{needs}
 use Rattle.yoksimert.proofs.flat.decode.Statement.{statement}
 use Rattle.yoksimert.proofs.flat.decode.Tie as tie
 
-known-vector-requires : tie.Need-known-vector-requires
-known-vector-requires c κs = search needs
-
-known-vector-requires-2 : tie.Need-known-vector-requires-2
-known-vector-requires-2 c κs = search needs
-
-known-vector-requires-3 : tie.Need-known-vector-requires-3
-known-vector-requires-3 c κs = search needs
-
 returns : tie.Need-returns
 returns c =
     let m = c .before in
@@ -57,9 +48,9 @@ pub decode-spec : {M : Type 1} → statement M
 decode-spec =
     tie.close
     (tie.spec
-    known-vector-requires
-    known-vector-requires-2
-    known-vector-requires-3
+    (λ c κs. search needs)
+    (λ c κs. search needs)
+    (λ c κs. search needs)
     returns
     returns-2
     returns-3

@@ -5,18 +5,6 @@ use borrow.Author.Needs.{needs}
 use Rattle.yoksimert.proofs.flat.encode.Statement.{statement}
 use Rattle.yoksimert.proofs.flat.encode.Tie as tie
 
-enum-told : tie.Need-enum-told
-enum-told c = search needs
-
-enum-told-2 : tie.Need-enum-told-2
-enum-told-2 c = search needs
-
-enum-known-encoding : tie.Need-enum-known-encoding
-enum-known-encoding c = search needs
-
-set-number-requires : tie.Need-set-number-requires
-set-number-requires c κs = search needs
-
 returns : tie.Need-returns
 returns c = numbers (c .before .before .args .description) _ (c .enum-told .given .1)
 
@@ -30,10 +18,10 @@ pub encode-spec : {M : Type 1} → statement M
 encode-spec =
     tie.close
     (tie.spec
-    enum-told
-    enum-told-2
-    enum-known-encoding
-    set-number-requires
+    (λ c. search needs)
+    (λ c. search needs)
+    (λ c. search needs)
+    (λ c κs. search needs)
     returns
     returns-2
     returns-3)

@@ -10,18 +10,6 @@ use borrow.Author.Needs.{needs}
 use Rattle.yoksimert.proofs.flat.flat_equal.Statement.{statement}
 use Rattle.yoksimert.proofs.flat.flat_equal.Tie as tie
 
-enum-told : tie.Need-enum-told
-enum-told c = search needs
-
-enum-told-2 : tie.Need-enum-told-2
-enum-told-2 c = search needs
-
-enum-known-answer : tie.Need-enum-known-answer
-enum-known-answer c = search needs
-
-refusal-number-requires : tie.Need-refusal-number-requires
-refusal-number-requires c κs = search needs
-
 returns : tie.Need-returns
 returns c = sym (ap (λ (a : EqualAnswer). flatEqual (equalOf a)) (c .enum-told .given .1))
 
@@ -35,10 +23,10 @@ pub flat-equal-spec : {M : Type 1} → statement M
 flat-equal-spec =
     tie.close
     (tie.spec
-    enum-told
-    enum-told-2
-    enum-known-answer
-    refusal-number-requires
+    (λ c. search needs)
+    (λ c. search needs)
+    (λ c. search needs)
+    (λ c κs. search needs)
     returns
     returns-2
     returns-3)

@@ -10,18 +10,6 @@ use borrow.Author.Needs.{needs}
 use Rattle.yoksimert.proofs.flat.flat_made.Statement.{statement}
 use Rattle.yoksimert.proofs.flat.flat_made.Tie as tie
 
-enum-known-made : tie.Need-enum-known-made
-enum-known-made c = search needs
-
-encode-requires : tie.Need-encode-requires
-encode-requires c κs = search needs
-
-enum-known-made-2 : tie.Need-enum-known-made-2
-enum-known-made-2 c = search needs
-
-refusal-number-requires : tie.Need-refusal-number-requires
-refusal-number-requires c κs = search needs
-
 returns : tie.Need-returns
 returns c = made-of (c .encode .ensures) ∙ sym (ap (λ (a : Made). flatMade (madeOf a)) (c .before .before .made .given .1))
 
@@ -32,9 +20,9 @@ pub flat-made-spec : {M : Type 1} → statement M
 flat-made-spec =
     tie.close
     (tie.spec
-    enum-known-made
-    encode-requires
-    enum-known-made-2
-    refusal-number-requires
+    (λ c. search needs)
+    (λ c κs. search needs)
+    (λ c. search needs)
+    (λ c κs. search needs)
     returns
     returns-2)

@@ -8,27 +8,6 @@ use borrow.Author.Needs.{needs}
 use Rattle.yoksimert.proofs.flat.flat_offset.Statement.{statement}
 use Rattle.yoksimert.proofs.flat.flat_offset.Tie as tie
 
-enum-told : tie.Need-enum-told
-enum-told c = search needs
-
-flat-nowhere-requires : tie.Need-flat-nowhere-requires
-flat-nowhere-requires c κs = search needs
-
-enum-known-answer : tie.Need-enum-known-answer
-enum-known-answer c = search needs
-
-flat-placed-requires : tie.Need-flat-placed-requires
-flat-placed-requires c κs = search needs
-
-enum-known-answer-2 : tie.Need-enum-known-answer-2
-enum-known-answer-2 c = search needs
-
-refusal-number-requires : tie.Need-refusal-number-requires
-refusal-number-requires c κs = search needs
-
-flat-nowhere-requires-2 : tie.Need-flat-nowhere-requires-2
-flat-nowhere-requires-2 c κs = search needs
-
 returns : tie.Need-returns
 returns c = c .flat-nowhere .ensures ∙ sym (ap (λ (a : OffsetAnswer). flatOffset (offsetOf a)) (c .before .enum-told .given .1))
 
@@ -42,13 +21,13 @@ pub flat-offset-spec : {M : Type 1} → statement M
 flat-offset-spec =
     tie.close
     (tie.spec
-    enum-told
-    flat-nowhere-requires
-    enum-known-answer
-    flat-placed-requires
-    enum-known-answer-2
-    refusal-number-requires
-    flat-nowhere-requires-2
+    (λ c. search needs)
+    (λ c κs. search needs)
+    (λ c. search needs)
+    (λ c κs. search needs)
+    (λ c. search needs)
+    (λ c κs. search needs)
+    (λ c κs. search needs)
     returns
     returns-2
     returns-3)

@@ -5,12 +5,6 @@ use borrow.Author.Needs.{needs}
 use Rattle.yoksimert.proofs.flat.flat_placed.Statement.{statement}
 use Rattle.yoksimert.proofs.flat.flat_placed.Tie as tie
 
-enum-known-next : tie.Need-enum-known-next
-enum-known-next c = search needs
-
-enum-told : tie.Need-enum-told
-enum-told c = search needs
-
 returns : tie.Need-returns
 returns c = with-next (c .before .before .before .args .offset) _ (c .before .next .given .1)
 
@@ -18,4 +12,4 @@ returns-2 : tie.Need-returns-2
 returns-2 c = with-none (c .before .before .args .offset) (c .enum-told .given .1)
 
 pub flat-placed-spec : {M : Type 1} → statement M
-flat-placed-spec = tie.close (tie.spec enum-known-next enum-told returns returns-2)
+flat-placed-spec = tie.close (tie.spec (λ c. search needs) (λ c. search needs) returns returns-2)

@@ -5,21 +5,6 @@ use borrow.Author.Needs.{needs}
 use Rattle.yoksimert.proofs.recorder.record_fresh.Statement.{statement}
 use Rattle.yoksimert.proofs.recorder.record_fresh.Tie as tie
 
-fresh-requires : tie.Need-fresh-requires
-fresh-requires c κs = search needs
-
-enum-known-made : tie.Need-enum-known-made
-enum-known-made c = search needs
-
-encode-requires : tie.Need-encode-requires
-encode-requires c κs = search needs
-
-enum-known-made-2 : tie.Need-enum-known-made-2
-enum-known-made-2 c = search needs
-
-refusal-number-requires : tie.Need-refusal-number-requires
-refusal-number-requires c κs = search needs
-
 returns : tie.Need-returns
 returns c =
     let a = c .before .before .before .before .before .args in
@@ -34,10 +19,10 @@ pub record-fresh-spec : {M : Type 1} → statement M
 record-fresh-spec =
     tie.close
     (tie.spec
-    fresh-requires
-    enum-known-made
-    encode-requires
-    enum-known-made-2
-    refusal-number-requires
+    (λ c κs. search needs)
+    (λ c. search needs)
+    (λ c κs. search needs)
+    (λ c. search needs)
+    (λ c κs. search needs)
     returns
     returns-2)

@@ -7,14 +7,8 @@ use borrow.Author.Needs.{needs}
 use Rattle.yoksimert.proofs.recorder.record_fresh_real.Statement.{statement}
 use Rattle.yoksimert.proofs.recorder.record_fresh_real.Tie as tie
 
-fresh-real-requires : tie.Need-fresh-real-requires
-fresh-real-requires c κs = search needs
-
-encode-requires : tie.Need-encode-requires
-encode-requires c κs = search needs
-
 returns : tie.Need-returns
 returns c = made-equal refl (c .encode .ensures ∙ ap encoded (c .before .fresh-real .ensures))
 
 pub record-fresh-real-spec : {M : Type 1} → statement M
-record-fresh-real-spec = tie.close (tie.spec fresh-real-requires encode-requires returns)
+record-fresh-real-spec = tie.close (tie.spec (λ c κs. search needs) (λ c κs. search needs) returns)
