@@ -6,18 +6,12 @@ use borrow.Author.Needs.{needs}
 use Rattle.rows.proofs.write_indices.Statement.{statement}
 use Rattle.rows.proofs.write_indices.Tie as tie
 
-abbrev Inv-loop : tie.InvT-loop
-Inv-loop indices i₀ i = i ≤ length indices
-
-abbrev μ-loop : tie.MeasureT-loop
-μ-loop indices i₀ i = length indices - i
-
 pub write-indices-spec : {M : Type 1} → statement M
 write-indices-spec =
     tie.close
     (tie.spec
-    Inv-loop
-    μ-loop
+    (λ indices i₀ i. i ≤ length indices)
+    (λ indices i₀ i. length indices - i)
     (λ c. search needs)
     (λ c. search needs)
     (λ c. search needs)

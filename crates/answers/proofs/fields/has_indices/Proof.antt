@@ -6,18 +6,12 @@ use borrow.Author.Needs.{needs}
 use Rattle.answers.proofs.fields.has_indices.Statement.{statement}
 use Rattle.answers.proofs.fields.has_indices.Tie as tie
 
-abbrev Inv-loop : tie.InvT-loop
-Inv-loop line field indices at₀ i₀ at i = i ≤ length indices
-
-abbrev μ-loop : tie.MeasureT-loop
-μ-loop line field indices at₀ i₀ at i = length indices - i
-
 pub has-indices-spec : {M : Type 1} → statement M
 has-indices-spec =
     tie.close
     (tie.spec
-    Inv-loop
-    μ-loop
+    (λ line field indices at₀ i₀ at i. i ≤ length indices)
+    (λ line field indices at₀ i₀ at i. length indices - i)
     (λ c κs. search needs)
     (λ c. search needs)
     (λ c. search needs)

@@ -6,18 +6,12 @@ use borrow.Author.Needs.{needs}
 use Rattle.answers.proofs.fields.has_pieces.Statement.{statement}
 use Rattle.answers.proofs.fields.has_pieces.Tie as tie
 
-abbrev Inv-loop : tie.InvT-loop
-Inv-loop line field pieces at₀ i₀ at i = i ≤ length pieces
-
-abbrev μ-loop : tie.MeasureT-loop
-μ-loop line field pieces at₀ i₀ at i = length pieces - i
-
 pub has-pieces-spec : {M : Type 1} → statement M
 has-pieces-spec =
     tie.close
     (tie.spec
-    Inv-loop
-    μ-loop
+    (λ line field pieces at₀ i₀ at i. i ≤ length pieces)
+    (λ line field pieces at₀ i₀ at i. length pieces - i)
     (λ c κs. search needs)
     (λ c. search needs)
     (λ c. search needs)
