@@ -62,40 +62,33 @@ pub fn description(values: &[u64; 72], field: usize) -> Description
     requires { ⌜ field < 60 ⌝ }
 {
     let encoding = encoding(values[field], values[field + 1], values[field + 2]);
-    Description {
-        encoding,
-        count: narrow(values[field + 3]),
-    }
+    Description::new(encoding, narrow(values[field + 3]))
 }
 
 fn empty_event() -> Description {
-    Description {
-        encoding: Encoding::Event,
-        count: 0,
-    }
+    Description::new(Encoding::Event, 0)
 }
 
-// A kind, a width and a set.
-fn has_encoding(values: &[u64; 72], field: usize, kind: u64, width: u32, set: u8) -> bool
-    requires { ⌜ field < 64 ⌝ }
-{
-    values[field] == kind && values[field + 1] == width as u64 && values[field + 2] == set as u64
+fn kind_letter(encoding: Encoding) -> u64 {
+    match encoding {
+        Encoding::Event => EVENT,
+        Encoding::Real => REAL,
+        Encoding::BitVector {
+            width: _,
+            max_states: _,
+        } => BIT_VECTOR,
+    }
 }
 
 fn has_description(values: &[u64; 72], field: usize, description: Description) -> bool
     requires { ⌜ field < 64 ⌝ }
 {
-    if values[field + 3] != description.count as u64 {
-        return false;
-    }
     let encoding = description.encoding;
-    match encoding {
-        Encoding::Event => has_encoding(values, field, EVENT, 0, 0),
-        Encoding::Real => has_encoding(values, field, REAL, 0, 0),
-        Encoding::BitVector { width, max_states } => {
-            has_encoding(values, field, BIT_VECTOR, width, max_states.mark())
-        }
-    }
+    let states = encoding.largest();
+    values[field] == kind_letter(encoding)
+        && values[field + 1] == encoding.width() as u64
+        && values[field + 2] == states.mark() as u64
+        && values[field + 3] == description.count as u64
 }
 
 // A number and a description, after a refusal that of an empty event.
@@ -174,7 +167,7 @@ pub fn add(line: &[u8], values: &[u64; 72]) -> bool {
         && is_added(line, values, &mut bytes[..b], &mut indices[..i])
 }
 
-fn kind_letter(kind: Kind) -> u64 {
+fn letter_of(kind: Kind) -> u64 {
     match kind {
         Kind::Event => EVENT,
         Kind::Real => REAL,
@@ -185,7 +178,7 @@ fn kind_letter(kind: Kind) -> u64 {
 fn has_entry(values: &[u64; 72], answer: EntryAnswer) -> bool {
     match answer {
         EntryAnswer::Entry { kind, states } => {
-            values[10] == 0 && values[11] == kind_letter(kind) && values[12] == states.mark() as u64
+            values[10] == 0 && values[11] == letter_of(kind) && values[12] == states.mark() as u64
         }
         EntryAnswer::Refused(refusal) => {
             values[10] == refusal.number() as u64 && values[11] == EVENT && values[12] == 0

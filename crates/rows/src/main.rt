@@ -47,11 +47,8 @@ fn write_indices(indices: &[u32]) {
 
 fn largest(description: Description) -> u8 {
     let encoding = description.encoding;
-    match encoding {
-        Encoding::Event => 0,
-        Encoding::Real => 0,
-        Encoding::BitVector { width, max_states } => max_states.mark(),
-    }
+    let states = encoding.largest();
+    states.mark()
 }
 
 fn write_call(added: Added, bytes: &[u8], indices: &[u32]) {
@@ -100,10 +97,7 @@ fn real(
 // A record of a width that stands. Of any other it is an event.
 fn fresh(width: u32) -> Description {
     let Made::Record(description) = fst::record::fresh(width) else {
-        return Description {
-            encoding: Encoding::Event,
-            count: 0,
-        };
+        return Description::new(Encoding::Event, 0);
     };
     description
 }
@@ -302,13 +296,11 @@ fn edge_byte() {
     let mut bytes = [0xaa, 0xaa, 0x42];
     let mut indices = [0x46u32; 4];
     title(b"42 then x, y, xx");
-    let d = Description {
-        encoding: Encoding::BitVector {
-            width: 1,
-            max_states: value::States::Two,
-        },
-        count: 1,
+    let wire = Encoding::BitVector {
+        width: 1,
+        max_states: value::States::Two,
     };
+    let d = Description::new(wire, 1);
     let e = string(d, &mut bytes, &mut indices, 0x50, b"x");
     let f = string(e, &mut bytes, &mut indices, 0x50, b"y");
     string(f, &mut bytes, &mut indices, 0x50, b"xx");

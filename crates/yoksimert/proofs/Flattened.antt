@@ -17,7 +17,7 @@ use Rattle.runs.proofs.Histories.{refused-unchanged}
 use Rattle.signal.specs.declared.Kind.{Kind}
 use Rattle.signal.specs.declared.EntryAnswer.{EntryAnswer}
 use Rattle.signal.specs.declared.EntryAnswer.the-variants as answer
-use Rattle.signal.specs.Read.{readEntry, replyOf, partOf, readText}
+use Rattle.signal.specs.Read.{Entry, readEntry, replyOf, partOf, readText}
 use Rattle.signal.specs.Compare.{compareRecords}
 use Rattle.yoksimert.specs.declared.FlatDescription.{FlatDescription}
 use Rattle.yoksimert.specs.declared.FlatAdded.{FlatAdded}
@@ -90,27 +90,27 @@ module _ (f : FlatDescription) (l : Lent) (g : FlatDescription) (m : Lent) where
 
 -- ---- Read an entry
 
+pub given-by : (r : Reply Entry) {a : EntryAnswer} → replyOf a (partOf r) ≡ r → {K : Kind} {S : States} → a ≡ answer.Entry K S
+    → r ≡ given (record { kind = K; set = S; part = partOf r })
+given-by r e q = sym e ∙ ap (λ (b : EntryAnswer). replyOf b (partOf r)) q
+
 module _ (f : FlatDescription) (bytes : List ℕ) (start k : ℕ) where
   pub read-unknown : decoded f ≡ Unknown → noEntry 2 ≡ flatRead f bytes start k
   unfolding flatRead
   read-unknown h = rw h
 
-  module _ (d : Description) (h : decoded f ≡ Known d) where
-    pub read-refused : (a : EntryAnswer) → replyOf a (partOf (readEntry d bytes start k)) ≡ readEntry d bytes start k → (x : Refusal) → a ≡ answer.Refused x
-        → (n : ℕ) → n ≡ number x → noEntry n ≡ flatRead f bytes start k
+  module _ (d : Description) (h : decoded f ≡ Known d) (a : EntryAnswer) (e : replyOf a (partOf (readEntry d bytes start k)) ≡ readEntry d bytes start k) where
+    pub read-refused : {x : Refusal} → a ≡ answer.Refused x → {n : ℕ} → n ≡ number x → noEntry n ≡ flatRead f bytes start k
     unfolding flatRead
-    read-refused a e x q n p =
+    read-refused {x} q p =
         let z = sizeOf (d .encoding) in
         let r : refused (number x) ≡ readEntry d bytes start k = ap (λ (b : EntryAnswer). replyOf b (partOf (readEntry d bytes start k))) (sym q) ∙ e in
         rw (h, p) (ap (flatEntry (start + (k * z + z))) r)
 
-    pub read-known : (a : EntryAnswer) → replyOf a (partOf (readEntry d bytes start k)) ≡ readEntry d bytes start k
-        → (K : Kind) (S : States) → a ≡ answer.Entry K S → (m n size : ℕ) → m ≡ kindNumber K → n ≡ markOf S → size ≡ sizeOf (d .encoding)
-        → (l : ℕ) → l ≡ length (partOf (readEntry d bytes start k))
+    pub read-known : {K : Kind} {S : States} → a ≡ answer.Entry K S → {m n size l : ℕ} → m ≡ kindNumber K → n ≡ markOf S → size ≡ sizeOf (d .encoding)
+        → l ≡ length (partOf (readEntry d bytes start k))
         → _≡_ {A = FlatEntry} (record { number = 0; kind = m; set = n; start = start + (k * size + size) - l; length = l }) (flatRead f bytes start k)
     unfolding flatRead
-    read-known a e K S q m n size km sn zs l le =
+    read-known q km sn zs le =
         let z = sizeOf (d .encoding) in
-        let r : given (record { kind = K; set = S; part = partOf (readEntry d bytes start k) }) ≡ readEntry d bytes start k =
-        ap (λ (b : EntryAnswer). replyOf b (partOf (readEntry d bytes start k))) (sym q) ∙ e in
-        rw (h, km, sn, zs, le) (ap (flatEntry (start + (k * z + z))) r)
+        rw (h, km, sn, zs, le) (ap (flatEntry (start + (k * z + z))) (sym (given-by _ e q)))

@@ -13,6 +13,7 @@ use Rattle.value.proofs.Tests.{by-le, by-eq}
 use Rattle.fst.specs.declared.Encoding.{Encoding}
 use Rattle.fst.specs.declared.Encoding.the-variants.{Event, Real, BitVector}
 use Rattle.fst.specs.declared.Description.{Description}
+use Rattle.fst.specs.Record.{described}
 use Rattle.signal.specs.declared.NextIndex.the-variants as next
 use Rattle.signal.specs.declared.DataOffset.{DataOffset}
 use Rattle.yoksimert.specs.declared.FlatDescription.{FlatDescription}
@@ -56,13 +57,6 @@ module _ (f : FlatDescription) where
         no-kind n m = rw (ne-eqb (f .kind) 2 k, eq-eqb (f .width) 0 w, eq-eqb (f .set) 0 s, ne-eqb (f .kind) 0 n, ne-eqb (f .kind) 1 m)
 
 -- ---- what the numbers say
-
-pub numbers : (d : Description) (e : Encoding) → d .encoding ≡ e → flatOf e (d .count) ≡ encoded d
-numbers d e h = rw h
-
-pub numbers-vector : (d : Description) (w : ℕ) (M : States) → d .encoding ≡ BitVector w M → (s : ℕ) → s ≡ markOf M
-    → _≡_ {A = FlatDescription} (record { kind = 2; width = w; set = s; count = d .count }) (encoded d)
-numbers-vector d w M h s q = rw (h, q)
 
 pub made-of : {f g : FlatDescription} → f ≡ g → _≡_ {A = FlatMade} (record { number = 0; description = f }) (record { number = 0; description = g })
 made-of q = rw q
@@ -112,7 +106,7 @@ forth f d h =
     is : (e : Encoding) → known e (f .count) ≡ decoded f → flatOf e (f .count) ≡ f → encoded d ≡ f
     is e q r =
         let same : Known d ≡ known e (f .count) = sym h ∙ sym q in
-        let this : d ≡ record { encoding = e; count = f .count } = cc in
+        let this : d ≡ described e (f .count) = cc in
         ap encoded this ∙ r
 
     none : Unknown ≡ decoded f → encoded d ≡ f

@@ -6,6 +6,7 @@ use Rattle.value.specs.declared.States.the-variants.{Two}
 use Rattle.fst.specs.declared.Encoding.the-variants.{BitVector}
 use Rattle.fst.specs.declared.Description.{Description}
 use Rattle.fst.specs.Refusal.{Outcome}
+use Rattle.fst.specs.Record.{empty}
 use Rattle.derivation.specs.declared.DerivedBitVecSignal.{DerivedBitVecSignal}
 use Rattle.steps.specs.declared.Input.{Input}
 use Rattle.steps.specs.declared.Inputs.{Inputs}
@@ -53,7 +54,7 @@ slotsOf f =
 -- numbers that are no description are taken for a bit vector of width 0, which is refused with 2
 abbrev pub describedBy : Decoded → Description
 describedBy (Known d) = d
-describedBy Unknown = record { encoding = BitVector 0 Two; count = 0 }
+describedBy Unknown = empty (BitVector 0 Two)
 
 abbrev pub inputOf : FlatInput → Input
 inputOf f =

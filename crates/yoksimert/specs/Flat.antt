@@ -10,12 +10,13 @@ use Rattle.fst.specs.declared.Encoding.{Encoding}
 use Rattle.fst.specs.declared.Encoding.the-variants.{Event, Real, BitVector}
 use Rattle.fst.specs.declared.Description.{Description}
 use Rattle.fst.specs.Refusal.{Reply, refused, given}
+use Rattle.fst.specs.Record.{widthOf, largestIn, described}
 use Rattle.signal.specs.declared.Kind.{Kind}
 use Rattle.signal.specs.declared.Kind.the-variants as kind
 use Rattle.signal.specs.declared.NextIndex.{NextIndex}
 use Rattle.signal.specs.declared.NextIndex.the-variants as next
 use Rattle.signal.specs.declared.DataOffset.{DataOffset}
-use Rattle.signal.specs.Read.{Entry}
+use Rattle.signal.specs.Read.{Entry, kindOf}
 use Rattle.signal.specs.Offset.{Place, none, at}
 use Rattle.yoksimert.specs.declared.FlatDescription.{FlatDescription}
 use Rattle.yoksimert.specs.declared.Decoded.{Decoded}
@@ -28,7 +29,7 @@ use Rattle.yoksimert.specs.declared.FlatOffset.{FlatOffset}
 -- ---- descriptions
 
 abbrev pub known : Encoding → ℕ → Decoded
-known e n = Known (record { encoding = e; count = n })
+known e n = Known (described e n)
 
 -- kind 0 is an event's, 1 a real's, 2 a bit vector's; a set's number is its mark; an event and a real have neither width nor set
 unfoldable pub decoded : FlatDescription → Decoded
@@ -39,10 +40,13 @@ decoded f =
     (cond (eqb (f .kind) 0) (known Event (f .count)) (cond (eqb (f .kind) 1) (known Real (f .count)) Unknown))
     Unknown)
 
+abbrev pub kindNumber : Kind → ℕ
+kindNumber kind.Event = 0
+kindNumber kind.Real = 1
+kindNumber kind.BitVector = 2
+
 abbrev pub flatOf : Encoding → ℕ → FlatDescription
-flatOf Event n = record { kind = 0; width = 0; set = 0; count = n }
-flatOf Real n = record { kind = 1; width = 0; set = 0; count = n }
-flatOf (BitVector w M) n = record { kind = 2; width = w; set = markOf M; count = n }
+flatOf e n = record { kind = kindNumber (kindOf e); width = widthOf e; set = markOf (largestIn e); count = n }
 
 abbrev pub encoded : Description → FlatDescription
 encoded d = flatOf (d .encoding) (d .count)
@@ -56,11 +60,6 @@ noDescription = record { kind = 3; width = 0; set = 0; count = 0 }
 abbrev pub flatMade : Reply Description → FlatMade
 flatMade (refused n) = record { number = n; description = noDescription }
 flatMade (given d) = record { number = 0; description = encoded d }
-
-abbrev pub kindNumber : Kind → ℕ
-kindNumber kind.Event = 0
-kindNumber kind.Real = 1
-kindNumber kind.BitVector = 2
 
 abbrev pub noEntry : ℕ → FlatEntry
 noEntry n = record { number = n; kind = 0; set = 0; start = 0; length = 0 }

@@ -127,14 +127,13 @@ fn input_of(flat: FlatInput) -> Input
 {
     let numbers = flat.description;
     let Decoded::Known(description) = decode(numbers) else {
+        let bad = Encoding::BitVector {
+            width: 0,
+            max_states: States::Two,
+        };
+        let description = Description::new(bad, 0);
         return Input {
-            description: Description {
-                encoding: Encoding::BitVector {
-                    width: 0,
-                    max_states: States::Two,
-                },
-                count: 0,
-            },
+            description,
             byte_start: flat.byte_start,
             index_start: flat.index_start,
         };

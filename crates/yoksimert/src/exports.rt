@@ -3,7 +3,7 @@ ghost use mathlib.Core.Path.{_≡_};
 ghost use mathlib.Core.List.{List};
 ghost use Prim.Native.Nat.{ℕ};
 ghost use Rattle.fst.specs.Refusal.{Outcome};
-ghost use Rattle.fst.specs.Record.{fresh, freshReal};
+ghost use Rattle.fst.specs.Record.{lent, fresh, freshReal};
 ghost use Rattle.signal.specs.Offset.{lookUp};
 ghost use Rattle.yoksimert.specs.Flat.{encoded, flatMade, flatOffset};
 ghost use Rattle.yoksimert.specs.Exports.{flatRead, flatText, flatCompare};
@@ -31,7 +31,6 @@ use signal::compare::compare_records;
 use signal::offset::get_offset;
 use signal::read::read_entry;
 use signal::read::read_text;
-use signal::read::size_of;
 
 // Fresh: the empty record of a width; width 0 makes an event.
 #[no_mangle]
@@ -66,7 +65,7 @@ pub extern "C" fn yoksimert_read(
         EntryAnswer::Refused(refusal) => no_entry(refusal_number(refusal)),
         EntryAnswer::Entry { kind, states } => {
             let encoding = known.encoding;
-            let size = size_of(encoding);
+            let size = encoding.size();
             let length = level_length(encoding, states);
             let end = byte_start + (entry as usize * size + size);
             FlatEntry {
@@ -111,7 +110,7 @@ pub extern "C" fn yoksimert_compare(
     b_indices: &[u32],
     b_index_start: usize,
 ) -> FlatEqual
-    ensures { λ r. ⌜ r ≡ flatCompare a (record { bytes = now («a_bytes» .entry); byteStart = «a_byte_start»; indices = now («a_indices» .entry); indexStart = «a_index_start» }) b (record { bytes = now («b_bytes» .entry); byteStart = «b_byte_start»; indices = now («b_indices» .entry); indexStart = «b_index_start» }) ⌝ }
+    ensures { λ r. ⌜ r ≡ flatCompare a (lent (now («a_bytes» .entry)) «a_byte_start» (now («a_indices» .entry)) «a_index_start») b (lent (now («b_bytes» .entry)) «b_byte_start» (now («b_indices» .entry)) «b_index_start») ⌝ }
 {
     let Decoded::Known(first) = decode(a) else {
         return FlatEqual {

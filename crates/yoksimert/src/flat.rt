@@ -3,9 +3,10 @@ ghost use mathlib.Core.Path.{_≡_};
 ghost use Rattle.value.specs.Level.{markOf};
 ghost use Rattle.fst.specs.Refusal.{number, numberOf, madeOf};
 ghost use Rattle.fst.specs.declared.Encoding.the-variants.{BitVector};
+ghost use Rattle.signal.specs.Read.{kindOf};
 ghost use Rattle.signal.specs.Compare.{equalOf};
 ghost use Rattle.signal.specs.Offset.{offsetOf};
-ghost use Rattle.yoksimert.specs.Flat.{known, decoded, encoded, kindNumber, noEntry, levelLength, flatMade, flatEqual, nowhere, placed, flatOffset};
+ghost use Rattle.yoksimert.specs.Flat.{known, decoded, encoded, noDescription, kindNumber, noEntry, levelLength, flatMade, flatEqual, nowhere, placed, flatOffset};
 use crate::Decoded;
 use crate::FlatDescription;
 use crate::FlatEntry;
@@ -65,10 +66,7 @@ pub fn kind_number(kind: Kind) -> u32
 fn known_vector(width: u32, max_states: States, count: u32) -> Decoded
     ensures { λ r. ⌜ r ≡ known (BitVector width «max_states») count ⌝ }
 {
-    Decoded::Known(Description {
-        encoding: Encoding::BitVector { width, max_states },
-        count,
-    })
+    Decoded::Known(Description::new(Encoding::BitVector { width, max_states }, count))
 }
 
 // An arm for each set: the compiler then sees that the numbers of both sides are the same.
@@ -92,44 +90,47 @@ pub fn decode(flat: FlatDescription) -> Decoded
         return Decoded::Unknown;
     }
     if flat.kind == 0 {
-        return Decoded::Known(Description {
-            encoding: Encoding::Event,
-            count,
-        });
+        return Decoded::Known(Description::new(Encoding::Event, count));
     }
     if flat.kind == 1 {
-        return Decoded::Known(Description {
-            encoding: Encoding::Real,
-            count,
-        });
+        return Decoded::Known(Description::new(Encoding::Real, count));
     }
     Decoded::Unknown
+}
+
+fn encoding_number(encoding: Encoding) -> u32
+    ensures { λ r. ⌜ r ≡ kindNumber (kindOf encoding) ⌝ }
+{
+    match encoding {
+        Encoding::Event => 0,
+        Encoding::Real => 1,
+        Encoding::BitVector {
+            width: _,
+            max_states: _,
+        } => 2,
+    }
 }
 
 pub fn encode(description: Description) -> FlatDescription
     ensures { λ r. ⌜ r ≡ encoded description ⌝ }
 {
-    let count = description.count;
     let encoding = description.encoding;
-    match encoding {
-        Encoding::Event => FlatDescription {
-            kind: 0,
-            width: 0,
-            set: 0,
-            count,
-        },
-        Encoding::Real => FlatDescription {
-            kind: 1,
-            width: 0,
-            set: 0,
-            count,
-        },
-        Encoding::BitVector { width, max_states } => FlatDescription {
-            kind: 2,
-            width,
-            set: set_number(max_states),
-            count,
-        },
+    FlatDescription {
+        kind: encoding_number(encoding),
+        width: encoding.width(),
+        set: set_number(encoding.largest()),
+        count: description.count,
+    }
+}
+
+fn no_description() -> FlatDescription
+    ensures { λ r. ⌜ r ≡ noDescription ⌝ }
+{
+    FlatDescription {
+        kind: 3,
+        width: 0,
+        set: 0,
+        count: 0,
     }
 }
 
@@ -145,12 +146,7 @@ pub fn flat_made(made: Made) -> FlatMade
         },
         Made::Refused(refusal) => FlatMade {
             number: refusal_number(refusal),
-            description: FlatDescription {
-                kind: 3,
-                width: 0,
-                set: 0,
-                count: 0,
-            },
+            description: no_description(),
         },
     }
 }

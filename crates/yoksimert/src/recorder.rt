@@ -2,7 +2,7 @@
 // stores what that hands back.
 ghost use mathlib.Core.Path.{_≡_};
 ghost use Rattle.fst.specs.Refusal.{Outcome};
-ghost use Rattle.fst.specs.Record.{freshReal};
+ghost use Rattle.fst.specs.Record.{lent, freshReal};
 ghost use Rattle.fst.specs.Change.{text, real};
 ghost use Rattle.yoksimert.specs.Flat.{encoded};
 ghost use Rattle.yoksimert.specs.Exports.{leftByFlat, flatAdd};
@@ -51,7 +51,7 @@ fn record_change(
     index: u32,
     value: &[u8],
 ) -> Recorded
-    ensures { λ r. ⌜ leftByFlat (r .number) (addedTo recorder r) (now (bytes .exit)) (now (indices .exit)) ≡ flatAdd recorder (record { bytes = now (bytes .entry); byteStart = «byte_start»; indices = now (indices .entry); indexStart = «index_start» }) index (text (now (value .entry))) ⌝ }
+    ensures { λ r. ⌜ leftByFlat (r .number) (addedTo recorder r) (now (bytes .exit)) (now (indices .exit)) ≡ flatAdd recorder (lent (now (bytes .entry)) «byte_start» (now (indices .entry)) «index_start») index (text (now (value .entry))) ⌝ }
 {
     let Decoded::Known(known) = decode(recorder) else {
         return Recorded {
@@ -72,7 +72,7 @@ fn record_real(
     index: u32,
     bits: u64,
 ) -> Recorded
-    ensures { λ r. ⌜ leftByFlat (r .number) (addedTo recorder r) (now (bytes .exit)) (now (indices .exit)) ≡ flatAdd recorder (record { bytes = now (bytes .entry); byteStart = «byte_start»; indices = now (indices .entry); indexStart = «index_start» }) index (real bits) ⌝ }
+    ensures { λ r. ⌜ leftByFlat (r .number) (addedTo recorder r) (now (bytes .exit)) (now (indices .exit)) ≡ flatAdd recorder (lent (now (bytes .entry)) «byte_start» (now (indices .entry)) «index_start») index (real bits) ⌝ }
 {
     let Decoded::Known(known) = decode(recorder) else {
         return Recorded {
@@ -141,7 +141,7 @@ pub extern "C" fn yoksimert_recorder_add_change(
     index: u32,
     value: &[u8],
 ) -> u32
-    ensures { λ n. ⌜ leftByFlat n (now (recorder .exit)) (now (bytes .exit)) (now (indices .exit)) ≡ flatAdd (now (recorder .entry)) (record { bytes = now (bytes .entry); byteStart = «byte_start»; indices = now (indices .entry); indexStart = «index_start» }) index (text (now (value .entry))) ⌝ }
+    ensures { λ n. ⌜ leftByFlat n (now (recorder .exit)) (now (bytes .exit)) (now (indices .exit)) ≡ flatAdd (now (recorder .entry)) (lent (now (bytes .entry)) «byte_start» (now (indices .entry)) «index_start») index (text (now (value .entry))) ⌝ }
 {
     let s = record_change(
         *recorder,
@@ -168,7 +168,7 @@ pub extern "C" fn yoksimert_recorder_add_real(
     index: u32,
     bits: u64,
 ) -> u32
-    ensures { λ n. ⌜ leftByFlat n (now (recorder .exit)) (now (bytes .exit)) (now (indices .exit)) ≡ flatAdd (now (recorder .entry)) (record { bytes = now (bytes .entry); byteStart = «byte_start»; indices = now (indices .entry); indexStart = «index_start» }) index (real bits) ⌝ }
+    ensures { λ n. ⌜ leftByFlat n (now (recorder .exit)) (now (bytes .exit)) (now (indices .exit)) ≡ flatAdd (now (recorder .entry)) (lent (now (bytes .entry)) «byte_start» (now (indices .entry)) «index_start») index (real bits) ⌝ }
 {
     let s = record_real(
         *recorder,

@@ -101,7 +101,7 @@ fn adds(name: &'static str, callee: &'static str, last: Parameter, change: &'sta
         Form::Value => last.name.to_string(),
         Form::Slice | Form::MutSlice => format!("(now {})", last.name),
     };
-    let lent = "(record { bytes = now bytes; byteStart = byte-start; indices = now indices; indexStart = index-start })";
+    let lent = "(lent (now bytes) byte-start (now indices) index-start)";
     Call {
         name,
         callee,
@@ -111,6 +111,7 @@ fn adds(name: &'static str, callee: &'static str, last: Parameter, change: &'sta
             "leftByFlat (r .number) (addedTo old r) bytes′ indices′ ≡ flatAdd old {lent} index ({change} {put})"
         ),
         cites: vec![
+            ("Rattle.fst.specs.Record", "lent"),
             ("Rattle.fst.specs.Change", change),
             (
                 "Rattle.yoksimert.specs.Exports",

@@ -6,19 +6,19 @@ use Prim.Native.Nat.{_+_, _*_, _≤_}
 use native.Mathlib.Omega.{arith}
 use lib.ListN.{length}
 use Rattle.yoksimert.proofs.Places.{placed}
-use Rattle.yoksimert.proofs.Flattened.{read-unknown, read-refused, read-known}
+use Rattle.yoksimert.proofs.Flattened.{given-by, read-unknown, read-refused, read-known}
 use borrow.Author.Needs.{needs}
 use Rattle.yoksimert.proofs.exports.yoksimert_read.Statement.{statement}
 use Rattle.yoksimert.proofs.exports.yoksimert_read.Tie as tie
 
 -- the entry lies within the bytes, and its part is no longer than it
 at : (c : tie.After-level-length) → (let a = c .before .before .before .before .before .before .before .before .before .before .before .args in
-    let z = c .before .size-of .result in
+    let z = c .before .size .result in
     (a .byte-start + (a .entry * z + z) ≤ length (now (a .bytes))) × (c .level-length .result ≤ z))
 at c =
     let a = c .before .before .before .before .before .before .before .before .before .before .before .args in
-    let p = placed _ (now (a .bytes)) (a .byte-start) (a .entry) _ (c .before .before .before .before .before .read-entry .ensures) _ _ (c .before .before .before .kind .given .1) in
-    rw (c .before .size-of .ensures, c .level-length .ensures, p .own) (p .inside, p .short)
+    let p = placed _ (now (a .bytes)) (a .byte-start) (a .entry) _ (given-by _ (c .before .before .before .before .before .read-entry .ensures) (c .before .before .before .kind .given .1)) in
+    rw (c .before .size .ensures, c .level-length .ensures, p .own) (p .inside, p .short)
 
 returns : tie.Need-returns
 returns c =
@@ -41,15 +41,15 @@ returns-2 : tie.Need-returns-2
 returns-2 c =
     let a = c .before .before .before .before .before .before .before .before .before .before .before .args in
     c .no-entry2 .ensures
-    ∙ read-refused (a .description) (now (a .bytes)) (a .byte-start) (a .entry) _ (sym (c .before .before .before .before .before .before .before .before .before .decode .ensures) ∙ c .before .before .before .before .before .before .before .known .given .1) _ (c .before .before .before .before .before .read-entry .ensures) _ (c .before .before .before .refusal .given .1) _ (c .before .refusal-number .ensures)
+    ∙ read-refused (a .description) (now (a .bytes)) (a .byte-start) (a .entry) _ (sym (c .before .before .before .before .before .before .before .before .before .decode .ensures) ∙ c .before .before .before .before .before .before .before .known .given .1) _ (c .before .before .before .before .before .read-entry .ensures) (c .before .before .before .refusal .given .1) (c .before .refusal-number .ensures)
 
 returns-3 : tie.Need-returns-3
 returns-3 c =
     let a = c .before .before .before .before .before .before .before .before .before .before .before .before .before .args in
     let r = c .before .before .before .before .before .before .before .read-entry .ensures in
     let told = c .before .before .before .before .before .kind .given .1 in
-    read-known (a .description) (now (a .bytes)) (a .byte-start) (a .entry) _ (sym (c .before .before .before .before .before .before .before .before .before .before .before .decode .ensures) ∙ c .before .before .before .before .before .before .before .before .before .known .given .1) _ r _ _ told _ _ _ (c .before .kind-number .ensures) (c .set-number .ensures) (c .before .before .before .size-of .ensures) _
-    (c .before .before .level-length .ensures ∙ placed _ (now (a .bytes)) (a .byte-start) (a .entry) _ r _ _ told .own)
+    read-known (a .description) (now (a .bytes)) (a .byte-start) (a .entry) _ (sym (c .before .before .before .before .before .before .before .before .before .before .before .decode .ensures) ∙ c .before .before .before .before .before .before .before .before .before .known .given .1) _ r told (c .before .kind-number .ensures) (c .set-number .ensures) (c .before .before .before .size .ensures)
+    (c .before .before .level-length .ensures ∙ placed _ (now (a .bytes)) (a .byte-start) (a .entry) _ (given-by _ r told) .own)
 
 pub yoksimert-read-spec : {M : Type 1} → statement M
 yoksimert-read-spec =

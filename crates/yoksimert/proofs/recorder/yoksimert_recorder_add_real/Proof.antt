@@ -42,6 +42,7 @@ use denote.Exit.{yes}
 use denote.Signature.{plain}
 use Rattle.yoksimert.specs.declared.FlatDescription.{FlatDescription}
 use Rattle.yoksimert.specs.declared.recorder.Recorded.{Recorded}
+use Rattle.fst.specs.Record.{lent}
 use Rattle.fst.specs.Change.{real}
 use Rattle.yoksimert.specs.Exports.{leftByFlat, flatAdd}
 use Rattle.yoksimert.specs.Recorder.{addedTo}
@@ -128,7 +129,7 @@ module _ {M : Type 1} (𝓤 : URA M) (H : Heap 𝓤) (A : Atoms 𝓤) (W : Given
 
   -- what the callee ensures, of its result and the last lists
   abbrev Ensured : Recorded → List ℕ → List ℕ → Type 0
-  Ensured r bytes′ indices′ = leftByFlat (r .number) (addedTo old r) bytes′ indices′ ≡ flatAdd old (record { bytes = now bytes; byteStart = byte-start; indices = now indices; indexStart = index-start }) index (real bits)
+  Ensured r bytes′ indices′ = leftByFlat (r .number) (addedTo old r) bytes′ indices′ ≡ flatAdd old (lent (now bytes) byte-start (now indices) index-start) index (real bits)
 
   leaves : (r : Recorded) (bytes′ indices′ : List ℕ) → Ensured r bytes′ indices′ → length bytes′ ≡ length (now bytes) → length indices′ ≡ length (now indices) → r .number < 2 ^ 32
       → ent 𝓤 (⋆ 𝓤 H A (‵ (fobs γ (recorder.the-row .coded .code (addedTo old r))) ∷ ‵ (fbor κ0 (Body (mem recorder.the-row) b o γ)) ∷ ‵ (flft κ0 q0) ∷ Tokens ∷ ‵ (finally u32 (indices .name) indices′) ∷ ‵ (finally u8 (bytes .name) bytes′) ∷ Kept ∷ [])) (Post (vint w32 (r .number)))
