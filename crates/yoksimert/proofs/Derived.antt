@@ -19,11 +19,7 @@ use Rattle.yoksimert.specs.declared.FlatDerivation.{FlatDerivation}
 use Rattle.yoksimert.specs.declared.FlatInput.{FlatInput}
 use Rattle.yoksimert.specs.declared.FlatInputs.{FlatInputs}
 use Rattle.yoksimert.specs.Flat.{decoded, flatMade}
-use Rattle.yoksimert.specs.Derivations.{derivationOf, describedBy, inputOf, inputsBy, derivedBy, flatDerived, flatDerive}
-
-pub input-by : (f : FlatInput) (x : Decoded) → decoded (f .description) ≡ x
-    → _≡_ {A = Input} (record { description = describedBy x; «byte_start» = f .«byte_start»; «index_start» = f .«index_start» }) (inputOf f)
-input-by f x h = rw h
+use Rattle.yoksimert.specs.Derivations.{derivationOf, inputOf, inputsBy, derivedBy, flatDerived, flatDerive}
 
 -- an input that is no description is refused with 2
 pub unknown-is-bad : (f : FlatInput) (bytes indices : List ℕ) → decoded (f .description) ≡ Unknown → isBadInput bytes indices (inputOf f) ≡ true

@@ -11,8 +11,8 @@ use Rattle.fst.specs.declared.Description.{Description}
 use Rattle.fst.specs.declared.Added.{Added}
 use Rattle.fst.specs.declared.Refusal.{Refusal}
 use Rattle.fst.specs.Refusal.{Reply, refused, given, Outcome, number, numberOf}
-use Rattle.fst.specs.Record.{Lent, sizeOf}
-use Rattle.fst.specs.Change.{Change, Recorder, addChange, leftBy}
+use Rattle.fst.specs.Record.{Lent, Recorder, sizeOf}
+use Rattle.fst.specs.Change.{Change, addChange, leftBy}
 use Rattle.runs.proofs.Histories.{refused-unchanged}
 use Rattle.signal.specs.declared.Kind.{Kind}
 use Rattle.signal.specs.declared.EntryAnswer.{EntryAnswer}
@@ -31,7 +31,7 @@ use Rattle.yoksimert.proofs.Numbers.{forth}
 
 -- ---- Add a change
 
-abbrev flatten : Recorder → FlatRecorder
+abbrev flatten : Recorder Description → FlatRecorder
 flatten r = record { description = encoded (r .description); bytes = r .bytes; indices = r .indices }
 
 pub made-equal : {n m : ℕ} {f g : FlatDescription} → n ≡ m → f ≡ g → _≡_ {A = FlatAdded} (record { number = n; next = f }) (record { number = m; next = g })

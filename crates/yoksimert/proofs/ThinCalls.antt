@@ -1,9 +1,10 @@
 -- What the calls store in a lent recorder: a change keeps the kind and the width.
 -- Assumes nothing.
-use mathlib.Core.Path.{_≡_, refl, sym, ap, _∙_}
+use mathlib.Core.Path.{_≡_, refl, sym, ap, _∙_, subst}
 use mathlib.Core.Bool.{Bool, true, false, cond}
-use mathlib.Core.List.{List, [], _∷_}
+use mathlib.Core.List.{List, [], _∷_, _++_}
 use Prim.Native.Nat.{ℕ}
+use lib.ListN.{length}
 use Rattle.fst.specs.declared.Encoding.{Encoding}
 use Rattle.fst.specs.declared.Encoding.the-variants.{Event, Real, BitVector}
 use Rattle.fst.specs.declared.Description.{Description}
@@ -11,13 +12,15 @@ use Rattle.fst.specs.declared.Added.{Added}
 use Rattle.fst.specs.declared.Refusal.{Refusal}
 use Rattle.fst.specs.declared.Made.{Made}
 use Rattle.fst.specs.declared.Made.the-variants as made
-use Rattle.fst.specs.Refusal.{given, Test, _⇐_, tried, Outcome, outcome, number, numberOf, madeOf}
-use Rattle.fst.specs.Record.{Lent, Kept, sizeOf, keptIn, fresh}
-use Rattle.fst.specs.Change.{Change, text, real, repeats, appended, changed, refusals, Recorder, stored, addChange, leftBy}
+use Rattle.fst.specs.Refusal.{Reply, given, tried, Outcome, outcome, number, numberOf, madeOf}
+use Rattle.fst.specs.Record.{Lent, Recorder, sizeOf, widthOf, keptIn, fresh}
+use Rattle.fst.specs.Change.{Change, text, real, repeats, appended, changed, withChange, refusals, inHand, stored, addChange, leftBy}
+use Rattle.fst.proofs.Refusals.{Result, through, stopped, result}
+use Rattle.signal.specs.Read.{kindOf}
 use Rattle.yoksimert.specs.declared.FlatDescription.{FlatDescription}
 use Rattle.yoksimert.specs.declared.recorder.Recorded.{Recorded}
 use Rattle.yoksimert.specs.declared.Decoded.the-variants.{Known}
-use Rattle.yoksimert.specs.Flat.{decoded, flatOf, encoded}
+use Rattle.yoksimert.specs.Flat.{decoded, kindNumber, encoded}
 use Rattle.yoksimert.specs.Exports.{flatAdd, leftByFlat}
 use Rattle.yoksimert.specs.Recorder.{recordedBy, addedTo, madeOver, flatFresh}
 use Rattle.yoksimert.proofs.Numbers.{forth}
@@ -29,48 +32,45 @@ left-equal p q = rw (p, q)
 
 -- ---- kind and width
 
--- the numbers of one encoding and those of another agree in both
+-- two encodings agree in both
 record Alike (e g : Encoding) : Type 0 where
-  kind : (n m : ℕ) → (flatOf e n) .kind ≡ (flatOf g m) .kind
-  width : (n m : ℕ) → (flatOf e n) .width ≡ (flatOf g m) .width
+  kind : kindOf e ≡ kindOf g
+  width : widthOf e ≡ widthOf g
 
-alike : (e : Encoding) → Alike e e
-alike Event = record { kind = λ n m. refl; width = λ n m. refl }
-alike Real = record { kind = λ n m. refl; width = λ n m. refl }
-alike (BitVector w M) = record { kind = λ n m. refl; width = λ n m. refl }
+alike : {e : Encoding} → Alike e e
+alike = record { kind = refl; width = refl }
 
--- what holds of both branches holds of the one taken
-either : {A : Type 0} (P : A → Type 0) (b : Bool) (x y : A) → P x → P y → P (cond b x y)
-either P true x y p q = p
-either P false x y p q = q
-
--- what holds of the old state and of the new one holds of the state that a call leaves
-left-holds : {A : Type 0} (P : A → Type 0) (l : List Test) (old new : A) → P old → P new → P ((outcome old (tried l (given new))) .left)
-unfolding tried
-left-holds P [] old new p q = q
-left-holds P ((n ⇐ true) ∷ l) old new p q = p
-left-holds P ((n ⇐ false) ∷ l) old new p q = left-holds P l old new p q
-
-appended-alike : (e g : Encoding) → Alike e g → (n : ℕ) (bytes indices : List ℕ) (i : ℕ) (new : List ℕ)
-    → Alike ((appended e n bytes indices i new) .description .encoding) g
+appended-keeps : (e : Encoding) (bytes indices : List ℕ) (i : ℕ) (new : List ℕ) → (appended e bytes indices i new) .encoding ≡ e
 unfolding appended
-appended-alike e g a n bytes indices i new = either (λ (k : Kept). Alike (k .description .encoding) g) (repeats (sizeOf e) n bytes new) _ _ a a
+appended-keeps e bytes indices i new = go (repeats (sizeOf e) (length indices) bytes new)
+  where
+    go : (b : Bool) → (cond b (record { encoding = e; bytes = bytes; indices = indices }) (record { encoding = e; bytes = bytes ++ new; indices = indices ++ (i ∷ []) })) .encoding ≡ e
+    go true = refl
+    go false = refl
 
-changed-alike : (e : Encoding) (n : ℕ) (bytes indices : List ℕ) (i : ℕ) (c : Change) → Alike ((changed e n bytes indices i c) .description .encoding) e
+changed-alike : (e : Encoding) (bytes indices : List ℕ) (i : ℕ) (c : Change) → Alike ((changed e bytes indices i c) .encoding) e
 unfolding changed
-changed-alike Event n bytes indices i (text s) = alike Event
-changed-alike Event n bytes indices i (real x) = alike Event
-changed-alike Real n bytes indices i (text s) = alike Real
-changed-alike Real n bytes indices i (real x) = appended-alike Real Real (alike Real) n bytes indices i _
-changed-alike (BitVector w M) n bytes indices i (text s) =
-    appended-alike (BitVector w _) (BitVector w M) (record { kind = λ n m. refl; width = λ n m. refl }) n _ indices i _
-changed-alike (BitVector w M) n bytes indices i (real x) = alike (BitVector w M)
+changed-alike Event bytes indices i (text s) = alike
+changed-alike Event bytes indices i (real x) = alike
+changed-alike Real bytes indices i (text s) = alike
+changed-alike Real bytes indices i (real x) = rw appended-keeps alike
+changed-alike (BitVector w M) bytes indices i (text s) = rw appended-keeps (record { kind = refl; width = refl })
+changed-alike (BitVector w M) bytes indices i (real x) = alike
 
+-- of what a call leaves: the old description, or the new one
 added-alike : (d : Description) (l : Lent) (i : ℕ) (c : Change) → Alike ((addChange d l i c) .left .description .encoding) (d .encoding)
-unfolding addChange stored keptIn
-added-alike d l i c =
-    left-holds (λ (r : Recorder). Alike (r .description .encoding) (d .encoding)) (refusals d l i c) _ _ (alike (d .encoding))
-    (changed-alike (d .encoding) (d .count) _ _ i c)
+unfolding addChange refusals stored keptIn
+added-alike d l i c = go (result (given new) (refusals d l i c) tt)
+  where
+    new : Recorder Description
+    new = stored l (withChange (keptIn d l) i c)
+
+    Claim : Reply (Recorder Description) → Type 0
+    Claim r = Alike ((outcome (inHand d l) r) .left .description .encoding) (d .encoding)
+
+    go : Result (given new) (refusals d l i c) → Claim (tried (refusals d l i c) (given new))
+    go (through p e) = subst Claim (sym e) (changed-alike (d .encoding) _ _ i c)
+    go (stopped n e) = subst Claim (sym e) alike
 
 -- ---- the calls
 
@@ -82,14 +82,17 @@ module _ (f : FlatDescription) (l : Lent) (i : ℕ) (c : Change) where
       ∙ ap (λ (g : FlatDescription). leftByFlat (numberOf (a .verdict)) g bytes indices) same
       ∙ add-known f l i c h a e
     where
-      next : a .next ≡ (addChange d l i c) .left .description
-      next = ap (λ (o : Outcome Recorder). o .left .description) e
+      was : encoded d ≡ f
+      was = forth f d h
+
+      stays : Alike (a .next .encoding) (d .encoding)
+      stays = rw (ap (λ (o : Outcome (Recorder Description)). o .left .description) e) (added-alike d l i c)
 
       kind : f .kind ≡ (encoded (a .next)) .kind
-      kind = rw next (ap (λ (g : FlatDescription). g .kind) (sym (forth f d h)) ∙ sym (added-alike d l i c .kind _ _))
+      kind = ap (λ (g : FlatDescription). g .kind) (sym was) ∙ ap kindNumber (sym (stays .kind))
 
       width : f .width ≡ (encoded (a .next)) .width
-      width = rw next (ap (λ (g : FlatDescription). g .width) (sym (forth f d h)) ∙ sym (added-alike d l i c .width _ _))
+      width = ap (λ (g : FlatDescription). g .width) (sym was) ∙ sym (stays .width)
 
       same : addedTo f (recordedBy a) ≡ encoded (a .next)
       same = rw (kind, width)

@@ -2,23 +2,17 @@
 -- Assumes nothing.
 use Prim.Native.Nat.{ℕ}
 use mathlib.Core.List.{List, [], _∷_, map}
-use Rattle.value.specs.declared.States.the-variants.{Two}
-use Rattle.fst.specs.declared.Encoding.the-variants.{BitVector}
-use Rattle.fst.specs.declared.Description.{Description}
 use Rattle.fst.specs.Refusal.{Outcome}
-use Rattle.fst.specs.Record.{empty}
 use Rattle.derivation.specs.declared.DerivedBitVecSignal.{DerivedBitVecSignal}
 use Rattle.steps.specs.declared.Input.{Input}
 use Rattle.steps.specs.declared.Inputs.{Inputs}
 use Rattle.transform.specs.Derive.{Derived, derive}
-use Rattle.yoksimert.specs.declared.Decoded.{Decoded}
-use Rattle.yoksimert.specs.declared.Decoded.the-variants.{Known, Unknown}
 use Rattle.yoksimert.specs.declared.FlatMade.{FlatMade}
 use Rattle.yoksimert.specs.declared.FlatDerivation.{FlatDerivation}
 use Rattle.yoksimert.specs.declared.FlatJoined.{FlatJoined}
 use Rattle.yoksimert.specs.declared.FlatInput.{FlatInput}
 use Rattle.yoksimert.specs.declared.FlatInputs.{FlatInputs}
-use Rattle.yoksimert.specs.Flat.{decoded, flatMade}
+use Rattle.yoksimert.specs.Flat.{decoded, describedBy, flatMade}
 
 -- ---- Add a piece
 
@@ -50,11 +44,6 @@ slotsOf f =
     ∷ f .«input_6»
     ∷ f .«input_7»
     ∷ []
-
--- numbers that are no description are taken for a bit vector of width 0, which is refused with 2
-abbrev pub describedBy : Decoded → Description
-describedBy (Known d) = d
-describedBy Unknown = empty (BitVector 0 Two)
 
 abbrev pub inputOf : FlatInput → Input
 inputOf f =

@@ -2,9 +2,10 @@
 -- Assumes nothing.
 use Prim.Native.Nat.{ℕ, _+_, _*_}
 use mathlib.Core.List.{List}
+use Rattle.fst.specs.declared.Description.{Description}
 use Rattle.fst.specs.Refusal.{Outcome, refused}
-use Rattle.fst.specs.Record.{Lent, Held, sizeOf}
-use Rattle.fst.specs.Change.{Change, Recorder, addChange}
+use Rattle.fst.specs.Record.{Lent, Recorder, sizeOf}
+use Rattle.fst.specs.Change.{Change, addChange}
 use Rattle.signal.specs.Read.{readEntry, readText}
 use Rattle.signal.specs.Compare.{compareRecords}
 use Rattle.yoksimert.specs.declared.FlatDescription.{FlatDescription}
@@ -16,11 +17,11 @@ use Rattle.yoksimert.specs.Flat.{decoded, encoded, noEntry, flatEntry, f
 
 -- ---- Add a change
 
--- what a call has in hand: the numbers and the two slices, whole
+-- the numbers and the two slices, whole
 abbrev pub FlatRecorder : Type 0
-FlatRecorder = Held FlatDescription
+FlatRecorder = Recorder FlatDescription
 
-abbrev pub flatLeft : Outcome Recorder → Outcome FlatRecorder
+abbrev pub flatLeft : Outcome (Recorder Description) → Outcome FlatRecorder
 flatLeft o =
     record {
       refused = o .refused;

@@ -5,12 +5,13 @@ use mathlib.Core.Bool.{Bool, true, false, cond, _&&_}
 use lib.Dec.{eqb, leb}
 use lib.ListN.{length}
 use Rattle.value.specs.declared.States.{States}
+use Rattle.value.specs.declared.States.the-variants.{Two}
 use Rattle.value.specs.Level.{markOf, setAt, lenOf}
 use Rattle.fst.specs.declared.Encoding.{Encoding}
 use Rattle.fst.specs.declared.Encoding.the-variants.{Event, Real, BitVector}
 use Rattle.fst.specs.declared.Description.{Description}
 use Rattle.fst.specs.Refusal.{Reply, refused, given}
-use Rattle.fst.specs.Record.{widthOf, largestIn, described}
+use Rattle.fst.specs.Record.{widthOf, largestIn, described, empty}
 use Rattle.signal.specs.declared.Kind.{Kind}
 use Rattle.signal.specs.declared.Kind.the-variants as kind
 use Rattle.signal.specs.declared.NextIndex.{NextIndex}
@@ -39,6 +40,11 @@ decoded f =
     (cond (eqb (f .width) 0 && eqb (f .set) 0)
     (cond (eqb (f .kind) 0) (known Event (f .count)) (cond (eqb (f .kind) 1) (known Real (f .count)) Unknown))
     Unknown)
+
+-- numbers that are no description are taken for a bit vector of width 0, which is refused with 2
+abbrev pub describedBy : Decoded → Description
+describedBy (Known d) = d
+describedBy Unknown = empty (BitVector 0 Two)
 
 abbrev pub kindNumber : Kind → ℕ
 kindNumber kind.Event = 0

@@ -2,17 +2,14 @@
 -- Assumes nothing.
 use Prim.Native.Nat.{ℕ}
 use mathlib.Core.List.{[]}
-use Rattle.value.specs.Slice.{part}
 use Rattle.fst.specs.declared.Description.{Description}
 use Rattle.fst.specs.declared.Added.{Added}
 use Rattle.fst.specs.Refusal.{Reply, refused, given, Outcome, outcome, numberOf}
-use Rattle.fst.specs.Record.{Lent, Held, usedSize, fresh}
+use Rattle.fst.specs.Record.{Lent, Kept, Held, keptIn, fresh}
 use Rattle.runs.specs.Runs.{Records}
 use Rattle.yoksimert.specs.declared.FlatDescription.{FlatDescription}
 use Rattle.yoksimert.specs.declared.recorder.Recorded.{Recorded}
-use Rattle.yoksimert.specs.declared.Decoded.{Decoded}
-use Rattle.yoksimert.specs.declared.Decoded.the-variants.{Known, Unknown}
-use Rattle.yoksimert.specs.Flat.{decoded, encoded}
+use Rattle.yoksimert.specs.Flat.{decoded, describedBy, encoded}
 use Rattle.yoksimert.specs.Exports.{flatAdd}
 
 -- what an answer says of a recorder
@@ -36,19 +33,15 @@ flatFresh f w = madeOver f (fresh w)
 
 -- ---- a run
 
--- the bytes that are used; numbers that are no description use none
-abbrev pub usedBy : Decoded → ℕ
-usedBy (Known d) = usedSize d
-usedBy Unknown = 0
-
--- what a recorder finds in two slices
+-- what a recorder finds in two slices: what its description does
 unfoldable pub flatKeptIn : FlatDescription → Lent → Held FlatDescription
 flatKeptIn f l =
-    record {
-      description = f;
-      bytes = part (l .byteStart) (usedBy (decoded f)) (l .bytes);
-      indices = part (l .indexStart) (f .count) (l .indices);
-    }
+    let k = keptIn (describedBy (decoded f)) l in
+    record { description = f; bytes = k .bytes; indices = k .indices }
+
+-- all of the numbers but the encoding left out
+abbrev pub flatKeptOf : Held FlatDescription → Kept
+flatKeptOf h = record { encoding = (describedBy (decoded (h .description))) .encoding; bytes = h .bytes; indices = h .indices }
 
 -- those of Add a change with the recorder lent
 abbrev pub byNumbers : Records FlatDescription

@@ -2,6 +2,7 @@
 ghost use mathlib.Core.Path.{_≡_};
 ghost use Rattle.derivation.specs.declared.Side.the-variants.{Left, Right};
 ghost use Rattle.derivation.specs.Piece.{joinedOf, addPiece, addFull};
+ghost use Rattle.yoksimert.specs.Flat.{describedBy};
 ghost use Rattle.yoksimert.specs.Derivations.{derivationOf, leftByJoined, inputOf, inputsBy, derivedBy, flatDerive};
 use crate::Decoded;
 use crate::FlatDerivation;
@@ -122,22 +123,26 @@ pub extern "C" fn yoksimert_concat_right_full(
 // ---- Derive
 
 // Numbers that are no description are taken for a record that is refused with 2.
+fn described(decoded: Decoded) -> Description
+    ensures { λ r. ⌜ r ≡ describedBy decoded ⌝ }
+{
+    match decoded {
+        Decoded::Known(description) => description,
+        Decoded::Unknown => Description::new(
+            Encoding::BitVector {
+                width: 0,
+                max_states: States::Two,
+            },
+            0,
+        ),
+    }
+}
+
 fn input_of(flat: FlatInput) -> Input
     ensures { λ r. ⌜ r ≡ inputOf flat ⌝ }
 {
     let numbers = flat.description;
-    let Decoded::Known(description) = decode(numbers) else {
-        let bad = Encoding::BitVector {
-            width: 0,
-            max_states: States::Two,
-        };
-        let description = Description::new(bad, 0);
-        return Input {
-            description,
-            byte_start: flat.byte_start,
-            index_start: flat.index_start,
-        };
-    };
+    let description = described(decode(numbers));
     Input {
         description,
         byte_start: flat.byte_start,

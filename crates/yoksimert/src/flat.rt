@@ -63,10 +63,16 @@ pub fn kind_number(kind: Kind) -> u32
 
 // ---- descriptions
 
+fn known(encoding: Encoding, count: u32) -> Decoded
+    ensures { λ r. ⌜ r ≡ known encoding count ⌝ }
+{
+    Decoded::Known(Description::new(encoding, count))
+}
+
 fn known_vector(width: u32, max_states: States, count: u32) -> Decoded
     ensures { λ r. ⌜ r ≡ known (BitVector width «max_states») count ⌝ }
 {
-    Decoded::Known(Description::new(Encoding::BitVector { width, max_states }, count))
+    known(Encoding::BitVector { width, max_states }, count)
 }
 
 // An arm for each set: the compiler then sees that the numbers of both sides are the same.
@@ -90,10 +96,10 @@ pub fn decode(flat: FlatDescription) -> Decoded
         return Decoded::Unknown;
     }
     if flat.kind == 0 {
-        return Decoded::Known(Description::new(Encoding::Event, count));
+        return known(Encoding::Event, count);
     }
     if flat.kind == 1 {
-        return Decoded::Known(Description::new(Encoding::Real, count));
+        return known(Encoding::Real, count);
     }
     Decoded::Unknown
 }

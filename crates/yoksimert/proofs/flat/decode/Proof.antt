@@ -36,10 +36,14 @@ returns-6 : tie.Need-returns-6
 returns-6 c = some-set (c .before .before .before .before .before .before .args .flat) (c .before .before .before .before .if1 .left) (c .before .before .if2 .left) (c .if3 .taken)
 
 returns-7 : tie.Need-returns-7
-returns-7 c = event (c .before .before .before .before .before .before .before .before .args .flat) (c .before .before .before .before .before .before .if1 .left) (c .before .before .before .before .if2 .left) (c .before .before .if3 .left) (c .if4 .taken)
+returns-7 c =
+    let m = c .before in
+    c .known .ensures ∙ event (m .before .before .before .before .before .before .before .before .args .flat) (m .before .before .before .before .before .before .if1 .left) (m .before .before .before .before .if2 .left) (m .before .before .if3 .left) (m .if4 .taken)
 
 returns-8 : tie.Need-returns-8
-returns-8 c = real (c .before .before .before .before .before .before .before .before .before .before .args .flat) (c .before .before .before .before .before .before .before .before .if1 .left) (c .before .before .before .before .before .before .if2 .left) (c .before .before .before .before .if3 .left) (c .before .before .if4 .left) (c .if5 .taken)
+returns-8 c =
+    let m = c .before in
+    c .known2 .ensures ∙ real (m .before .before .before .before .before .before .before .before .before .before .args .flat) (m .before .before .before .before .before .before .before .before .if1 .left) (m .before .before .before .before .before .before .if2 .left) (m .before .before .before .before .if3 .left) (m .before .before .if4 .left) (m .if5 .taken)
 
 returns-9 : tie.Need-returns-9
 returns-9 c = no-kind (c .before .before .before .before .before .before .before .before .before .before .args .flat) (c .before .before .before .before .before .before .before .before .if1 .left) (c .before .before .before .before .before .before .if2 .left) (c .before .before .before .before .if3 .left) (c .before .before .if4 .left) (c .if5 .left)
@@ -57,6 +61,8 @@ decode-spec =
     returns-4
     returns-5
     returns-6
+    (λ c κs. search needs)
     returns-7
+    (λ c κs. search needs)
     returns-8
     returns-9)
