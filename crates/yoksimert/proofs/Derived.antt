@@ -19,7 +19,7 @@ use Rattle.yoksimert.specs.declared.FlatDerivation.{FlatDerivation}
 use Rattle.yoksimert.specs.declared.FlatInput.{FlatInput}
 use Rattle.yoksimert.specs.declared.FlatInputs.{FlatInputs}
 use Rattle.yoksimert.specs.Flat.{decoded, flatMade}
-use Rattle.yoksimert.specs.Derivations.{derivationOf, inputOf, inputsBy, derivedBy, flatDerived, flatDerive}
+use Rattle.yoksimert.specs.Derivations.{derivationOf, inputOf, inputsBy, madeBy, flatDerived, flatDerive}
 
 -- an input that is no description is refused with 2
 pub unknown-is-bad : (f : FlatInput) (bytes indices : List ℕ) → decoded (f .description) ≡ Unknown → isBadInput bytes indices (inputOf f) ≡ true
@@ -35,6 +35,6 @@ module _ (f : FlatDerivation) (names pieces : List ℕ) (inputs : FlatInputs) (b
   pub derive-by : {d : DerivedBitVecSignal} {is : Inputs} → d ≡ derivationOf f names pieces → is ≡ inputsBy inputs
       → {r : FlatMade} {m : Reply Description} {b i : List ℕ} → r ≡ flatMade m
       → _≡_ {A = Derived} (record { answer = m; bytes = b; indices = i }) (derive d is bytes indices outBytes outIndices)
-      → derivedBy r b i ≡ flatDerive f names pieces inputs bytes indices outBytes outIndices
+      → madeBy r b i ≡ flatDerive f names pieces inputs bytes indices outBytes outIndices
   unfolding flatDerive
   derive-by p q s t = rw (s, ← p, ← q) (ap flatDerived t)

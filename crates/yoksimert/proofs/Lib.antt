@@ -4,3 +4,4 @@ pub mod Places
 pub mod Derived
 pub mod ThinCalls
 pub mod Runs
+pub mod Accepted

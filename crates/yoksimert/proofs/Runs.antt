@@ -28,7 +28,7 @@ kept-of h = rw (back (h .description))
 
 -- ---- one call
 
-kept-by : (d : Description) (l : Lent) → flatKeptIn (encoded d) l ≡ flatHeld (heldIn d l)
+pub kept-by : (d : Description) (l : Lent) → flatKeptIn (encoded d) l ≡ flatHeld (heldIn d l)
 unfolding flatKeptIn
 kept-by d l = rw (back d)
 
@@ -70,7 +70,7 @@ fed-by k [] = refl
 fed-by k (c ∷ cs) =
     rw (added-by (k .description) (c .lent) (c .index) (c .change), leaves-by k c, fed-by (leaves byValue k c) cs)
 
-same-iff : (k l : Held Description) → Same byNumbers (flatHeld k) (flatHeld l) ↔ Same byValue k l
+pub same-iff : (k l : Held Description) → Same byNumbers (flatHeld k) (flatHeld l) ↔ Same byValue k l
 same-iff k l = (
   λ s. rw (ap (λ (x : Seen ℕ). x .indices) s, ap (λ (x : Seen ℕ). x .bytes) s, mark-inj _ _ (ap (λ (x : Seen ℕ). x .largest) s)),
   λ s. ap (λ (x : Seen States). record { indices = x .indices; bytes = x .bytes; largest = markOf (x .largest) }) s,

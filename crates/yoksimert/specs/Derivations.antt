@@ -59,11 +59,11 @@ pub record FlatDerived : Type 0 where
   pub indices : List ℕ
 
 -- by the answer and the slices as they are then
-abbrev pub derivedBy : FlatMade → List ℕ → List ℕ → FlatDerived
-derivedBy r bytes indices = record { answer = r; bytes = bytes; indices = indices }
+abbrev pub madeBy : FlatMade → List ℕ → List ℕ → FlatDerived
+madeBy r bytes indices = record { answer = r; bytes = bytes; indices = indices }
 
 abbrev pub flatDerived : Derived → FlatDerived
-flatDerived d = derivedBy (flatMade (d .answer)) (d .bytes) (d .indices)
+flatDerived d = madeBy (flatMade (d .answer)) (d .bytes) (d .indices)
 
 -- of a derivation and its arrays, inputs with the slices lent, and the output slices
 unfoldable pub flatDerive : FlatDerivation → List ℕ → List ℕ → FlatInputs → List ℕ → List ℕ → List ℕ → List ℕ → FlatDerived

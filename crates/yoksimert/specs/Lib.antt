@@ -2,3 +2,4 @@ pub mod Flat
 pub mod Exports
 pub mod Derivations
 pub mod Recorder
+pub mod Accepted

@@ -1,0 +1,75 @@
+-- Demand 3 of Derive by numbers: an accepted call is an accepted Derive of what its numbers say.
+-- Assumes nothing.
+use mathlib.Core.Path.{_≡_, sym, ap, _∙_}
+use mathlib.Core.Logic.{_↔_, Iff·trans}
+use mathlib.Core.List.{List}
+use Prim.Native.Nat.{ℕ, suc}
+use native.Mathlib.Omega.{arith}
+use Rattle.fst.specs.declared.Description.{Description}
+use Rattle.fst.specs.Refusal.{Reply, Test, refused, given, tried}
+use Rattle.fst.specs.Record.{Kept, Lent}
+use Rattle.fst.proofs.Refusals.{Result, through, stopped, result}
+use Rattle.runs.specs.Runs.{Same}
+use Rattle.derivation.specs.declared.DerivedBitVecSignal.{DerivedBitVecSignal}
+use Rattle.steps.specs.declared.Inputs.{Inputs}
+use Rattle.transform.specs.Derive.{largestAmong, derivedKept, lentOut, deriveRefusals, derivedBy, derive}
+use Rattle.transform.specs.Accepted.{Accepted, recordOf}
+use Rattle.transform.proofs.Derived.{demand-3-derived}
+use Rattle.yoksimert.specs.Flat.{flatMade}
+use Rattle.yoksimert.specs.Derivations.{derivationOf, inputsBy, flatDerive}
+use Rattle.yoksimert.specs.Recorder.{byNumbers}
+use Rattle.yoksimert.specs.Accepted.{FlatAccepted, flatKsOf, flatListOf, flatRecordOf}
+use Rattle.yoksimert.proofs.Runs.{flatHeld, kept-by, same-iff}
+
+module _ (a : FlatAccepted) where
+  abbrev d : DerivedBitVecSignal
+  d = derivationOf (a .derivation) (a .names) (a .pieces)
+
+  abbrev is : Inputs
+  is = inputsBy (a .inputs)
+
+  abbrev out : Lent
+  out = lentOut (a .outBytes) (a .outIndices)
+
+  abbrev tests : List Test
+  tests = deriveRefusals d is (a .bytes) (a .indices) out
+
+  abbrev made : Kept
+  made = derivedKept d (flatKsOf a)
+
+  -- a refusal's number is not 0
+  answered : (m : Description) × ((derive d is (a .bytes) (a .indices) (a .outBytes) (a .outIndices)) .answer ≡ given m)
+  unfolding derive deriveRefusals flatDerive
+  answered = go (result (given made) tests tt) (a .is)
+    where
+      go : Result (given made) tests → (flatMade ((derivedBy out (tried tests (given made))) .answer)) .number ≡ 0
+          → (m : Description) × ((derivedBy out (tried tests (given made))) .answer ≡ given m)
+      go (through p e) h = (_, ap (λ (r : Reply Kept). (derivedBy out r) .answer) e)
+      go (stopped n e) h =
+          let z : suc n ≡ 0 = ap (λ (r : Reply Kept). (flatMade ((derivedBy out r) .answer)) .number) (sym e) ∙ h in
+          absurd (omega arith)
+
+  accepted : Accepted
+  accepted =
+      record {
+        derivation = d;
+        inputs = is;
+        bytes = a .bytes;
+        indices = a .indices;
+        outBytes = a .outBytes;
+        outIndices = a .outIndices;
+        made = answered .0;
+        sized = a .sized;
+        is = answered .1;
+      }
+
+  record-by : flatRecordOf a ≡ flatHeld (recordOf accepted)
+  unfolding flatDerive
+  record-by = rw (answered .1) (kept-by (answered .0) _)
+
+-- two accepted calls of one width leave equal records just where their largest sets and their derived lists are equal
+pub flat-demand-3-derived : (a b : FlatAccepted) → a .derivation .width ≡ b .derivation .width
+    → Same byNumbers (flatRecordOf a) (flatRecordOf b) ↔ ((largestAmong (flatKsOf a) ≡ largestAmong (flatKsOf b)) × (flatListOf a ≡ flatListOf b))
+flat-demand-3-derived a b e =
+    rw (record-by a, record-by b)
+    (Iff·trans (same-iff (recordOf (accepted a)) (recordOf (accepted b))) (demand-3-derived (accepted a) (accepted b) e))
