@@ -11,11 +11,11 @@ use fst::Added;
 use fst::Description;
 use fst::Encoding;
 use fst::Made;
+use fst::NextIndex;
 use signal::DataOffset;
 use signal::EntryAnswer;
 use signal::EqualAnswer;
 use signal::Kind;
-use signal::NextIndex;
 use signal::OffsetAnswer;
 use value::States;
 

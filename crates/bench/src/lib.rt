@@ -4,7 +4,7 @@ ghost use Rattle.value.specs.Level.{setAt};
 ghost use Rattle.wavemem.specs.Packed.{Packable};
 ghost use Rattle.layout.specs.Expand.{Widenable};
 ghost use Rattle.signal.specs.Search.{Reached};
-use signal::NextIndex;
+use fst::NextIndex;
 use signal::decode::states_at;
 use value::States;
 use value::StatesAnswer;

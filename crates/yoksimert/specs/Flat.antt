@@ -14,8 +14,8 @@ use Rattle.fst.specs.Refusal.{Reply, refused, given}
 use Rattle.fst.specs.Record.{widthOf, largestIn, described, empty}
 use Rattle.signal.specs.declared.Kind.{Kind}
 use Rattle.signal.specs.declared.Kind.the-variants as kind
-use Rattle.signal.specs.declared.NextIndex.{NextIndex}
-use Rattle.signal.specs.declared.NextIndex.the-variants as next
+use Rattle.fst.specs.declared.NextIndex.{NextIndex}
+use Rattle.fst.specs.declared.NextIndex.the-variants as next
 use Rattle.signal.specs.declared.DataOffset.{DataOffset}
 use Rattle.signal.specs.Read.{Entry, kindOf}
 use Rattle.signal.specs.Offset.{Place, none, at}

@@ -16,12 +16,12 @@ use crate::FlatOffset;
 use fst::Description;
 use fst::Encoding;
 use fst::Made;
+use fst::NextIndex;
 use fst::Refusal;
 use fst::Verdict;
 use signal::DataOffset;
 use signal::EqualAnswer;
 use signal::Kind;
-use signal::NextIndex;
 use signal::OffsetAnswer;
 use value::States;
 
