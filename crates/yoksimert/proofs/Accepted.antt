@@ -49,7 +49,7 @@ module _ (a : FlatAccepted) where
           let z : suc n ≡ 0 = ap (λ (r : Reply Kept). (flatMade ((derivedBy out r) .answer)) .number) (sym e) ∙ h in
           absurd (omega arith)
 
-  accepted : Accepted
+  abbrev accepted : Accepted
   accepted =
       record {
         derivation = d;

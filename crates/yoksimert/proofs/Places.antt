@@ -23,7 +23,7 @@ use Rattle.fst.proofs.Refusals.{Result, through, stopped, result}
 use Rattle.signal.specs.Decode.{entryAt, markIn, setIn, levelPart, hasBadMark}
 use Rattle.signal.specs.Parts.{Inside}
 use Rattle.signal.specs.Read.{Entry, entryIn, readEntry}
-use Rattle.signal.proofs.Reading.{inside, whole}
+use Rattle.signal.proofs.Reading.{HasEntry, inside, whole}
 use Rattle.yoksimert.specs.Flat.{levelLength, flatEntry}
 
 -- ---- the levels of an entry
@@ -58,9 +58,9 @@ level-end (BitVector w M) v h =
 
 module _ (d : Description) (bytes : List ℕ) (start k : ℕ) where
   pub record Placed (e : Entry) : Type 0 where
-    pub inside : Inside d start bytes k
-    pub long : length (entryAt d start bytes k) ≡ sizeOf (d .encoding)
-    pub part : e .part ≡ levelPart (d .encoding) (entryAt d start bytes k)
+    pub inside : Inside (d .encoding) start bytes k
+    pub long : length (entryAt (d .encoding) start bytes k) ≡ sizeOf (d .encoding)
+    pub part : e .part ≡ levelPart (d .encoding) (entryAt (d .encoding) start bytes k)
     pub short : length (e .part) ≤ sizeOf (d .encoding)
     pub own : levelLength (d .encoding) (e .set) ≡ length (e .part)
 
@@ -69,7 +69,7 @@ module _ (d : Description) (bytes : List ℕ) (start k : ℕ) where
   placed e q = go (result (given (entryIn (d .encoding) v)) tests tt)
     where
       v : List ℕ
-      v = entryAt d start bytes k
+      v = entryAt (d .encoding) start bytes k
 
       tests : List Test
       tests = 2 ⇐ isBadBytes d start bytes ∷ 8 ⇐ leb (d .count) k ∷ 9 ⇐ hasBadMark (d .encoding) v ∷ []
@@ -78,11 +78,11 @@ module _ (d : Description) (bytes : List ℕ) (start k : ℕ) where
       go (stopped n s) = let z : _≡_ {A = ℕ} 0 1 = cc in absurd (omega arith)
       go (through p s) =
           let is : entryIn (d .encoding) v ≡ e = cc in
-          let below = leb-false (d .count) k (p .1 .0) in
-          let l = whole d bytes start k (p .0) below .long in
+          let h : HasEntry d bytes start k = record { sound = p .0; below = leb-false (d .count) k (p .1 .0) } in
+          let l = whole h .long in
           subst Placed is
           (record {
-            inside = inside d bytes start k (p .0) below;
+            inside = inside h;
             long = l;
             part = refl;
             short = rw (← l) (level-short (d .encoding) v);
@@ -101,7 +101,7 @@ module _ (d : Description) (bytes : List ℕ) (start k : ℕ) where
       let m = length (e .part) in
       let j = z - m in
       let s : m ≤ z = t .short in
-      let is : e .part ≡ drop j (entryAt d start bytes k) = rw (t .part) (level-end (d .encoding) (entryAt d start bytes k) (t .long)) in
+      let is : e .part ≡ drop j (entryAt (d .encoding) start bytes k) = rw (t .part) (level-end (d .encoding) (entryAt (d .encoding) start bytes k) (t .long)) in
       let from : start + (k * z + z) - m ≡ start + k * z + j = omega arith in
       let size : j + m ≡ z = omega arith in
       ap (λ (n : ℕ). part n m bytes) from

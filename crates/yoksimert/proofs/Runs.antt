@@ -9,9 +9,9 @@ use Rattle.value.specs.Level.{markOf}
 use Rattle.value.proofs.Levels.{mark-inj}
 use Rattle.fst.specs.declared.Description.{Description}
 use Rattle.fst.specs.Refusal.{Outcome}
-use Rattle.fst.specs.Record.{Lent, Held, maxWidth, keptIn, heldIn, keptOf}
+use Rattle.fst.specs.Record.{Lent, Held, maxWidth, largestIn, heldIn, keptOf}
 use Rattle.fst.specs.Change.{Change, addChange}
-use Rattle.runs.specs.Runs.{byValue, Call, leftIn, leaves, Run, freshHeld, after, fed, historyOf, historyLaidOut, Seen, seenBy, Same}
+use Rattle.runs.specs.Runs.{byValue, Call, leftIn, leaves, Run, freshHeld, after, fed, historyOf, historyLaidOut, Seen, Same}
 use Rattle.runs.proofs.Demand3.{fresh-gives, run-is-laid-out, demand-3}
 use Rattle.yoksimert.specs.declared.FlatDescription.{FlatDescription}
 use Rattle.yoksimert.specs.Flat.{encoded}
@@ -72,7 +72,7 @@ fed-by k (c ∷ cs) =
 
 pub same-iff : (k l : Held Description) → Same byNumbers (flatHeld k) (flatHeld l) ↔ Same byValue k l
 same-iff k l = (
-  λ s. rw (ap (λ (x : Seen ℕ). x .indices) s, ap (λ (x : Seen ℕ). x .bytes) s, mark-inj _ _ (ap (λ (x : Seen ℕ). x .largest) s)),
+  λ s. rw (ap (λ (x : Seen ℕ). x .indices) s, ap (λ (x : Seen ℕ). x .bytes) s, mark-inj (largestIn (k .description .encoding)) (largestIn (l .description .encoding)) (ap (λ (x : Seen ℕ). x .largest) s)),
   λ s. ap (λ (x : Seen States). record { indices = x .indices; bytes = x .bytes; largest = markOf (x .largest) }) s,
 )
 

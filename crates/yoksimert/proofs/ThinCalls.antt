@@ -13,7 +13,7 @@ use Rattle.fst.specs.declared.Refusal.{Refusal}
 use Rattle.fst.specs.declared.Made.{Made}
 use Rattle.fst.specs.declared.Made.the-variants as made
 use Rattle.fst.specs.Refusal.{Reply, given, tried, Outcome, outcome, number, numberOf, madeOf}
-use Rattle.fst.specs.Record.{Lent, Recorder, sizeOf, widthOf, keptIn, fresh}
+use Rattle.fst.specs.Record.{Lent, Kept, Recorder, sizeOf, widthOf, keptIn, fresh}
 use Rattle.fst.specs.Change.{Change, text, real, repeats, appended, changed, withChange, refusals, inHand, stored, addChange, leftBy}
 use Rattle.fst.proofs.Refusals.{Result, through, stopped, result}
 use Rattle.signal.specs.Read.{kindOf}
@@ -44,7 +44,7 @@ appended-keeps : (e : Encoding) (bytes indices : List ℕ) (i : ℕ) (new : List
 unfolding appended
 appended-keeps e bytes indices i new = go (repeats (sizeOf e) (length indices) bytes new)
   where
-    go : (b : Bool) → (cond b (record { encoding = e; bytes = bytes; indices = indices }) (record { encoding = e; bytes = bytes ++ new; indices = indices ++ (i ∷ []) })) .encoding ≡ e
+    go : (b : Bool) → (cond {A = Kept} b (record { encoding = e; bytes = bytes; indices = indices }) (record { encoding = e; bytes = bytes ++ new; indices = indices ++ (i ∷ []) })) .encoding ≡ e
     go true = refl
     go false = refl
 
