@@ -40,7 +40,7 @@ pub fn used_part<'a>(input: Input, bytes: &'a [u8]) -> &'a [u8]
     &bytes[start..start + n]
 }
 
-// Its used indices.
+// The used indices of an input that is not 2.
 fn used_indices<'a>(input: Input, indices: &'a [u32]) -> &'a [u32]
     requires { ⌜ input .«index_start» + input .description .count ≤ length (now indices) ⌝ }
     ensures { λ r. ⌜ now r ≡ part (input .«index_start») (input .description .count) (now (indices .entry)) ⌝ }

@@ -47,12 +47,12 @@ use Rattle.steps.specs.Inputs.{encodingOf, entryIsBad, indicesFall, isLate, kep
 use Rattle.steps.specs.Steps.{Moment, Shown, Track, countOf, keptSteps, momentsFrom, momentsOf, moved, nowOf, shownBy, shownIn, shownIndex, smaller, smallest, unbegun}
 use Rattle.steps.specs.declared.Inputs.{Inputs}
 use Rattle.steps.proofs.Levels.{levels-below, levels-length, mark-within}
-use Rattle.steps.proofs.Moments.{Each2, From, LeastOf, NextUp, NowFrom, Runs, ShowsEntries, least-under, moments-show, moments-up, rising-up, shown-from, shown-up, shows-all, up-falls, up-map, Up, ups, grown}
+use Rattle.steps.proofs.Moments.{Each2, From, LeastOf, NextUp, NowFrom, Runs, ShowsEntries, Up, grown, least-under, moments-show, moments-up, rising-up, shown-from, shown-up, shows-all, up-falls, up-map, ups}
 use Rattle.steps.proofs.Sources.{showing}
 use Rattle.transform.specs.Accepted.{Accepted, ksOf, listOf, recordOf}
 use Rattle.transform.specs.Derive.{codeIsBad, codesShown, derive, deriveRefusals, derivedBy, derivedList, isBeyond, isUnfit, largestAmong, largestShown, lentOut, pickIsBad, picked, pickedOf, sameStep, setShown, yielded}
 use Rattle.transform.specs.Refusals.{Derivable}
-use Rattle.transform.proofs.PieceTests.{fit}
+use Rattle.transform.proofs.PieceTests.{fit, fit-wide}
 
 -- ---- step one
 
@@ -271,24 +271,13 @@ module _ (d : DerivedBitVecSignal) (count : ℕ) (ks : List Kept) (p : Passes d 
         let f = fit d count ks (p .fit) in
         rw (count-is (d .bits) (d .«piece_count») (omega (arith, (sound d (f .sound)) .few, z .bits))) (f .pieces)
 
-    -- there is an input, and a level
+    -- there is an input
     some-input : 0 < length ks
     some-input = go es first-piece all-fine
       where
         go : (l : List Extract) → 0 < length l → All (Fine ks) l → 0 < length ks
         go [] h f = absurd (omega arith)
         go (e ∷ l) h f = omega (arith, f .0 .low)
-
-    pub some-width : 1 ≤ d .width
-    unfolding any sum
-    some-width =
-        let f = fit d count ks (p .fit) in
-        let s = sound d (f .sound) in
-        rw (s .whole) (go es first-piece (s .pieces))
-      where
-        go : (l : List Extract) → 0 < length l → any (isBadPiece (d .«input_count»)) l ≡ false → 1 ≤ sum (map pieceWidth l)
-        go [] h b = absurd (omega arith)
-        go (e ∷ l) h b = omega (arith, good-piece (d .«input_count») e (or-left (isBadPiece (d .«input_count») e) (any (isBadPiece (d .«input_count»)) l) b) .0)
 
 -- a derived list: not empty, from index 0 on, in order, of sound steps
 record Listed (d : DerivedBitVecSignal) (ks : List Kept) : Type 0 where
@@ -373,7 +362,7 @@ module _ (a : Accepted) where
       go (stopped n q) h = never n q h
 
   pub accepted-width : 1 ≤ a .derivation .width
-  accepted-width = some-width (a .derivation) (a .inputs .count) ks accepted-passes (a .sized)
+  accepted-width = fit-wide (fit (a .derivation) (a .inputs .count) ks (accepted-passes .fit)) (a .sized)
 
   pub accepted-sound : All (Sound (a .derivation .width) M) (listOf a)
   accepted-sound = derived-sound (a .derivation) (a .inputs .count) ks accepted-passes (a .sized)

@@ -9,7 +9,7 @@ use mathlib.Core.Path.{_∙_, _≡_, ap, refl, sym}
 use native.Mathlib.Omega.{arith}
 use Rattle.value.specs.Digits.{Below}
 use Rattle.value.specs.Level.{hasNoCode, join, joinAll, markOf}
-use Rattle.value.specs.Slice.{any, sum}
+use Rattle.value.specs.Slice.{any}
 use Rattle.value.specs.declared.States.{States}
 use Rattle.value.proofs.Digits.{below-append}
 use Rattle.value.proofs.Levels.{all-below, mark-join}
@@ -20,7 +20,7 @@ use Rattle.runs.proofs.All.{all-both, all-of}
 use Rattle.signal.specs.Decode.{levelsIn}
 use Rattle.signal.proofs.Entries.{entries-each}
 use Rattle.signal.proofs.Reading.{whole}
-use Rattle.derivation.specs.Piece.{Sized, isBadPiece, pieceWidth, piecesOf}
+use Rattle.derivation.specs.Piece.{Sized, isBadPiece, piecesOf}
 use Rattle.derivation.specs.declared.DerivedBitVecSignal.{DerivedBitVecSignal}
 use Rattle.derivation.specs.declared.Extract.{Extract}
 use Rattle.derivation.proofs.Pieces.{Sound, good-piece, sound}
@@ -37,7 +37,7 @@ use Rattle.steps.proofs.Tracks.{Begun, Shows, Within, bytes-shown, r-indices}
 use Rattle.transform.specs.Derive.{codeIsBad, isBeyond, isUnfit, largestAmong, pickIsBad, pickedOf}
 use Rattle.transform.specs.Picking.{PieceIn, Stepped, Under, Walkable, largestNow, largestOver, pickedNow}
 use Rattle.transform.specs.Refusals.{Derivable}
-use Rattle.transform.proofs.PieceTests.{Fit, beyond-by-width, code-by-entries, fit, pieces-count}
+use Rattle.transform.proofs.PieceTests.{Fit, beyond-by-width, code-by-entries, fit, fit-wide}
 
 -- ---- the sets
 
@@ -123,14 +123,7 @@ module _ {d : DerivedBitVecSignal} {inputs : Inputs} {bytes indices : List ℕ} 
       }
 
   pub wide : 1 ≤ d .width
-  unfolding any sum
-  wide = rw (parts .whole) (go (piecesOf d) (rw (pieces-count d (R .size .bits) (tests .sound)) (tests .pieces)) (parts .pieces))
-    where
-      go : (es : List Extract) → 0 < length es → any (isBadPiece (d .«input_count»)) es ≡ false → 1 ≤ sum (map pieceWidth es)
-      go [] h b = absurd (omega arith)
-      go (e ∷ es) h b =
-          let g = good-piece (d .«input_count») e (or-left (isBadPiece (d .«input_count») e) (any (isBadPiece (d .«input_count»)) es) b) in
-          omega (arith, g .0)
+  wide = fit-wide tests (R .size)
 
   module _ (p : List ℕ) (places : length p ≡ 8) where
     abbrev cs : List Cursor

@@ -5,11 +5,11 @@ use borrow.Author.Tests.{eq-eqb, eqb-false, eqb-true, le-ltb, lt-ltb, ltb-false,
 use lib.Dec.{eqb, ltb}
 use lib.ListN.{drop, getD, length}
 use mathlib.Core.Bool.{Bool, _||_, false, not, true, true≢false}
-use mathlib.Core.List.{List, []}
+use mathlib.Core.List.{List, [], _∷_, map}
 use mathlib.Core.Path.{_∙_, _≡_, ap, refl, sym}
 use native.Mathlib.Omega.{arith}
 use Rattle.value.specs.Level.{bitsOf, hasNoCode, lenOf, markOf, setAt}
-use Rattle.value.specs.Slice.{any, part}
+use Rattle.value.specs.Slice.{any, part, sum}
 use Rattle.value.specs.declared.States.{States}
 use Rattle.value.proofs.Digits.{below-drop, below-take}
 use Rattle.value.proofs.Levels.{all-below, bits-up, mark-set, mark-small, none-foreign}
@@ -26,7 +26,7 @@ use Rattle.signal.specs.Parts.{ownStates}
 use Rattle.signal.proofs.Decoding.{codes-length, few-bits}
 use Rattle.signal.proofs.Entries.{entries-each}
 use Rattle.signal.proofs.Reading.{Owned, inside, owned, vector, whole}
-use Rattle.derivation.specs.Piece.{endOf, extractOf, isBadDerivation, isBadPiece, piecesOf}
+use Rattle.derivation.specs.Piece.{Sized, endOf, extractOf, isBadDerivation, isBadPiece, pieceWidth, piecesOf}
 use Rattle.derivation.specs.declared.DerivedBitVecSignal.{DerivedBitVecSignal}
 use Rattle.derivation.specs.declared.Extract.{Extract}
 use Rattle.derivation.proofs.Joins.{count-is, piece-at}
@@ -164,6 +164,17 @@ module _ (d : DerivedBitVecSignal) (full : length (d .bits) ≡ 64) (good : isBa
         let s = sound d good in
         let b = any-none (isBadPiece (d .«input_count»)) (piecesOf d) (s .pieces) i (extractOf 0) (rw pieces-count h) in
         (good-piece (d .«input_count») e (ap (isBadPiece (d .«input_count»)) (sym piece-is) ∙ b) .1, s .named)
+
+-- a derivation that fits its inputs has a level
+pub fit-wide : {d : DerivedBitVecSignal} {count : ℕ} {ks : List Kept} → Fit d count ks → Sized d → 1 ≤ d .width
+unfolding any sum
+fit-wide {d} f z =
+    let s = sound d (f .sound) in
+    rw (s .whole) (go (piecesOf d) (rw (pieces-count d (z .bits) (f .sound)) (f .pieces)) (s .pieces))
+  where
+    go : (es : List Extract) → 0 < length es → any (isBadPiece (d .«input_count»)) es ≡ false → 1 ≤ sum (map pieceWidth es)
+    go [] h b = absurd (omega arith)
+    go (e ∷ es) h b = omega (arith, good-piece (d .«input_count») e (or-left (isBadPiece (d .«input_count») e) (any (isBadPiece (d .«input_count»)) es) b) .0)
 
 -- a piece against its input
 module _ (inputs : Inputs) (full : length (inputs .slots) ≡ 8) (bytes indices : List ℕ) (e : Extract) (h : e .signal < min (inputs .count) 8) where

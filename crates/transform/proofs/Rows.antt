@@ -3,7 +3,7 @@
 use Prim.Native.Nat.{_-_, ℕ}
 use lib.ListN.{length, replicate}
 use mathlib.Core.List.{List, [], _++_, _∷_, map}
-use mathlib.Core.Path.{_≡_, refl}
+use mathlib.Core.Path.{_≡_, ap, refl}
 use Rattle.value.specs.Digits.{digits, number}
 use Rattle.value.specs.Level.{codeOf, fold, joinAll, letterOf, placeIn, setOf}
 use Rattle.value.specs.Slice.{any, overlay, part, same, sum}
@@ -20,7 +20,7 @@ use Rattle.runs.specs.Runs.{endsLike, entriesOf, joined, laidOut}
 use Rattle.signal.specs.Decode.{entriesFrom, entryAt, hasBadMark, levelPart, levelsIn, markIn, setIn}
 use Rattle.signal.specs.Offset.{falls}
 use Rattle.signal.proofs.Rows as sought
-use Rattle.derivation.specs.Piece.{addPiece, adjoin, derivationWith, emptyDerivation, extractOf, isBadDerivation, isBadPiece, isBadRange, isOverfull, merging, nameAdded, packedOf, pieceAdded, sliceOf}
+use Rattle.derivation.specs.Piece.{Sized, addPiece, adjoin, derivationWith, emptyDerivation, extractOf, isBadDerivation, isBadPiece, isBadRange, isOverfull, merging, nameAdded, packedOf, pieceAdded, sliceOf}
 use Rattle.steps.specs.Steps.{keptSteps, momentsFrom, momentsOf, moved, smallest}
 use Rattle.steps.specs.declared.Input.{Input}
 use Rattle.steps.specs.declared.Inputs.{Inputs}
@@ -80,21 +80,25 @@ twelfth-holds : Slices twelfth
 unfolding input alone source front Slices written.around written.lentBy written.Follows written.Holds written.played number digits part overlay same any sum placeIn codeOf letterOf fold setOf joinAll tried entrySize entryOf widenEntry widenAll keptIn widthStands fitsBytes fits isBad fresh isOtherKind isOtherLength isForeign isBelowLast repeats appended changed refusals stored addChange endsLike joined entriesOf laidOut entryAt entriesFrom markIn setIn levelPart levelsIn hasBadMark hasNoText falls packedOf extractOf isBadPiece isBadDerivation adjoin merging pieceAdded nameAdded derivationWith isBadRange isOverfull addPiece emptyDerivation smallest moved momentsFrom momentsOf picked keptSteps isUnfit deriveRefusals derive
 twelfth-holds = ((refl, (refl, tt)), refl, refl)
 
+twelfth-sized : Sized ((sliceOf 7 (twelfth .msb) (twelfth .lsb)) .left)
+unfolding overlay any sum placeIn tried packedOf extractOf isBadPiece isBadDerivation adjoin merging pieceAdded nameAdded derivationWith isBadRange isOverfull addPiece emptyDerivation
+twelfth-sized = record { names = refl; bits = refl }
+
 -- a Derive that is accepted
 pub twelfth-accepted : Accepted
-unfolding input alone source written.around written.lentBy written.played number digits part overlay same any sum placeIn codeOf letterOf fold setOf joinAll tried entrySize entryOf widenEntry widenAll keptIn widthStands fitsBytes fits isBad fresh isOtherKind isOtherLength isForeign isBelowLast repeats appended changed refusals stored addChange endsLike joined entriesOf laidOut entryAt entriesFrom markIn setIn levelPart levelsIn hasBadMark hasNoText falls packedOf extractOf isBadPiece isBadDerivation adjoin merging pieceAdded nameAdded derivationWith isBadRange isOverfull addPiece emptyDerivation smallest moved momentsFrom momentsOf picked keptSteps isUnfit deriveRefusals derive
+unfolding front Slices
 twelfth-accepted =
     let r = source (twelfth .of) in
     record {
-      derivation = (sliceOf 7 0 0) .left;
+      derivation = (sliceOf 7 (twelfth .msb) (twelfth .lsb)) .left;
       inputs = alone (input r);
       bytes = r .bytes;
       indices = r .indices;
       outBytes = replicate 5 0xDD;
       outIndices = replicate 5 90;
       made = described (BitVector 1 Four) 2;
-      sized = record { names = refl; bits = refl };
-      is = refl;
+      sized = twelfth-sized;
+      is = ap (λ (d : Derived). d .answer) (twelfth-holds .2);
     }
 
 -- ---- the list
