@@ -54,29 +54,6 @@ pub fn own_states(max_states: States, entry: &[u8]) -> OwnStates
     OwnStates::Own(states_at(mark))
 }
 
-// The mark of an entry's own set, and 0 where none is stored.
-pub fn mark_in(max_states: States, entry: &[u8]) -> u8
-    requires { ⌜ 0 < length (now entry) ⌝ }
-    ensures { λ r. ⌜ r ≡ markIn «max_states» (now (entry .entry)) ⌝ }
-{
-    match max_states {
-        States::Two => 0,
-        States::Four => entry[0] >> 6,
-        States::Nine => entry[0] >> 6,
-    }
-}
-
-// The set of a mark; 3 is none's.
-pub fn states_of(mark: u8) -> States
-    ensures { λ r. ⌜ r ≡ setAt mark ⌝ }
-{
-    match mark {
-        0 => States::Two,
-        1 => States::Four,
-        _ => States::Nine,
-    }
-}
-
 // The last bytes of an entry, as many as its levels take under its own set.
 pub fn level_part<'a>(width: u32, states: States, entry: &'a [u8]) -> &'a [u8]
     requires { ⌜ lenOf width states ≤ length (now entry) ⌝ }

@@ -14,7 +14,7 @@ use crate::Inputs;
 use fst::Description;
 use fst::Encoding;
 use fst::record::is_bad;
-use signal::decode::mark_in;
+use signal::decode::own_mark;
 use signal::offset::falls;
 use signal::read::entry_at;
 
@@ -87,11 +87,11 @@ fn any_bad_mark(description: Description, used: &[u8]) -> bool
     else {
         return false;
     };
-    let most = max_states.mark();
+    let most = max_states.mark() as u32;
     let count = description.count;
     let mut k = 0;
     while k < count {
-        if most < mark_in(max_states, entry_at(description, used, 0, k)) {
+        if most < own_mark(most, entry_at(description, used, 0, k)) {
             return true;
         }
         k += 1;

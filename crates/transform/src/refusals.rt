@@ -24,8 +24,7 @@ use fst::Verdict;
 use signal::decode::code_at;
 use signal::decode::has_bad_byte;
 use signal::decode::level_part;
-use signal::decode::mark_in;
-use signal::decode::states_of;
+use signal::decode::states_in;
 use signal::read::entry_at;
 use steps::InputTest;
 use steps::Inputs;
@@ -109,7 +108,7 @@ fn has_bad_pick(extract: Extract, width: u32, max_states: States, entry: &[u8]) 
     requires { ⌜ EntryPick extract width «max_states» (now entry) ⌝ }
     ensures { λ r. ⌜ r ≡ hasNoCode (pickedOf extract (levelsIn (BitVector width «max_states») (now (entry .entry)))) ⌝ }
 {
-    let states = states_of(mark_in(max_states, entry));
+    let states = states_in(max_states.mark() as u32, entry);
     if states.bits() < 4 {
         return false;
     }

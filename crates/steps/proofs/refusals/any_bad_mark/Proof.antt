@@ -8,6 +8,7 @@ use mathlib.Core.Bool.{false}
 use mathlib.Core.Path.{_≡_, sym}
 use native.Mathlib.Omega.{arith}
 use Rattle.signal.specs.Decode.{entryAt, hasBadMark}
+use Rattle.signal.proofs.Decoding.{mark-by}
 use Rattle.signal.proofs.Entries.{entries-none, entries-one}
 use Rattle.signal.proofs.Reading.{inside, no-text, some, vector, whole}
 use Rattle.steps.specs.Inputs.{entryIsBad}
@@ -17,11 +18,11 @@ use Rattle.steps.proofs.refusals.any_bad_mark.Statement.{statement}
 use Rattle.steps.proofs.refusals.any_bad_mark.Tie as tie
 
 abbrev Inv-loop : tie.InvT-loop
-Inv-loop description used max-states most count k₀ k =
+Inv-loop description used most count k₀ k =
     (k ≤ count) × ((j : ℕ) → j < k → hasBadMark (description .encoding) (entryAt (description .encoding) 0 used j) ≡ false)
 
 abbrev μ-loop : tie.MeasureT-loop
-μ-loop description used max-states most count k₀ k = count - k
+μ-loop description used most count k₀ k = count - k
 
 returns : tie.Need-returns Inv-loop μ-loop
 returns c indices l =
@@ -36,8 +37,8 @@ entry-at-requires c κs =
     let s = c .before .before .before .before .before .before .before in
     inside (record { sound = s .pre; below = c .loop-test .taken })
 
-mark-in-requires : tie.Need-mark-in-requires Inv-loop μ-loop
-mark-in-requires c κs =
+own-mark-requires : tie.Need-own-mark-requires Inv-loop μ-loop
+own-mark-requires c κs =
     let t = c .before in
     let e = t .before .before .before .before in
     let s = e .before .before .before in
@@ -53,7 +54,7 @@ returns-2 c indices l =
     let a = e .before .before .before .args in
     sym
     (entries-one (keptWith (a .description) (now (a .used)) indices) entryIsBad (t .before .loop .k) (rw l (t .loop-test .taken))
-    (mark-over (a .description .encoding) _ _ _ _ _ _ (e .encoding .given .1) (k .mark .ensures) (m .mark-in .ensures) (m .before .entry-at .ensures) (c .if1 .taken)))
+    (mark-over (a .description .encoding) _ _ _ _ _ _ (e .encoding .given .1) (k .mark .ensures) (mark-by _ _ _ _ (k .mark .ensures) (m .own-mark .ensures)) (m .before .entry-at .ensures) (c .if1 .taken)))
 
 loop-again : tie.Need-loop-again Inv-loop μ-loop
 loop-again c =
@@ -64,7 +65,7 @@ loop-again c =
     let a = e .before .before .before .args in (
       omega arith,
       below-more _ (t .before .loop .k) (t .before .loop .inv .1)
-          (mark-under (a .description .encoding) _ _ _ _ _ _ (e .encoding .given .1) (k .mark .ensures) (m .mark-in .ensures) (m .before .entry-at .ensures) (c .if1 .left)),
+          (mark-under (a .description .encoding) _ _ _ _ _ _ (e .encoding .given .1) (k .mark .ensures) (mark-by _ _ _ _ (k .mark .ensures) (m .own-mark .ensures)) (m .before .entry-at .ensures) (c .if1 .left)),
     )
 
 returns-3 : tie.Need-returns-3 Inv-loop μ-loop
@@ -82,9 +83,10 @@ any-bad-mark-spec =
     (λ c. search needs)
     returns
     (λ c κs. search needs)
+    (λ c. search needs)
     loop-holds
     entry-at-requires
-    mark-in-requires
+    own-mark-requires
     returns-2
     (λ c. omega arith)
     (λ c. omega arith)
