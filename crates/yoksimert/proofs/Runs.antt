@@ -4,6 +4,7 @@ use mathlib.Core.Path.{_≡_, refl, sym, ap, _∙_, subst}
 use mathlib.Core.Logic.{_↔_, Iff·trans}
 use mathlib.Core.List.{List, [], _∷_}
 use Prim.Native.Nat.{ℕ, _≤_}
+use lib.ListN.{length}
 use Rattle.value.specs.declared.States.{States}
 use Rattle.value.specs.Level.{markOf}
 use Rattle.value.proofs.Levels.{mark-inj}
@@ -12,7 +13,7 @@ use Rattle.fst.specs.Refusal.{Outcome}
 use Rattle.fst.specs.Record.{Lent, Held, maxWidth, largestIn, heldIn, keptOf}
 use Rattle.fst.specs.Change.{Change, addChange}
 use Rattle.runs.specs.Runs.{byValue, Call, leftIn, leaves, Run, freshHeld, after, fed, historyOf, historyLaidOut, Seen, Same}
-use Rattle.runs.proofs.Demand3.{fresh-gives, run-is-laid-out, demand-3}
+use Rattle.runs.proofs.Demand3.{fresh-gives, run-is-laid-out, run-counts, demand-3}
 use Rattle.yoksimert.specs.declared.FlatDescription.{FlatDescription}
 use Rattle.yoksimert.specs.Flat.{encoded}
 use Rattle.yoksimert.specs.Exports.{FlatRecorder, flatLeft, flatAdd}
@@ -84,6 +85,13 @@ pub flat-laid-out : (w : ℕ) → 1 ≤ w → w ≤ maxWidth → (f : FlatDescri
 flat-laid-out w a b f cs =
     let k = freshHeld w in
     rw (fresh-gives w a b) (λ r. rw (after-by k cs, fed-by k cs) (kept-of (after byValue k cs) ∙ run-is-laid-out w a cs (run-of k cs r)))
+
+-- "The count is the number of pairs"
+pub flat-counts : (w : ℕ) → 1 ≤ w → w ≤ maxWidth → (f : FlatDescription) (cs : List Call) → Run byNumbers (flatStart f w) cs
+    → (after byNumbers (flatStart f w) cs) .description .count ≡ length (historyOf (fed byNumbers (flatStart f w) cs))
+flat-counts w a b f cs =
+    let k = freshHeld w in
+    rw (fresh-gives w a b) (λ r. rw (after-by k cs, fed-by k cs) (run-counts w a cs (run-of k cs r)))
 
 -- two runs of the calls, of one width, leave equal records just where their histories are equal
 pub flat-demand-3 : (w : ℕ) → 1 ≤ w → w ≤ maxWidth → (xs ys : List Call) (f g : FlatDescription)
