@@ -1,78 +1,102 @@
 // Replays the stored answers (README.md beside has their format) on the proved functions. Each operation writes a line: how many
 // of its calls came out as stored, or the number of the first line that did not. No stored call is left out. The answers are read from
 // standard input by place, so that has to be a file.
-ghost use Prim.Native.Nat.{_<_};
-
 mod derivations;
-mod fields;
 mod records;
+
+use lines::has_word;
 
 // A longer line counts as one that came out otherwise, so that every list fits its buffer.
 const LONGEST: usize = 32768;
 
-// The place of an operation among the nine by its word, whose characters are digits to base 256, and 9 for any other.
-fn operation(word: u64) -> usize
-    ensures { λ r. ⌜ r < 10 ⌝ }
-{
-    match word {
-        0x6672657368 => 0,
-        0x616464 => 1,
-        0x72656164 => 2,
-        0x74657874 => 3,
-        0x636f6d70617265 => 4,
-        0x6c6f6f6b7570 => 5,
-        0x6c656674 => 6,
-        0x7269676874 => 7,
-        0x646572697665 => 8,
-        _ => 9,
+// The place of a line's operation among the nine, and 9 for any other.
+fn operation(line: &[u8]) -> usize {
+    if has_word(line, 1, b"fresh") {
+        return 0;
     }
+    if has_word(line, 1, b"add") {
+        return 1;
+    }
+    if has_word(line, 1, b"read") {
+        return 2;
+    }
+    if has_word(line, 1, b"text") {
+        return 3;
+    }
+    if has_word(line, 1, b"compare") {
+        return 4;
+    }
+    if has_word(line, 1, b"lookup") {
+        return 5;
+    }
+    if has_word(line, 1, b"left") {
+        return 6;
+    }
+    if has_word(line, 1, b"right") {
+        return 7;
+    }
+    if has_word(line, 1, b"derive") {
+        return 8;
+    }
+    9
 }
 
 // Whether the call of a line comes out as stored.
-fn agrees(operation: usize, line: &[u8], values: &[u64; 72]) -> bool {
+fn agrees(operation: usize, line: &[u8]) -> bool {
+    if LONGEST < line.len() {
+        return false;
+    }
     match operation {
-        0 => records::fresh(values),
-        1 => records::add(line, values),
-        2 => records::read(line, values),
-        3 => records::text(line, values),
-        4 => records::compare(line, values),
-        5 => records::look_up(line, values),
-        6 => derivations::left(line, values),
-        7 => derivations::right(line, values),
-        8 => derivations::derive(line, values),
+        0 => records::fresh(line),
+        1 => records::add(line),
+        2 => records::read(line),
+        3 => records::text(line),
+        4 => records::compare(line),
+        5 => records::look_up(line),
+        6 => derivations::left(line),
+        7 => derivations::right(line),
+        8 => derivations::derive(line),
         _ => false,
     }
 }
 
+fn get(numbers: &[u64], place: usize) -> u64 {
+    if place < numbers.len() {
+        numbers[place]
+    } else {
+        0
+    }
+}
+
+fn put(numbers: &mut [u64], place: usize, number: u64) {
+    if place < numbers.len() {
+        numbers[place] = number;
+    }
+}
+
 // Counts a line that agrees. Of those that don't, the first of each operation is kept by its number.
-fn replay_line(line: &[u8], number: usize, agreed: &mut [u64; 10], first: &mut [u64; 10]) {
+fn replay_line(line: &[u8], number: usize, agreed: &mut [u64], first: &mut [u64]) {
     if 0 < line.len() && line[0] == b'#' {
         return;
     }
-    let mut values = [0u64; 72];
-    values[0] = fields::read_values(line, &mut values) as u64;
-    let place = operation(values[1]);
-    if line.len() <= LONGEST && agrees(place, line, &values) {
-        agreed[place] = std::num::wrapping_add_u64(agreed[place], 1);
-    } else if first[place] == 0 {
-        first[place] = number as u64;
+    let place = operation(line);
+    if agrees(place, line) {
+        let count = get(agreed, place);
+        put(agreed, place, std::num::wrapping_add_u64(count, 1));
+    } else if get(first, place) == 0 {
+        put(first, place, number as u64);
     }
 }
 
 // Replays the line that a text begins with, and gives its length with the line's end.
-fn replay_first(
-    text: &[u8],
-    number: usize,
-    agreed: &mut [u64; 10],
-    first: &mut [u64; 10],
-) -> usize {
+fn replay_first(text: &[u8], number: usize, agreed: &mut [u64], first: &mut [u64]) -> usize {
     let end = bytes::scan::find(text, 0, text.len(), b'\n');
     replay_line(&text[0..end], number, agreed, first);
     std::num::wrapping_add_usize(end, 1)
 }
 
 // The same at a place of the input. 0 past its end.
-fn replay_at(place: usize, number: usize, agreed: &mut [u64; 10], first: &mut [u64; 10]) -> usize {
+fn replay_at(place: usize, number: usize, agreed: &mut [u64], first: &mut [u64]) -> usize {
     let mut space = io::large_buffer();
     let got = libc::pread(0, &mut space, (place % 4611686018427387904) as i64);
     let count = io::count(got, &space);
@@ -83,7 +107,7 @@ fn replay_at(place: usize, number: usize, agreed: &mut [u64; 10], first: &mut [u
 }
 
 // No input has so many lines that the loop ends by their number.
-fn replay(agreed: &mut [u64; 10], first: &mut [u64; 10]) {
+fn replay(agreed: &mut [u64], first: &mut [u64]) {
     let mut place = 0;
     let mut number = 1;
     while number < 18446744073709551615 {
@@ -96,11 +120,12 @@ fn replay(agreed: &mut [u64; 10], first: &mut [u64; 10]) {
     }
 }
 
-fn report(operation: &[u8], agreed: u64, line: u64) {
+fn report(operation: &[u8], agreed: &[u64], first: &[u64], place: usize) {
     io::write_all(1, operation);
+    let line = get(first, place);
     if line == 0 {
         io::write_all(1, b": ");
-        io::print_decimal(1, agreed);
+        io::print_decimal(1, get(agreed, place));
         io::write_all(1, b" as stored\n");
     } else {
         io::write_all(1, b": line ");
@@ -109,17 +134,17 @@ fn report(operation: &[u8], agreed: u64, line: u64) {
     }
 }
 
-fn report_all(agreed: &[u64; 10], first: &[u64; 10]) {
-    report(b"fresh", agreed[0], first[0]);
-    report(b"add", agreed[1], first[1]);
-    report(b"read", agreed[2], first[2]);
-    report(b"text", agreed[3], first[3]);
-    report(b"compare", agreed[4], first[4]);
-    report(b"lookup", agreed[5], first[5]);
-    report(b"left", agreed[6], first[6]);
-    report(b"right", agreed[7], first[7]);
-    report(b"derive", agreed[8], first[8]);
-    report(b"other", agreed[9], first[9]);
+fn report_all(agreed: &[u64], first: &[u64]) {
+    report(b"fresh", agreed, first, 0);
+    report(b"add", agreed, first, 1);
+    report(b"read", agreed, first, 2);
+    report(b"text", agreed, first, 3);
+    report(b"compare", agreed, first, 4);
+    report(b"lookup", agreed, first, 5);
+    report(b"left", agreed, first, 6);
+    report(b"right", agreed, first, 7);
+    report(b"derive", agreed, first, 8);
+    report(b"other", agreed, first, 9);
 }
 
 fn main() {

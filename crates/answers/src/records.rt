@@ -2,31 +2,28 @@
 ghost use Prim.Native.Nat.{_<_};
 ghost use mathlib.Core.Path.{_≡_};
 ghost use lib.ListN.{length};
-use crate::fields::has_bytes;
-use crate::fields::has_slices;
-use crate::fields::narrow;
-use crate::fields::read_bytes;
-use crate::fields::read_indices;
 use fst::Added;
 use fst::Description;
 use fst::Encoding;
 use fst::Made;
 use fst::NextIndex;
+use lines::has_bytes;
+use lines::has_letter;
+use lines::has_number;
+use lines::has_pair;
+use lines::has_slices;
+use lines::is_framed;
+use lines::number;
+use lines::number_32;
+use lines::place;
+use lines::read_bytes;
+use lines::read_indices;
 use signal::DataOffset;
 use signal::EntryAnswer;
 use signal::EqualAnswer;
 use signal::Kind;
 use signal::OffsetAnswer;
 use value::States;
-
-// The words of one letter, and the sign between what goes in and what comes out.
-const EVENT: u64 = 101;
-
-const REAL: u64 = 114;
-
-const BIT_VECTOR: u64 = 98;
-
-pub const EQUALS: u64 = 61;
 
 pub fn index_buffer() -> [u32; 4096]
     ensures { λ r. ⌜ 4096 ≡ length r ⌝ }
@@ -44,272 +41,284 @@ fn states_of(mark: u64) -> States {
     }
 }
 
-fn encoding(kind: u64, width: u64, mark: u64) -> Encoding {
-    if kind == EVENT {
-        return Encoding::Event;
-    }
-    if kind == REAL {
-        return Encoding::Real;
-    }
-    let max_states = states_of(mark);
-    Encoding::BitVector {
-        width: narrow(width),
-        max_states,
-    }
-}
-
-pub fn description(values: &[u64; 72], field: usize) -> Description
-    requires { ⌜ field < 60 ⌝ }
-{
-    let encoding = encoding(values[field], values[field + 1], values[field + 2]);
-    Description::new(encoding, narrow(values[field + 3]))
-}
-
 fn empty_event() -> Description {
     Description::new(Encoding::Event, 0)
 }
 
-fn kind_letter(encoding: Encoding) -> u64 {
+pub fn description(line: &[u8], field: usize) -> Description
+    requires { ⌜ field < 100 ⌝ }
+{
+    let count = number_32(line, field + 3);
+    if has_letter(line, field, b'e') {
+        return Description::new(Encoding::Event, count);
+    }
+    if has_letter(line, field, b'r') {
+        return Description::new(Encoding::Real, count);
+    }
+    let width = number_32(line, field + 1);
+    let max_states = states_of(number(line, field + 2));
+    Description::new(Encoding::BitVector { width, max_states }, count)
+}
+
+// A kind, a width and a set.
+fn has_encoding(line: &[u8], field: usize, kind: u8, width: u32, set: u8) -> bool
+    requires { ⌜ field < 99 ⌝ }
+{
+    has_letter(line, field, kind) && has_pair(line, field + 1, width as u64, set as u64)
+}
+
+fn letter_of(encoding: Encoding) -> u8 {
     match encoding {
-        Encoding::Event => EVENT,
-        Encoding::Real => REAL,
+        Encoding::Event => b'e',
+        Encoding::Real => b'r',
         Encoding::BitVector {
             width: _,
             max_states: _,
-        } => BIT_VECTOR,
+        } => b'b',
     }
 }
 
-fn has_description(values: &[u64; 72], field: usize, description: Description) -> bool
-    requires { ⌜ field < 64 ⌝ }
+pub fn has_description(line: &[u8], field: usize, description: Description) -> bool
+    requires { ⌜ field < 99 ⌝ }
 {
     let encoding = description.encoding;
     let states = encoding.largest();
-    values[field] == kind_letter(encoding)
-        && values[field + 1] == encoding.width() as u64
-        && values[field + 2] == states.mark() as u64
-        && values[field + 3] == description.count as u64
+    let letter = letter_of(encoding);
+    has_encoding(line, field, letter, encoding.width(), states.mark())
+        && has_number(line, field + 3, description.count as u64)
 }
 
-// A number and a description, after a refusal that of an empty event.
-pub fn has_made(values: &[u64; 72], field: usize, made: Made) -> bool
-    requires { ⌜ field < 63 ⌝ }
+// A number and a description.
+fn has_outcome(line: &[u8], field: usize, number: u8, description: Description) -> bool
+    requires { ⌜ field < 98 ⌝ }
+{
+    has_number(line, field, number as u64) && has_description(line, field + 1, description)
+}
+
+// After a refusal the description is that of an empty event.
+pub fn has_made(line: &[u8], field: usize, made: Made) -> bool
+    requires { ⌜ field < 98 ⌝ }
 {
     match made {
-        Made::Record(description) => {
-            values[field] == 0 && has_description(values, field + 1, description)
-        }
-        Made::Refused(refusal) => {
-            values[field] == refusal.number() as u64
-                && has_description(values, field + 1, empty_event())
-        }
+        Made::Record(description) => has_outcome(line, field, 0, description),
+        Made::Refused(refusal) => has_outcome(line, field, refusal.number(), empty_event()),
     }
 }
 
 // ---- operations
 
-pub fn fresh(values: &[u64; 72]) -> bool {
-    values[0] == 9
-        && values[3] == EQUALS
-        && has_made(values, 4, fst::record::fresh(narrow(values[2])))
+pub fn fresh(line: &[u8]) -> bool {
+    is_framed(line, 3, 9) && has_made(line, 4, fst::record::fresh(number_32(line, 2)))
 }
 
-fn add_real(values: &[u64; 72], bytes: &mut [u8], indices: &mut [u32]) -> Added {
-    let record = description(values, 2);
-    let index = narrow(values[10]);
+// What Add a change is asked beside the value and the slices.
+struct Offer {
+    record: Description,
+    byte_start: usize,
+    index_start: usize,
+    index: u32,
+}
+
+fn offered(line: &[u8]) -> Offer {
+    let record = description(line, 2);
+    Offer {
+        record,
+        byte_start: place(line, 7),
+        index_start: place(line, 9),
+        index: number_32(line, 10),
+    }
+}
+
+fn add_real(line: &[u8], bytes: &mut [u8], indices: &mut [u32]) -> Added {
+    let to = offered(line);
+    let bits = number(line, 12);
+    let record = to.record;
     record.add_real(
         bytes,
-        values[7] as usize,
+        to.byte_start,
         indices,
-        values[9] as usize,
-        index,
-        values[12],
+        to.index_start,
+        to.index,
+        bits,
     )
 }
 
-fn add_value(values: &[u64; 72], bytes: &mut [u8], indices: &mut [u32], value: &[u8]) -> Added {
-    let record = description(values, 2);
-    let index = narrow(values[10]);
+fn add_value(line: &[u8], bytes: &mut [u8], indices: &mut [u32], value: &[u8]) -> Added {
+    let to = offered(line);
+    let record = to.record;
     record.add_change(
         bytes,
-        values[7] as usize,
+        to.byte_start,
         indices,
-        values[9] as usize,
-        index,
+        to.index_start,
+        to.index,
         value,
     )
 }
 
-fn change(line: &[u8], values: &[u64; 72], bytes: &mut [u8], indices: &mut [u32]) -> Added {
-    if values[11] == REAL {
-        return add_real(values, bytes, indices);
+fn change(line: &[u8], bytes: &mut [u8], indices: &mut [u32]) -> Added {
+    if has_letter(line, 11, b'r') {
+        return add_real(line, bytes, indices);
     }
     let mut value = io::large_buffer();
     let count = read_bytes(line, 12, &mut value);
-    add_value(values, bytes, indices, &value[..count])
+    add_value(line, bytes, indices, &value[..count])
 }
 
-fn is_added(line: &[u8], values: &[u64; 72], bytes: &mut [u8], indices: &mut [u32]) -> bool {
-    let added = change(line, values, bytes, indices);
+fn is_added(line: &[u8], bytes: &mut [u8], indices: &mut [u32]) -> bool {
+    let added = change(line, bytes, indices);
     let verdict = added.verdict;
-    values[14] == verdict.number() as u64
-        && has_description(values, 15, added.next)
-        && has_slices(line, 19, bytes, indices)
+    has_outcome(line, 14, verdict.number(), added.next) && has_slices(line, 19, bytes, indices)
 }
 
-pub fn add(line: &[u8], values: &[u64; 72]) -> bool {
+pub fn add(line: &[u8]) -> bool {
     let mut bytes = io::large_buffer();
     let mut indices = index_buffer();
-    let b = read_bytes(line, 6, &mut bytes);
-    let i = read_indices(line, 8, &mut indices);
-    values[0] == 21
-        && values[13] == EQUALS
-        && is_added(line, values, &mut bytes[..b], &mut indices[..i])
+    let byte_count = read_bytes(line, 6, &mut bytes);
+    let index_count = read_indices(line, 8, &mut indices);
+    is_framed(line, 13, 21) && is_added(line, &mut bytes[..byte_count], &mut indices[..index_count])
 }
 
-fn letter_of(kind: Kind) -> u64 {
+fn kind_letter(kind: Kind) -> u8 {
     match kind {
-        Kind::Event => EVENT,
-        Kind::Real => REAL,
-        Kind::BitVector => BIT_VECTOR,
+        Kind::Event => b'e',
+        Kind::Real => b'r',
+        Kind::BitVector => b'b',
     }
 }
 
-fn has_entry(values: &[u64; 72], answer: EntryAnswer) -> bool {
+fn has_shape(line: &[u8], number: u8, kind: u8, set: u8) -> bool {
+    has_number(line, 10, number as u64)
+        && has_letter(line, 11, kind)
+        && has_number(line, 12, set as u64)
+}
+
+fn has_entry(line: &[u8], answer: EntryAnswer) -> bool {
     match answer {
         EntryAnswer::Entry { kind, states } => {
-            values[10] == 0 && values[11] == letter_of(kind) && values[12] == states.mark() as u64
+            has_shape(line, 0, kind_letter(kind), states.mark())
         }
-        EntryAnswer::Refused(refusal) => {
-            values[10] == refusal.number() as u64 && values[11] == EVENT && values[12] == 0
-        }
+        EntryAnswer::Refused(refusal) => has_shape(line, refusal.number(), b'e', 0),
     }
 }
 
-fn is_read(line: &[u8], values: &[u64; 72], bytes: &[u8]) -> bool {
-    let record = description(values, 2);
-    let start = values[7] as usize;
-    let entry = narrow(values[8]);
+fn is_read(line: &[u8], bytes: &[u8]) -> bool {
+    let record = description(line, 2);
+    let byte_start = place(line, 7);
+    let entry = number_32(line, 8);
     has_entry(
-        values,
-        signal::read::read_entry(record, bytes, start, entry),
+        line,
+        signal::read::read_entry(record, bytes, byte_start, entry),
     )
         && has_bytes(
             line,
             13,
-            signal::read::entry_part(record, bytes, start, entry),
+            signal::read::entry_part(record, bytes, byte_start, entry),
         )
 }
 
-pub fn read(line: &[u8], values: &[u64; 72]) -> bool {
+pub fn read(line: &[u8]) -> bool {
     let mut bytes = io::large_buffer();
     let count = read_bytes(line, 6, &mut bytes);
-    values[0] == 14 && values[9] == EQUALS && is_read(line, values, &bytes[..count])
+    is_framed(line, 9, 14) && is_read(line, &bytes[..count])
 }
 
-fn is_text(line: &[u8], values: &[u64; 72], bytes: &[u8], out: &mut [u8]) -> bool {
-    let record = description(values, 2);
-    let entry = narrow(values[8]);
-    let verdict = signal::read::read_text(record, bytes, values[7] as usize, entry, out);
-    values[11] == verdict.number() as u64 && has_bytes(line, 12, out)
+fn is_text(line: &[u8], bytes: &[u8], out: &mut [u8]) -> bool {
+    let record = description(line, 2);
+    let byte_start = place(line, 7);
+    let entry = number_32(line, 8);
+    let verdict = signal::read::read_text(record, bytes, byte_start, entry, out);
+    has_number(line, 11, verdict.number() as u64) && has_bytes(line, 12, out)
 }
 
-pub fn text(line: &[u8], values: &[u64; 72]) -> bool {
+pub fn text(line: &[u8]) -> bool {
     let mut bytes = io::large_buffer();
     let mut out = io::large_buffer();
-    let b = read_bytes(line, 6, &mut bytes);
-    let o = read_bytes(line, 9, &mut out);
-    values[0] == 13 && values[10] == EQUALS && is_text(line, values, &bytes[..b], &mut out[..o])
+    let count = read_bytes(line, 6, &mut bytes);
+    let out_count = read_bytes(line, 9, &mut out);
+    is_framed(line, 10, 13) && is_text(line, &bytes[..count], &mut out[..out_count])
 }
 
-fn has_equal(values: &[u64; 72], answer: EqualAnswer) -> bool {
+fn has_equal(line: &[u8], answer: EqualAnswer) -> bool {
     match answer {
-        EqualAnswer::Equal => values[19] == 0 && values[20] == 1,
-        EqualAnswer::Unequal => values[19] == 0 && values[20] == 0,
-        EqualAnswer::Refused(refusal) => {
-            values[19] == refusal.number() as u64 && values[20] == 0
-        }
+        EqualAnswer::Equal => has_pair(line, 19, 0, 1),
+        EqualAnswer::Unequal => has_pair(line, 19, 0, 0),
+        EqualAnswer::Refused(refusal) => has_pair(line, 19, refusal.number() as u64, 0),
     }
 }
 
 fn is_compared(
-    values: &[u64; 72],
+    line: &[u8],
     a_bytes: &[u8],
     a_indices: &[u32],
     b_bytes: &[u8],
     b_indices: &[u32],
 ) -> bool {
-    let a = description(values, 2);
-    let b = description(values, 10);
-    has_equal(
-        values,
-        signal::compare::compare_records(
-            a,
-            a_bytes,
-            values[7] as usize,
-            a_indices,
-            values[9] as usize,
-            b,
-            b_bytes,
-            values[15] as usize,
-            b_indices,
-            values[17] as usize,
-        ),
-    )
+    let answer = signal::compare::compare_records(
+        description(line, 2),
+        a_bytes,
+        place(line, 7),
+        a_indices,
+        place(line, 9),
+        description(line, 10),
+        b_bytes,
+        place(line, 15),
+        b_indices,
+        place(line, 17),
+    );
+    has_equal(line, answer)
 }
 
-// The other record of a comparison.
-fn compare_with(line: &[u8], values: &[u64; 72], a_bytes: &[u8], a_indices: &[u32]) -> bool {
-    let mut bytes = io::large_buffer();
-    let mut indices = index_buffer();
-    let b = read_bytes(line, 14, &mut bytes);
-    let i = read_indices(line, 16, &mut indices);
-    is_compared(values, a_bytes, a_indices, &bytes[..b], &indices[..i])
+pub fn compare(line: &[u8]) -> bool {
+    let mut a_bytes = io::large_buffer();
+    let mut b_bytes = io::large_buffer();
+    let mut a_indices = index_buffer();
+    let mut b_indices = index_buffer();
+    let a = read_bytes(line, 6, &mut a_bytes);
+    let b = read_bytes(line, 14, &mut b_bytes);
+    let i = read_indices(line, 8, &mut a_indices);
+    let j = read_indices(line, 16, &mut b_indices);
+    is_framed(line, 18, 21)
+        && is_compared(
+            line,
+            &a_bytes[..a],
+            &a_indices[..i],
+            &b_bytes[..b],
+            &b_indices[..j],
+        )
 }
 
-pub fn compare(line: &[u8], values: &[u64; 72]) -> bool {
-    let mut bytes = io::large_buffer();
-    let mut indices = index_buffer();
-    let b = read_bytes(line, 6, &mut bytes);
-    let i = read_indices(line, 8, &mut indices);
-    values[0] == 21
-        && values[18] == EQUALS
-        && compare_with(line, values, &bytes[..b], &indices[..i])
-}
-
-fn has_next(values: &[u64; 72], next: NextIndex) -> bool {
+fn has_next(line: &[u8], next: NextIndex) -> bool {
     match next {
-        NextIndex::At(index) => values[10] == 1 && values[11] == index as u64,
-        NextIndex::Absent => values[10] == 0 && values[11] == 0,
+        NextIndex::At(index) => has_pair(line, 10, 1, index as u64),
+        NextIndex::Absent => has_pair(line, 10, 0, 0),
     }
 }
 
-fn has_offset(values: &[u64; 72], number: u8, found: bool, offset: DataOffset) -> bool {
+fn has_offset(line: &[u8], number: u8, found: bool, offset: DataOffset) -> bool {
     let next = offset.next_index;
-    values[5] == number as u64
-        && values[6] == found as u64
-        && values[7] == offset.start as u64
-        && values[8] == offset.elements as u64
-        && values[9] == offset.time_match as u64
-        && has_next(values, next)
+    has_pair(line, 5, number as u64, found as u64)
+        && has_pair(line, 7, offset.start as u64, offset.elements as u64)
+        && has_number(line, 9, offset.time_match as u64)
+        && has_next(line, next)
 }
 
-fn is_looked_up(values: &[u64; 72], indices: &[u32]) -> bool {
+fn is_looked_up(line: &[u8], indices: &[u32]) -> bool {
     let nowhere = DataOffset {
         start: 0,
         elements: 0,
         time_match: false,
         next_index: NextIndex::Absent,
     };
-    match signal::offset::get_offset(indices, narrow(values[3])) {
-        OffsetAnswer::At(offset) => has_offset(values, 0, true, offset),
-        OffsetAnswer::Nothing => has_offset(values, 0, false, nowhere),
-        OffsetAnswer::Refused(refusal) => has_offset(values, refusal.number(), false, nowhere),
+    match signal::offset::get_offset(indices, number_32(line, 3)) {
+        OffsetAnswer::At(offset) => has_offset(line, 0, true, offset),
+        OffsetAnswer::Nothing => has_offset(line, 0, false, nowhere),
+        OffsetAnswer::Refused(refusal) => has_offset(line, refusal.number(), false, nowhere),
     }
 }
 
-pub fn look_up(line: &[u8], values: &[u64; 72]) -> bool {
+pub fn look_up(line: &[u8]) -> bool {
     let mut indices = index_buffer();
     let count = read_indices(line, 2, &mut indices);
-    values[0] == 12 && values[4] == EQUALS && is_looked_up(values, &indices[..count])
+    is_framed(line, 4, 12) && is_looked_up(line, &indices[..count])
 }

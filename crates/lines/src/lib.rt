@@ -1,4 +1,4 @@
-// Fields of a line, by their number from 0, with one space between two: read, and compared with what a call gave.
+// Fields of a line of text, by their number from 0, with one space between two: read, and compared with what a call gave.
 ghost use Prim.Native.Nat.{_<_};
 ghost use Rattle.io.specs.Counts.{Counts};
 
@@ -76,55 +76,57 @@ fn is_end(line: &[u8], at: usize) -> bool {
     line.len() <= at || line[at] == b' '
 }
 
+fn is_word_at(line: &[u8], at: usize, word: &[u8]) -> bool {
+    if line.len() < at {
+        return false;
+    }
+    if line.len() - at < word.len() {
+        return false;
+    }
+    let end = at + word.len();
+    check::same(&line[at..end], word) && is_end(line, end)
+}
+
+pub fn has_word(line: &[u8], field: usize, word: &[u8]) -> bool {
+    is_word_at(line, start(line, field), word)
+}
+
+// Whether a field is one letter.
+pub fn has_letter(line: &[u8], field: usize, letter: u8) -> bool {
+    let at = start(line, field);
+    at < line.len() && line[at] == letter && is_end(line, after(at, 1))
+}
+
+// Whether a line has so many fields, `=` at the place named.
+pub fn is_framed(line: &[u8], equals: usize, fields: usize) -> bool {
+    has_word(line, equals, b"=") && start(line, fields) == line.len()
+}
+
 // ---- numbers
 
-// The characters of a field as digits to base 256, modulo 2^64.
-fn word(line: &[u8], from: usize) -> u64 {
-    let mut value = 0;
-    let mut at = from;
-    while at < line.len() {
-        let character = wide(line[at]);
-        if character == 32 {
-            return value;
-        }
-        value = value % 72057594037927936 * 256 + character;
-        at += 1;
-    }
-    value
+pub fn number(line: &[u8], field: usize) -> u64 {
+    let read = digits(line, start(line, field), 10, 20);
+    read.value
 }
 
-fn wide(character: u8) -> u64
-    ensures { λ r. ⌜ r < 256 ⌝ }
-{
-    character as u64
+pub fn number_32(line: &[u8], field: usize) -> u32 {
+    (number(line, field) % 4294967296) as u32
 }
 
-// The number that a field is, or else its word.
-fn value(line: &[u8], at: usize) -> u64 {
+pub fn place(line: &[u8], field: usize) -> usize {
+    number(line, field) as usize
+}
+
+pub fn has_number(line: &[u8], field: usize, value: u64) -> bool {
+    let at = start(line, field);
     let read = digits(line, at, 10, 20);
-    if 0 < read.count && is_end(line, after(at, read.count)) {
-        return read.value;
-    }
-    word(line, at)
+    0 < read.count && read.value == value && is_end(line, after(at, read.count))
 }
 
-// The fields of a line by their values, and how many there are.
-pub fn read_values(line: &[u8], out: &mut [u64; 72]) -> usize {
-    let mut at = 0;
-    let mut count = 0;
-    while count < 72 {
-        if line.len() <= at {
-            return count;
-        }
-        out[count] = value(line, at);
-        at = next_start(line, at);
-        count += 1;
-    }
-    count
-}
-
-pub fn narrow(value: u64) -> u32 {
-    (value % 4294967296) as u32
+pub fn has_pair(line: &[u8], field: usize, first: u64, second: u64) -> bool
+    requires { ⌜ field < 100 ⌝ }
+{
+    has_number(line, field, first) && has_number(line, field + 1, second)
 }
 
 // ---- lists: read into a buffer, and how many
@@ -193,7 +195,7 @@ fn is_index_at(line: &[u8], at: usize, index: u32) -> bool {
 // Whether a list of so many elements ends at a place. None are a full stop.
 fn is_list_end(line: &[u8], at: usize, count: usize) -> bool {
     if count == 0 {
-        return at < line.len() && line[at] == b'.' && is_end(line, after(at, 1));
+        return is_word_at(line, at, b".");
     }
     is_end(line, at)
 }

@@ -1,9 +1,9 @@
--- `answers::fields::start` is safe and ends.
+-- `lines::start` is safe and ends.
 -- Assumes nothing.
 use Prim.Native.Nat.{_≤_, _-_}
 use borrow.Author.Needs.{needs}
-use Rattle.answers.proofs.fields.start.Statement.{statement}
-use Rattle.answers.proofs.fields.start.Tie as tie
+use Rattle.lines.proofs.start.Statement.{statement}
+use Rattle.lines.proofs.start.Tie as tie
 
 pub start-spec : {M : Type 1} → statement M
 start-spec =

@@ -1,10 +1,10 @@
--- `answers::fields::has_bytes` is safe and ends.
+-- `lines::has_bytes` is safe and ends.
 -- Assumes nothing.
 use Prim.Native.Nat.{_≤_, _-_}
 use lib.ListN.{length}
 use borrow.Author.Needs.{needs}
-use Rattle.answers.proofs.fields.has_bytes.Statement.{statement}
-use Rattle.answers.proofs.fields.has_bytes.Tie as tie
+use Rattle.lines.proofs.has_bytes.Statement.{statement}
+use Rattle.lines.proofs.has_bytes.Tie as tie
 
 pub has-bytes-spec : {M : Type 1} → statement M
 has-bytes-spec =

@@ -1,11 +1,11 @@
--- `answers::fields::read_pieces` is safe and ends.
+-- `lines::read_pieces` is safe and ends.
 -- Assumes nothing.
 use mathlib.Core.Path.{_≡_}
 use Prim.Native.Nat.{_≤_, _-_}
 use lib.ListN.{length}
 use borrow.Author.Needs.{needs}
-use Rattle.answers.proofs.fields.read_pieces.Statement.{statement}
-use Rattle.answers.proofs.fields.read_pieces.Tie as tie
+use Rattle.lines.proofs.read_pieces.Statement.{statement}
+use Rattle.lines.proofs.read_pieces.Tie as tie
 
 pub read-pieces-spec : {M : Type 1} → statement M
 read-pieces-spec =

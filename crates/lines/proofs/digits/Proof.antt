@@ -1,9 +1,9 @@
--- `answers::fields::digits` is safe and ends.
+-- `lines::digits` is safe and ends.
 -- Assumes nothing.
 use Prim.Native.Nat.{_≤_, _-_}
 use borrow.Author.Needs.{needs}
-use Rattle.answers.proofs.fields.digits.Statement.{statement}
-use Rattle.answers.proofs.fields.digits.Tie as tie
+use Rattle.lines.proofs.digits.Statement.{statement}
+use Rattle.lines.proofs.digits.Tie as tie
 
 pub digits-spec : {M : Type 1} → statement M
 digits-spec =
