@@ -7,17 +7,16 @@ use Prim.Native.Nat.{ℕ, zero, suc, _+_, _-_, _*_, _/_, _%_, _≤_, _<_}
 use native.Mathlib.Omega.{arith}
 use lib.Dec.{T, leb, ltb, eqb, leb→le}
 use lib.ListN.{length}
-use borrow.Author.Tests.{le-leb, lt-leb, lt-ltb, le-ltb, not-true, not-false}
+use borrow.Author.Tests.{le-leb, lt-leb, lt-ltb, le-ltb, not-false}
 use Rattle.value.specs.declared.States.{States}
 use Rattle.value.specs.declared.States.the-variants.{Two, Four, Nine}
 use Rattle.value.proofs.Tests.{by-le, to-T, from-T, and-left, and-right}
 use Rattle.fst.specs.declared.Encoding.{Encoding}
-use Rattle.fst.specs.declared.Encoding.the-variants.{Event, Real, BitVector}
+use Rattle.fst.specs.declared.Encoding.the-variants.{Event, BitVector}
 use Rattle.fst.specs.declared.Description.{Description}
 use Rattle.fst.specs.Refusal.{Reply, refused, given, tried}
-use Rattle.fst.proofs.Adding.{width-known}
 use Rattle.layout.specs.Entry.{entrySize}
-use Rattle.fst.specs.Record.{Lent, maximum, maxWidth, sizeOf, usedSize, widthStands, fitsBytes, fits, isBadBytes, isBad, empty, encodingFor, fresh}
+use Rattle.fst.specs.Record.{Lent, maximum, maxWidth, sizeOf, usedSize, widthStands, fitsBytes, fits, isBadBytes, isBad, described, empty, encodingFor, fresh}
 
 -- ---- Fresh
 
@@ -153,18 +152,9 @@ size-small w Nine h = go (eqb (w % 2) 0)
     go true = omega arith
     go false = omega arith
 
-pub size-under : (e : Encoding) → widthStands e ≡ true → sizeOf e ≤ 4096
-size-under Event h = omega arith
-size-under Real h = omega arith
-size-under (BitVector w M) h = omega (arith, size-small w M ((width-known M h) .1))
-
 -- ---- room in both slices
 
-module _ (e : Encoding) (n : ℕ) (l : Lent) {r : Bool} (h : r ≡ room n (sizeOf e) (length (l .bytes)) (l .byteStart)) where
-  pub too-many : not r ≡ true → true ≡ not (fits e n l)
-  unfolding fits fitsBytes
-  too-many t = rw (← h, not-true r t)
-
-  pub exceeds-by : not r ≡ false → not (leb (l .indexStart + n) (length (l .indices))) ≡ not (fits e n l)
-  unfolding fits fitsBytes
-  exceeds-by t = rw (← h, not-false r t)
+-- a record whose width stands is bad just where it has no room
+pub bad-exceeds : (e : Encoding) (n : ℕ) (l : Lent) → widthStands e ≡ true → isBad (described e n) l ≡ not (fits e n l)
+unfolding isBad
+bad-exceeds e n l h = rw h

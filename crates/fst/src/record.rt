@@ -142,8 +142,7 @@ pub fn exceeds(
     requires { ⌜ widthStands encoding ≡ true ⌝ }
     ensures { λ r. ⌜ r ≡ not (fits encoding count (lent (now (bytes .entry)) «byte_start» (now (indices .entry)) «index_start»)) ⌝ }
 {
-    let size = encoding.size();
-    if !has_room(count, size, bytes.len(), byte_start) {
+    if is_bad_bytes(Description::new(encoding, count), bytes, byte_start) {
         return true;
     }
     lacks_indices(count, indices, index_start)
