@@ -367,6 +367,22 @@ module _ (a : Accepted) where
   pub accepted-sound : All (Sound (a .derivation .width) M) (listOf a)
   accepted-sound = derived-sound (a .derivation) (a .inputs .count) ks accepted-passes (a .sized)
 
+  -- the description that was answered
+  made-is : described (laid .encoding) (length (laid .indices)) ≡ a .made
+  unfolding derive deriveRefusals
+  made-is = go (result (given laid) tests tt) (a .is)
+    where
+      go : Result (given laid) tests → (derivedBy out (tried tests (given laid))) .answer ≡ given (a .made) → described (laid .encoding) (length (laid .indices)) ≡ a .made
+      go (through ps q) h =
+          let e : (derivedBy out (given laid)) .answer ≡ given (a .made) = ap (λ (r : Reply Kept). (derivedBy out r) .answer) (sym q) ∙ h in
+          cc
+      go (stopped n q) h = never n q h
+
+  -- "count and time indices are the list's"
+  pub derived-counts : a .made .count ≡ length (listOf a)
+  unfolding laidOut
+  derived-counts = ap (λ (m : Description). m .count) (sym made-is) ∙ length-map (listOf a) runs.indexOf
+
   -- "After every accepted Derive the record is this list laid out"
   pub derived-is-laid-out : keptOf (recordOf a) ≡ laidOut (a .derivation .width) (largestAmong (ksOf a)) (listOf a)
   unfolding derive deriveRefusals stored
@@ -378,10 +394,9 @@ module _ (a : Accepted) where
       found : Left (given laid)
       found h =
           let w = a .derivation .width in
-          let e : described (laid .encoding) (length (laid .indices)) ≡ a .made = cc in
           let x = (derivedBy out (given laid)) .bytes in
           let y = (derivedBy out (given laid)) .indices in
-          ap (λ (m : Description). keptOf (heldIn m (lentOut x y))) (sym e)
+          ap (λ (m : Description). keptOf (heldIn m (lentOut x y))) (sym made-is)
           ∙ laid-found w (laws w accepted-width) M (listOf a) out (omega arith) (omega arith)
 
       go : Result (given laid) tests → Left (tried tests (given laid))
