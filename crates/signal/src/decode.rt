@@ -34,11 +34,15 @@ pub fn states_at(mark: u32) -> States
     }
 }
 
-// An entry's own set, where its mark is a set's, by the mark of its record's largest set.
+// An entry's own set, where its mark is a set's, by the mark of its record's largest set. Two is answered at once, so that a loop over
+// entries of Two makes no set of a mark.
 pub fn states_in(most: u32, entry: &[u8]) -> States
     requires { ⌜ 0 < length (now entry) ⌝ }
     ensures { λ r. ⌜ r ≡ setAt (markIn (setAt most) (now (entry .entry))) ⌝ }
 {
+    if most == 0 {
+        return States::Two;
+    }
     states_at(own_mark(most, entry))
 }
 

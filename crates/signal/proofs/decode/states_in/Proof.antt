@@ -3,11 +3,16 @@
 use mathlib.Core.Path.{ap, _∙_}
 use borrow.Author.Needs.{needs}
 use Rattle.value.specs.Level.{setAt}
+use Rattle.signal.specs.Decode.{markIn}
 use Rattle.signal.proofs.decode.states_in.Statement.{statement}
 use Rattle.signal.proofs.decode.states_in.Tie as tie
 
 returns : tie.Need-returns
-returns c = c .states-at .ensures ∙ ap setAt (c .before .own-mark .ensures)
+unfolding markIn
+returns c = rw (c .if1 .taken)
+
+returns-2 : tie.Need-returns-2
+returns-2 c = c .states-at .ensures ∙ ap setAt (c .before .own-mark .ensures)
 
 pub states-in-spec : {M : Type 1} → statement M
-states-in-spec = tie.close (tie.spec (λ c κs. search needs) (λ c κs. search needs) returns)
+states-in-spec = tie.close (tie.spec returns (λ c κs. search needs) (λ c κs. search needs) returns-2)
