@@ -292,7 +292,7 @@ impl DerivedBitVecSignal {
         DerivedBitVecSignal::empty().concat_left(signal, msb, lsb)
     }
 
-    // The derivation of all wires of a signal, of which there is at least one.
+    // The derivation of all wires of a signal.
     pub fn new_identity(signal: u32, width: u32) -> Joined
         ensures { λ r. ⌜ joinedOf r ≡ identityOf signal width ⌝ }
     {

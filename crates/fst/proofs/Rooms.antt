@@ -16,7 +16,7 @@ use Rattle.fst.specs.declared.Encoding.the-variants.{Event, BitVector}
 use Rattle.fst.specs.declared.Description.{Description}
 use Rattle.fst.specs.Refusal.{Reply, refused, given, tried}
 use Rattle.layout.specs.Entry.{entrySize}
-use Rattle.fst.specs.Record.{Lent, maximum, maxWidth, sizeOf, usedSize, widthStands, fitsBytes, fits, isBadBytes, isBad, described, empty, encodingFor, fresh}
+use Rattle.fst.specs.Record.{Lent, maximum, maxWidth, sizeOf, usedSize, widthStands, fitsBytes, fits, isBadBytes, isBad, empty, encodingFor, fresh}
 
 -- ---- Fresh
 
@@ -133,10 +133,6 @@ module _ (d : Description) (l : Lent) where
     pub by-indices : isBad d l ≡ not (leb (l .indexStart + d .count) (length (l .indices)))
     by-indices = bad-by ∙ ap (λ (b : Bool). b || not (leb (l .indexStart + d .count) (length (l .indices)))) h
 
-pub width-stands : (w : ℕ) (M : States) → 1 ≤ w → w ≤ 4096 → widthStands (BitVector w M) ≡ true
-unfolding widthStands
-width-stands w M a b = rw (le-leb 1 w a, le-leb w 4096 b)
-
 -- an entry is never longer than this
 pub size-small : (w : ℕ) (M : States) → w ≤ 4096 → entrySize w M ≤ 2049
 unfolding entrySize
@@ -155,6 +151,6 @@ size-small w Nine h = go (eqb (w % 2) 0)
 -- ---- room in both slices
 
 -- a record whose width stands is bad just where it has no room
-pub bad-exceeds : (e : Encoding) (n : ℕ) (l : Lent) → widthStands e ≡ true → isBad (described e n) l ≡ not (fits e n l)
+pub bad-exceeds : (d : Description) (l : Lent) → widthStands (d .encoding) ≡ true → isBad d l ≡ not (fits (d .encoding) (d .count) l)
 unfolding isBad
-bad-exceeds e n l h = rw h
+bad-exceeds d l h = rw h

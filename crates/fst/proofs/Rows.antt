@@ -17,7 +17,7 @@ use Rattle.fst.specs.declared.Encoding.the-variants.{Event, Real, BitVec
 use Rattle.fst.specs.declared.Description.{Description}
 use Rattle.fst.specs.Refusal.{Reply, refused, given, tried, Outcome}
 use Rattle.layout.specs.Entry.{entrySize, entryOf, markByte, unmarked, levelBytes, widenEntry, widenAll}
-use Rattle.fst.specs.Record.{Lent, Kept, Recorder, keptIn, widthStands, fitsBytes, fits, isBad, lent, described, fresh, freshReal}
+use Rattle.fst.specs.Record.{Lent, Kept, Held, Recorder, keptIn, widthStands, fitsBytes, fits, isBad, lent, described, fresh, freshReal}
 use Rattle.fst.specs.Change.{Change, text, real, isOtherKind, isOtherLength, isForeign, isBelowLast, repeats, appended, changed, refusals, stored, addChange}
 
 -- a change at an index, the number that it gets and the record that is then in the slices
@@ -27,21 +27,25 @@ pub record Checked : Type 0 where
   pub refused : ℕ
   pub then : Kept
 
--- calls one after the other from a record, over slices with room for so many bytes and indices from its starts on
+-- calls one after the other from a description with its used part, over slices with room for so many bytes and indices from its starts on
 pub record Row : Type 0 where
-  pub from : Kept
+  pub from : Held Description
   pub byteRoom : ℕ
   pub indexRoom : ℕ
   pub calls : List Checked
 
--- gives-2 bytes and gives-3 indices stand before the record, and what is left of the room behind it
-unfoldable pub around : ℕ → ℕ → Kept → Recorder Description
-around byteRoom indexRoom k =
+-- two bytes and three indices stand before the used part, and what is left of the room behind it
+unfoldable pub around : ℕ → ℕ → Held Description → Recorder Description
+around byteRoom indexRoom h =
     record {
-      description = described (k .encoding) (length (k .indices));
-      bytes = replicate 2 0xAA ++ (k .bytes ++ replicate (byteRoom - length (k .bytes)) 0xBB);
-      indices = replicate 3 70 ++ (k .indices ++ replicate (indexRoom - length (k .indices)) 80);
+      description = h .description;
+      bytes = replicate 2 0xAA ++ (h .bytes ++ replicate (byteRoom - length (h .bytes)) 0xBB);
+      indices = replicate 3 70 ++ (h .indices ++ replicate (indexRoom - length (h .indices)) 80);
     }
+
+-- a record with its description
+abbrev pub heldBy : Kept → Held Description
+heldBy k = record { description = described (k .encoding) (length (k .indices)); bytes = k .bytes; indices = k .indices }
 
 unfoldable pub lentBy : Recorder Description → Lent
 lentBy r = lent (r .bytes) 2 (r .indices) 3
@@ -58,7 +62,7 @@ played r [] = r
 played r (c ∷ cs) = played ((addChange (r .description) (lentBy r) (c .index) (c .change)) .left) cs
 
 unfoldable pub Holds : Row → Type 0
-Holds r = let within = around (r .byteRoom) (r .indexRoom) in Follows within (within (r .from)) (r .calls)
+Holds r = let within = around (r .byteRoom) (r .indexRoom) in Follows (λ (k : Kept). within (heldBy k)) (within (r .from)) (r .calls)
 
 unfoldable pub AllHold : List Row → Type 0
 AllHold [] = Unit
@@ -69,9 +73,9 @@ AllHold (r ∷ rs) = Holds r × AllHold rs
 abbrev pub kept : Encoding → List ℕ → List ℕ → Kept
 kept e indices bytes = record { encoding = e; bytes = bytes; indices = indices }
 
-abbrev pub freshly : Reply Description → Kept
-freshly (given d) = kept (d .encoding) [] []
-freshly (refused n) = kept Event [] []
+abbrev pub freshly : Reply Description → Held Description
+freshly (given d) = record { description = d; bytes = []; indices = [] }
+freshly (refused n) = heldBy (kept Event [] [])
 
 abbrev pub row : ℕ → List Checked → Row
 row w calls = record { from = freshly (fresh w); byteRoom = 9; indexRoom = 9; calls = calls }
@@ -120,13 +124,13 @@ rows =
 -- "Row 5's second change fits 4 bytes; with 3 it is 7 and 0A remains"
 abbrev fifthIn : ℕ → Checked → Row
 fifthIn room c =
-    record { from = kept (BitVector 4 Two) (0 ∷ []) (0x0A ∷ []); byteRoom = room; indexRoom = 2; calls = c ∷ [] }
+    record { from = heldBy (kept (BitVector 4 Two) (0 ∷ []) (0x0A ∷ [])); byteRoom = room; indexRoom = 2; calls = c ∷ [] }
 
 abbrev pub edges : List Row
 edges =
     fifthIn 4 (accepted "10xz" 2 (kept (BitVector 4 Four) (0 ∷ 2 ∷ []) (0x00 ∷ 0x0A ∷ 0x40 ∷ 0x4B ∷ [])))
     ∷ fifthIn 3 (refusedBy 7 "10xz" 2 (kept (BitVector 4 Two) (0 ∷ []) (0x0A ∷ [])))
-    -- gives-2 entries widened, whose bytes overlap where they stood
+    -- two entries widened, whose bytes overlap where they stood
     ∷ row 4
     (accepted "1010" 0 (kept (BitVector 4 Two) (0 ∷ []) (0x0A ∷ []))
     ∷ accepted "0101" 1 (kept (BitVector 4 Two) (0 ∷ 1 ∷ []) (0x0A ∷ 0x05 ∷ []))
@@ -144,7 +148,7 @@ edges =
     }
     -- bytes that no writer made: the mark of `x` under Two, which `x` repeats where it raises the set, in full slices
     ∷ record {
-      from = kept (BitVector 1 Two) (5 ∷ []) (0x42 ∷ []);
+      from = heldBy (kept (BitVector 1 Two) (5 ∷ []) (0x42 ∷ []));
       byteRoom = 1;
       indexRoom = 1;
       calls = accepted "x" 6 (kept (BitVector 1 Four) (5 ∷ []) (0x42 ∷ [])) ∷ [];

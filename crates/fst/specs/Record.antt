@@ -111,10 +111,11 @@ isBadBytes d start bytes = not (widthStands (d .encoding) && fitsBytes (d .encod
 unfoldable pub isBad : Description → Lent → Bool
 isBad d l = not (widthStands (d .encoding) && fits (d .encoding) (d .count) l)
 
--- "Fresh. 1: width above 4,096. Width 0 makes an event; a real is given no width"
+-- a description is made here, of an encoding and a count
 abbrev pub described : Encoding → ℕ → Description
 described e n = record { encoding = e; count = n }
 
+-- "Fresh. 1: width above 4,096. Width 0 makes an event; a real is given no width"
 abbrev pub empty : Encoding → Description
 empty e = described e 0
 

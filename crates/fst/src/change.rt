@@ -215,7 +215,7 @@ impl Description {
         let total = next_count(count, repeat);
         let before = self;
         self = Description::new(encoding, total);
-        if exceeds(encoding, total, bytes, byte_start, indices, index_start) {
+        if exceeds(self, bytes, byte_start, indices, index_start) {
             return refused(before, Refusal::NoRoom);
         }
         let entries = count as usize;
@@ -406,17 +406,9 @@ impl Description {
         if is_below_last(index, indices, index_start, self.count) {
             return refused(self, Refusal::IndexBelowLast);
         }
-        let encoding = self.encoding;
         let before = self;
         self.count += 1;
-        if exceeds(
-            encoding,
-            self.count,
-            bytes,
-            byte_start,
-            indices,
-            index_start,
-        ) {
+        if exceeds(self, bytes, byte_start, indices, index_start) {
             return refused(before, Refusal::NoRoom);
         }
         indices[index_start + before.count as usize] = index;

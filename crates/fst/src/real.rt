@@ -85,14 +85,7 @@ impl Description {
         }
         let before = self;
         self.count += 1;
-        if exceeds(
-            encoding,
-            self.count,
-            bytes,
-            byte_start,
-            indices,
-            index_start,
-        ) {
+        if exceeds(self, bytes, byte_start, indices, index_start) {
             return refused(before, Refusal::NoRoom);
         }
         let entries = count as usize;

@@ -132,20 +132,19 @@ pub fn is_bad_vector(
 
 // Whether so many entries exceed the maximum or a slice.
 pub fn exceeds(
-    encoding: Encoding,
-    count: u32,
+    description: Description,
     bytes: &[u8],
     byte_start: usize,
     indices: &[u32],
     index_start: usize,
 ) -> bool
-    requires { ⌜ widthStands encoding ≡ true ⌝ }
-    ensures { λ r. ⌜ r ≡ not (fits encoding count (lent (now (bytes .entry)) «byte_start» (now (indices .entry)) «index_start»)) ⌝ }
+    requires { ⌜ widthStands (description .encoding) ≡ true ⌝ }
+    ensures { λ r. ⌜ r ≡ not (fits (description .encoding) (description .count) (lent (now (bytes .entry)) «byte_start» (now (indices .entry)) «index_start»)) ⌝ }
 {
-    if is_bad_bytes(Description::new(encoding, count), bytes, byte_start) {
+    if is_bad_bytes(description, bytes, byte_start) {
         return true;
     }
-    lacks_indices(count, indices, index_start)
+    lacks_indices(description.count, indices, index_start)
 }
 
 // Whether one entry more has no room, where the record is not bad and its entries have a size.

@@ -120,7 +120,7 @@ unfoldable pub entriesOf : ℕ → States → List Step → List ℕ
 entriesOf w M [] = []
 entriesOf w M (s ∷ l) = entryOf w M (s .set) (codesOf (s .string)) ++ entriesOf w M l
 
--- "The count is the number of pairs, the time indices are theirs in order"
+-- "the time indices are theirs in order"; a record by itself has as many entries as indices
 unfoldable pub laidOut : ℕ → States → List Step → Kept
 laidOut w M l = record { encoding = BitVector w M; bytes = entriesOf w M l; indices = map indexOf l }
 

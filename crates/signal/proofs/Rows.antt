@@ -16,7 +16,7 @@ use Rattle.fst.specs.declared.Encoding.the-variants.{Event, Real, BitVector}
 use Rattle.fst.specs.Refusal.{Reply, refused, given, tried}
 use Rattle.layout.specs.Entry.{entrySize}
 use Rattle.fst.specs.Record.{Kept, hasNoText, keptIn, widthStands, fitsBytes, fits, isBadBytes, isBad}
-use Rattle.fst.proofs.Rows.{around, lentBy, kept}
+use Rattle.fst.proofs.Rows.{around, heldBy, lentBy, kept}
 use Rattle.signal.specs.declared.Kind.the-variants as kind
 use Rattle.fst.specs.declared.NextIndex.{NextIndex}
 use Rattle.fst.specs.declared.NextIndex.the-variants.{Absent, At}
@@ -69,7 +69,7 @@ pub record Shows : Type 0 where
 
 Reads : Shows → Type 0
 Reads s =
-    let r = around 5 5 (s .of) in
+    let r = around 5 5 (heldBy (s .of)) in
     (readEntry (r .description) (r .bytes) 2 (s .entry) ≡ s .read)
     × (readText (r .description) (r .bytes) 2 (s .entry) (chars "....") ≡ textLeft (s .refused) (chars (s .text)))
 
@@ -113,8 +113,8 @@ shows-hold = (
 
 compared : Kept → Kept → Reply Bool
 compared a b =
-    let r = around 9 9 a in
-    let q = around 9 9 b in
+    let r = around 9 9 (heldBy a) in
+    let q = around 9 9 (heldBy b) in
     compareRecords (r .description) (lentBy r) (q .description) (lentBy q)
 
 -- a real record of one entry, by its bits

@@ -7,11 +7,11 @@ use Rattle.fst.specs.Record.{Held, Kept, heldIn}
 use Rattle.fst.specs.Refusal.{given}
 use Rattle.fst.specs.declared.Description.{Description}
 use Rattle.runs.specs.Runs.{Step}
-use Rattle.derivation.specs.Piece.{Sized, piecesOf}
+use Rattle.derivation.specs.Piece.{Sized}
 use Rattle.derivation.specs.declared.DerivedBitVecSignal.{DerivedBitVecSignal}
 use Rattle.steps.specs.Inputs.{keptAll}
 use Rattle.steps.specs.declared.Inputs.{Inputs}
-use Rattle.transform.specs.Derive.{Derived, derive, derivedList, lentOut}
+use Rattle.transform.specs.Derive.{Derived, derive, derivedFrom, lentOut}
 
 -- what was given, and that a description was answered. An array's length is its type's.
 pub record Accepted : Type 0 where
@@ -30,7 +30,7 @@ abbrev pub ksOf : Accepted → List Kept
 ksOf a = keptAll (a .bytes) (a .indices) (a .inputs)
 
 abbrev pub listOf : Accepted → List Step
-listOf a = derivedList (piecesOf (a .derivation)) (ksOf a)
+listOf a = derivedFrom (a .derivation) (a .inputs) (a .bytes) (a .indices)
 
 abbrev pub leftOf : Accepted → Derived
 leftOf a = derive (a .derivation) (a .inputs) (a .bytes) (a .indices) (a .outBytes) (a .outIndices)

@@ -33,7 +33,7 @@ flatFresh f w = madeOver f (fresh w)
 
 -- ---- a run
 
--- what a recorder finds in two slices: what its description does
+-- what a recorder finds in two slices: what its description does; numbers that are no description find nothing
 unfoldable pub flatKeptIn : FlatDescription → Lent → Held FlatDescription
 flatKeptIn f l =
     let k = keptIn (describedBy (decoded f)) l in

@@ -170,7 +170,7 @@ fn inputs_of(flat: FlatInputs) -> Inputs
 // Derive, into the front of the output slices.
 #[no_mangle]
 pub extern "C" fn yoksimert_derive(
-    flat: FlatDerivation,
+    derivation: FlatDerivation,
     names: &[u32; 8],
     pieces: &[u64; 64],
     inputs: FlatInputs,
@@ -179,9 +179,9 @@ pub extern "C" fn yoksimert_derive(
     out_bytes: &mut [u8],
     out_indices: &mut [u32],
 ) -> FlatMade
-    ensures { λ r. ⌜ madeBy r (now («out_bytes» .exit)) (now («out_indices» .exit)) ≡ flatDerive flat (now (names .entry)) (now (pieces .entry)) inputs (now (bytes .entry)) (now (indices .entry)) (now («out_bytes» .entry)) (now («out_indices» .entry)) ⌝ }
+    ensures { λ r. ⌜ madeBy r (now («out_bytes» .exit)) (now («out_indices» .exit)) ≡ flatDerive derivation (now (names .entry)) (now (pieces .entry)) inputs (now (bytes .entry)) (now (indices .entry)) (now («out_bytes» .entry)) (now («out_indices» .entry)) ⌝ }
 {
-    let known = derivation_of(flat, names, pieces);
+    let known = derivation_of(derivation, names, pieces);
     let records = inputs_of(inputs);
     flat_made(derive(known, records, bytes, indices, out_bytes, out_indices))
 }

@@ -1,5 +1,5 @@
 //! The oracle: every operation of document 01 on plain lists, written from the
-//! document and from the letters of IEEE 1364 and IEEE 1164 alone.
+//! document, its readings in docs/DECISIONS.md, and the letters of IEEE 1364 and IEEE 1164.
 //!
 //! It is meant to be checked line by line against the document, so it takes the
 //! plainest form of each sentence: an entry is a list of bits, a string is a list of

@@ -1,5 +1,5 @@
-//! The contracts of the Rattle code fit on a line or two: a clause has at most 300 characters, and one of a public function without a
-//! `requires`, which is an operation or an export, at most 240.
+//! The contracts of the Rattle code fit on a line or two: a fact, between its corners, has at most 300 characters, and one of a
+//! public function without a `requires`, which is an operation or an export, at most 240.
 
 use std::fs;
 use std::path::{Path, PathBuf};
@@ -25,11 +25,11 @@ impl Function {
 
     fn take_clause(&mut self, line: &str) {
         self.has_requires |= line.starts_with("requires");
-        let inside = line
-            .split_once('{')
-            .and_then(|(_, rest)| rest.rsplit_once('}'));
-        let (clause, _) = inside.expect("a clause stands on one line, in braces");
-        self.longest = self.longest.max(clause.trim().chars().count());
+        let (_, fact) = line.split_once('⌜').expect("a clause stands on one line");
+        let (fact, _) = fact
+            .rsplit_once('⌝')
+            .expect("a fact ends where its line does");
+        self.longest = self.longest.max(fact.trim().chars().count());
     }
 }
 

@@ -1,14 +1,15 @@
 -- `fst::Description::raise_levels` meets its contract.
 -- Assumes nothing.
 use mathlib.Core.Path.{_≡_, refl, sym, ap, ap₂, _∙_}
-use mathlib.Core.Bool.{true, false, cond}
+use mathlib.Core.Bool.{true, false, cond, not}
 use mathlib.Core.List.{List}
 use Prim.Native.Nat.{ℕ, _+_, _*_, _≤_, _<_}
 use native.Mathlib.Omega.{arith}
 use denote.Ref.{now}
 use lib.ListN.{length, set}
 use Rattle.fst.specs.declared.Description.{Description}
-use Rattle.fst.specs.Record.{Lent, lent}
+use Rattle.fst.specs.declared.Encoding.the-variants.{BitVector}
+use Rattle.fst.specs.Record.{Lent, lent, widthStands, fits}
 use Rattle.fst.specs.Adding.{repeatsWidened}
 use Rattle.value.specs.declared.States.{States}
 use Rattle.value.specs.Slice.{overlay}
@@ -54,9 +55,12 @@ module _ (z : tie.After-exceeds) where
   counted : z .before .before .before .before .next-count .result ≡ cond (z .before .before .before .before .before .repeats-last .result) (start .args .self .count) (start .args .self .count + 1)
   counted = z .before .before .before .before .next-count .ensures
 
+  exceeded : z .exceeds .result ≡ not (fits (BitVector (length (now (start .args .value))) joint) (z .before .before .before .before .next-count .result) (here start))
+  exceeded = z .exceeds .ensures ∙ ap (λ (d : Description). not (fits (d .encoding) (d .count) (here start))) (z .before .before .before .new .ensures)
+
   -- room for one entry more
   places : z .exceeds .result ≡ false → z .before .before .before .before .before .repeats-last .result ≡ false → Roomier (start .args .self) (here start) (entrySize (length (now (start .args .value))) joint)
-  places h e = wider-room (start .pre) joined told counted (sym (z .exceeds .ensures) ∙ h) e
+  places h e = wider-room (start .pre) joined told counted (sym exceeded ∙ h) e
 
 -- the new entry's place
 place : (c : tie.After-entry-size) →
@@ -76,25 +80,27 @@ next-count-requires : tie.Need-next-count-requires
 next-count-requires c κs = (string-standing (c .before .before .before .before .before .before .pre)) .room .count
 
 exceeds-requires : tie.Need-exceeds-requires
-exceeds-requires c κs = width-then (c .before .before .before .before .before .before .before .before .before .before .pre) (c .before .before .before .before .before .before .join .ensures)
+exceeds-requires c κs =
+    ap (λ (d : Description). widthStands (d .encoding)) (c .before .before .new .ensures)
+    ∙ width-then (c .before .before .before .before .before .before .before .before .before .before .pre) (c .before .before .before .before .before .before .join .ensures)
 
 returns : tie.Need-returns
 returns c =
     let z = c .before .before in
     beside (c .refused .ensures)
-    ∙ levels-full ((start z) .pre) (joined z) (told z) (counted z) (sym (z .exceeds .ensures) ∙ c .before .if1 .taken)
+    ∙ levels-full ((start z) .pre) (joined z) (told z) (counted z) (sym (exceeded z) ∙ c .before .if1 .taken)
 
 expand-entries-requires : tie.Need-expand-entries-requires
 expand-entries-requires c κs =
     let z = c .before .before in
-    widenable ((start z) .pre) (joined z) (told z) (counted z) (sym (z .exceeds .ensures) ∙ c .before .if1 .left)
+    widenable ((start z) .pre) (joined z) (told z) (counted z) (sym (exceeded z) ∙ c .before .if1 .left)
 
 returns-2 : tie.Need-returns-2
 returns-2 c =
     let z = c .before .before .before .before .before .before .before in
     beside (c .accepted .ensures)
     ∙ left-by (now ((start z) .args .indices)) (z .before .before .before .new .ensures) (c .before .before .before .before .expand-entries .ensures)
-    ∙ levels-stay ((start z) .pre) (joined z) (told z) (counted z) (sym (z .exceeds .ensures) ∙ c .before .before .before .before .before .before .if1 .left) (c .before .if2 .taken)
+    ∙ levels-stay ((start z) .pre) (joined z) (told z) (counted z) (sym (exceeded z) ∙ c .before .before .before .before .before .before .if1 .left) (c .before .if2 .taken)
 
 mul-at : tie.Need-mul-at
 mul-at c = omega (arith, place c, few-bytes (start (c .before .before .before .before .before .before .before)))
@@ -106,7 +112,7 @@ write-entry-requires : tie.Need-write-entry-requires
 write-entry-requires c κs =
     let z = c .before .before .before .before .before .before .before .before in
     let a = (start z) .args in
-    writable ((start z) .pre) (joined z) (told z) (counted z) (sym (z .exceeds .ensures) ∙ c .before .before .before .before .before .before .before .if1 .left) (c .before .before .if2 .left) (c .before .before .before .before .before .expand-entries .kept .1 .1 .0)
+    writable ((start z) .pre) (joined z) (told z) (counted z) (sym (exceeded z) ∙ c .before .before .before .before .before .before .before .if1 .left) (c .before .before .if2 .left) (c .before .before .before .before .before .expand-entries .kept .1 .1 .0)
     (ap (λ (k : ℕ). a .byte-start + a .self .count * k) (c .before .entry-size .ensures))
 
 index-in : (c : tie.After-slice-known4) →
@@ -134,7 +140,7 @@ returns-3 c =
     (λ (b : List ℕ) (k : ℕ).
     overlay b (x .args .byte-start + x .args .self .count * k) (entryFrom (joint z) (x .args .states) (now (x .args .value))))
     (c .before .before .before .before .before .before .before .before .before .expand-entries .ensures) (c .before .before .before .before .before .entry-size .ensures))
-    ∙ levels-grow (x .pre) (joined z) (told z) (counted z) (sym (z .exceeds .ensures) ∙ c .before .before .before .before .before .before .before .before .before .before .before .if1 .left) (c .before .before .before .before .before .before .if2 .left)
+    ∙ levels-grow (x .pre) (joined z) (told z) (counted z) (sym (exceeded z) ∙ c .before .before .before .before .before .before .before .before .before .before .before .if1 .left) (c .before .before .before .before .before .before .if2 .left)
 
 pub raise-levels-spec : {M : Type 1} → statement M
 raise-levels-spec =

@@ -9,7 +9,7 @@ use Rattle.yoksimert.proofs.derivations.yoksimert_derive.Tie as tie
 returns : tie.Need-returns
 returns c =
     let a = c .before .before .before .before .before .before .before .before .before .before .before .before .before .before .args in
-    derive-by (a .flat) (now (a .names)) (now (a .pieces)) (a .inputs) (now (a .bytes)) (now (a .indices)) (now (a .out-bytes)) (now (a .out-indices)) (c .before .before .before .before .before .before .before .before .before .derivation-of .ensures) (c .before .before .before .before .before .before .before .before .inputs-of .ensures) (c .flat-made .ensures) (c .before .before .before .before .before .derive .ensures)
+    derive-by (a .derivation) (now (a .names)) (now (a .pieces)) (a .inputs) (now (a .bytes)) (now (a .indices)) (now (a .out-bytes)) (now (a .out-indices)) (c .before .before .before .before .before .before .before .before .before .derivation-of .ensures) (c .before .before .before .before .before .before .before .before .inputs-of .ensures) (c .flat-made .ensures) (c .before .before .before .before .before .derive .ensures)
 
 pub yoksimert-derive-spec : {M : Type 1} → statement M
 yoksimert-derive-spec =
