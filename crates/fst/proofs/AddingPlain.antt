@@ -14,13 +14,13 @@ use Rattle.value.specs.Digits.{digits}
 use Rattle.value.specs.Slice.{part, overlay}
 use Rattle.value.proofs.Tests.{by-eq}
 use Rattle.value.proofs.Slices.{overlay-nil, overlay-part}
-use Rattle.fst.specs.declared.Encoding.{Encoding}
 use Rattle.fst.specs.declared.Encoding.the-variants.{Event, Real}
 use Rattle.fst.specs.declared.Description.{Description}
-use Rattle.fst.specs.Record.{Lent, Kept, Recorder, maximum, sizeOf, usedSize, keptIn, fitsBytes, fits, isBad, described}
-use Rattle.fst.specs.Change.{Change, text, real, isOtherKind, isOtherLength, isForeign, repeats, appended, changed, withChange, lacksRoom, inHand, stored, addChange}
+use Rattle.fst.specs.Record.{Lent, Kept, Recorder, maximum, sizeOf, usedSize, keptIn, fitsBytes, fits, described}
+use Rattle.fst.specs.Change.{Change, text, real, isOtherKind, isOtherLength, isForeign, appended, changed, withChange, lacksRoom, inHand, stored, addChange}
+use Rattle.entries.specs.Repeats.{repeats}
 use Rattle.fst.specs.Adding.{Admitted}
-use Rattle.fst.proofs.Records.{Fits, fits-room, Standing, standing, indices-used}
+use Rattle.fst.proofs.Records.{fits-room, Standing, standing, indices-used}
 use Rattle.fst.proofs.Adding.{refusedWith, acceptedWith, Suited, gives-3, gives-4, gives-7, accepted, indicesKept, stored-same, count-more, stored-behind}
 
 -- is there no room for one entry more

@@ -3,7 +3,7 @@
 use mathlib.Core.Path.{_≡_, refl, sym, ap, ap₂, _∙_}
 use mathlib.Core.Bool.{Bool, true, false, not, cond}
 use mathlib.Core.List.{List, [], _∷_, _++_}
-use Prim.Native.Nat.{ℕ, suc, _+_, _-_, _*_, _^_, _≤_, _<_}
+use Prim.Native.Nat.{ℕ, suc, _+_, _-_, _*_, _^_, _≤_}
 use native.Mathlib.Nat.{suc-mul, mul-le-mul-right}
 use native.Mathlib.Numerals.{add-one}
 use native.Mathlib.Omega.{arith}
@@ -11,10 +11,9 @@ use borrow.Author.Tests.{not-false, eq-eqb, ne-eqb}
 use lib.Bits.{bitOr}
 use lib.ListN.{length, set}
 use Rattle.value.specs.declared.States.{States}
-use Rattle.value.specs.declared.StatesAnswer.{StatesAnswer}
 use Rattle.value.specs.declared.StatesAnswer.the-variants as answer
 use Rattle.value.specs.Slice.{part, overlay}
-use Rattle.value.specs.Level.{markOf, codesOf, foldAll, hasNoCode, leastOf, join}
+use Rattle.value.specs.Level.{markOf, codesOf, foldAll, hasNoCode, join}
 use Rattle.value.specs.Answer.{leastStates}
 use Rattle.value.proofs.Levels.{mark-inj, mark-join, all-below}
 use Rattle.value.proofs.Levels as levels
@@ -26,15 +25,16 @@ use Rattle.wavemem.specs.declared.short.Scanned.{Scanned}
 use Rattle.fst.specs.declared.Encoding.{Encoding}
 use Rattle.fst.specs.declared.Encoding.the-variants.{BitVector}
 use Rattle.fst.specs.declared.Description.{Description}
-use Rattle.layout.specs.Entry.{entrySize, entryOf, widenAll}
+use Rattle.layout.specs.Entry.{entrySize, widenAll}
 use Rattle.layout.specs.Writable.{Writable, Numbered, entryFrom}
 use Rattle.layout.specs.Expand.{Widenable}
 use Rattle.fst.specs.Record.{Lent, Kept, Recorder, sizeOf, keptIn, widthStands, fits, described}
-use Rattle.fst.specs.Change.{text, isOtherKind, isOtherLength, isForeign, repeats, appended, changed, withChange, lacksRoom, addChange}
-use Rattle.fst.specs.Adding.{Admitted, AdmittedString, ShortEntry, Repeatable, repeatsPlain, repeatsWidened}
+use Rattle.fst.specs.Change.{text, isOtherKind, isOtherLength, isForeign, appended, changed, withChange, lacksRoom, addChange}
+use Rattle.fst.specs.Adding.{Admitted, AdmittedString, ShortEntry}
+use Rattle.entries.specs.Repeatable.{Repeatable, repeatsPlain, repeatsWidened}
 use Rattle.layout.proofs.Sizes.{size-pos, widen-all-same, widen-all-length}
 use Rattle.layout.proofs.Numbers.{one-word, marked-number}
-use Rattle.fst.proofs.Records.{Fits, fits-room, Standing, standing, bytes-used, indices-used}
+use Rattle.fst.proofs.Records.{Fits, fits-room, Standing, standing, indices-used}
 use Rattle.fst.proofs.AddingPlain.{behind, Roomier}
 use Rattle.fst.proofs.Adding.{width-known, width-any, refusedWith, acceptedWith, Suited, gives-4, gives-5, gives-7, accepted, indicesKept, stored-same, count-more, stored-more}
 
@@ -144,7 +144,6 @@ module _ {d : Description} {l : Lent} {i : ℕ} {s : List ℕ} {M own : States} 
           codes = codes;
           wide = p .0;
           short = p .1;
-          few = string-standing .room .count;
           fits = room-here;
         }
 

@@ -41,10 +41,10 @@ Passed [] = Unit
 Passed ((n ⇐ b) ∷ l) = (b ≡ false) × Passed l
 
 -- no number is 0, which stands for none
-abbrev pub Numbered : List Test → Type 0
-Numbered [] = Unit
-Numbered ((zero ⇐ b) ∷ l) = ⊥
-Numbered ((suc n ⇐ b) ∷ l) = Numbered l
+abbrev pub FromOne : List Test → Type 0
+FromOne [] = Unit
+FromOne ((zero ⇐ b) ∷ l) = ⊥
+FromOne ((suc n ⇐ b) ∷ l) = FromOne l
 
 module _ {A : Type 0} (r : Reply A) where
   -- either way, with the tests that passed or the number
@@ -52,7 +52,7 @@ module _ {A : Type 0} (r : Reply A) where
     through : Passed l → tried l r ≡ r → Result l
     stopped : (n : ℕ) → tried l r ≡ refused (suc n) → Result l
 
-  pub result : (l : List Test) → Numbered l → Result l
+  pub result : (l : List Test) → FromOne l → Result l
   unfolding tried
   result [] u = through tt refl
   result ((zero ⇐ b) ∷ l) u = absurd u
@@ -70,7 +70,7 @@ module _ {A : Type 0} (r : Reply A) where
   passes ((n ⇐ false) ∷ l) p = passes l (p .1)
 
 -- "On every refusal .. recorder, derivation and slices are unchanged"
-pub refused-old : {A : Type 0} (l : List Test) → Numbered l → (old new : A) (n : ℕ)
+pub refused-old : {A : Type 0} (l : List Test) → FromOne l → (old new : A) (n : ℕ)
     → (outcome old (tried l (given new))) .refused ≡ suc n → (outcome old (tried l (given new))) .left ≡ old
 refused-old {A} l u old new n = go (result (given new) l u)
   where

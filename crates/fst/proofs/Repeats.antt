@@ -14,7 +14,8 @@ use Rattle.fst.specs.declared.Description.{Description}
 use Rattle.fst.specs.Refusal.{given, _⇐_, tried, outcome}
 use Rattle.layout.specs.Entry.{entrySize, entryOf}
 use Rattle.fst.specs.Record.{Lent, Kept, Recorder, sizeOf, keptIn, isBad}
-use Rattle.fst.specs.Change.{Change, text, real, isOtherKind, isOtherLength, isForeign, isBelowLast, repeats, appended, changed, withChange, lacksRoom, refusals, inHand, stored, addChange}
+use Rattle.fst.specs.Change.{Change, text, real, isOtherKind, isOtherLength, isForeign, isBelowLast, appended, changed, withChange, lacksRoom, refusals, inHand, stored, addChange}
+use Rattle.entries.specs.Repeats.{repeats}
 use Rattle.fst.specs.Adding.{Admitted}
 use Rattle.layout.proofs.Sizes.{widen-all-same}
 use Rattle.fst.proofs.Records.{Standing, standing, bytes-used, indices-used}

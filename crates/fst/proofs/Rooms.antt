@@ -1,20 +1,19 @@
 -- Fresh, and the room that entries need, from facts on numbers.
 -- Assumes nothing.
 use mathlib.Core.Path.{_≡_, refl, sym, ap, _∙_}
-use mathlib.Core.Bool.{Bool, true, false, not, cond, _&&_, _||_, and-false}
+use mathlib.Core.Bool.{Bool, true, false, not, _&&_, _||_, and-false}
 use mathlib.Core.List.{List}
-use Prim.Native.Nat.{ℕ, zero, suc, _+_, _-_, _*_, _/_, _%_, _≤_, _<_}
+use Prim.Native.Nat.{ℕ, zero, suc, _+_, _-_, _*_, _≤_, _<_}
 use native.Mathlib.Omega.{arith}
-use lib.Dec.{T, leb, ltb, eqb, leb→le}
+use lib.Dec.{T, leb, ltb, leb→le}
 use lib.ListN.{length}
 use borrow.Author.Tests.{le-leb, lt-leb, lt-ltb, le-ltb, not-false}
 use Rattle.value.specs.declared.States.{States}
-use Rattle.value.specs.declared.States.the-variants.{Two, Four, Nine}
+use Rattle.value.specs.declared.States.the-variants.{Two}
 use Rattle.value.proofs.Tests.{by-le, to-T, from-T, and-left, and-right}
-use Rattle.fst.specs.declared.Encoding.{Encoding}
 use Rattle.fst.specs.declared.Encoding.the-variants.{Event, BitVector}
 use Rattle.fst.specs.declared.Description.{Description}
-use Rattle.fst.specs.Refusal.{Reply, refused, given, tried}
+use Rattle.fst.specs.Refusal.{refused, given, tried}
 use Rattle.layout.specs.Entry.{entrySize}
 use Rattle.fst.specs.Record.{Lent, maximum, maxWidth, sizeOf, usedSize, widthStands, fitsBytes, fits, isBadBytes, isBad, empty, encodingFor, fresh}
 
@@ -132,21 +131,6 @@ module _ (d : Description) (l : Lent) where
   module _ (h : isBadBytes d (l .byteStart) (l .bytes) ≡ false) where
     pub by-indices : isBad d l ≡ not (leb (l .indexStart + d .count) (length (l .indices)))
     by-indices = bad-by ∙ ap (λ (b : Bool). b || not (leb (l .indexStart + d .count) (length (l .indices)))) h
-
--- an entry is never longer than this
-pub size-small : (w : ℕ) (M : States) → w ≤ 4096 → entrySize w M ≤ 2049
-unfolding entrySize
-size-small w Two h = omega arith
-size-small w Four h = go (eqb (w % 4) 0)
-  where
-    go : (b : Bool) → cond b ((w + 3) / 4 + 1) ((w + 3) / 4) ≤ 2049
-    go true = omega arith
-    go false = omega arith
-size-small w Nine h = go (eqb (w % 2) 0)
-  where
-    go : (b : Bool) → cond b ((w + 1) / 2 + 1) ((w + 1) / 2) ≤ 2049
-    go true = omega arith
-    go false = omega arith
 
 -- ---- room in both slices
 

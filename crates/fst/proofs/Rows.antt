@@ -6,19 +6,19 @@ use Prim.Native.Nat.{ℕ, _-_, _^_}
 use Prim.Native.String.{String}
 use mathlib.Core.List.{List, [], _∷_, _++_}
 use lib.ListN.{length, replicate}
-use Rattle.value.specs.declared.States.{States}
 use Rattle.value.specs.declared.States.the-variants.{Two, Four, Nine}
 use Rattle.value.specs.Text.{chars}
 use Rattle.value.specs.Digits.{number, digits}
 use Rattle.value.specs.Slice.{part, overlay, same, any}
-use Rattle.value.specs.Level.{placeIn, codeOf, fold, setOf, leastOf, joinAll}
+use Rattle.value.specs.Level.{placeIn, codeOf, fold, setOf, joinAll}
 use Rattle.fst.specs.declared.Encoding.{Encoding}
 use Rattle.fst.specs.declared.Encoding.the-variants.{Event, Real, BitVector}
 use Rattle.fst.specs.declared.Description.{Description}
 use Rattle.fst.specs.Refusal.{Reply, refused, given, tried, Outcome}
 use Rattle.layout.specs.Entry.{entrySize, entryOf, markByte, unmarked, levelBytes, widenEntry, widenAll}
 use Rattle.fst.specs.Record.{Lent, Kept, Held, Recorder, keptIn, widthStands, fitsBytes, fits, isBad, lent, described, fresh, freshReal}
-use Rattle.fst.specs.Change.{Change, text, real, isOtherKind, isOtherLength, isForeign, isBelowLast, repeats, appended, changed, refusals, stored, addChange}
+use Rattle.fst.specs.Change.{Change, text, real, isOtherKind, isOtherLength, isForeign, isBelowLast, appended, changed, refusals, stored, addChange}
+use Rattle.entries.specs.Repeats.{repeats}
 
 -- a change at an index, the number that it gets and the record that is then in the slices
 pub record Checked : Type 0 where

@@ -1,23 +1,20 @@
 -- Inner: what the functions of which Add a change is made ask.
 -- Assumes nothing.
-use Prim.Native.Nat.{ℕ, zero, suc, _+_, _*_, _^_, _≤_}
+use Prim.Native.Nat.{ℕ, zero, suc, _^_, _≤_}
 use mathlib.Core.Path.{_≡_}
-use mathlib.Core.Bool.{Bool, false}
+use mathlib.Core.Bool.{false}
 use mathlib.Core.List.{List}
 use lib.ListN.{length, getD}
 use Rattle.value.specs.declared.States.{States}
 use Rattle.value.specs.Digits.{number}
-use Rattle.value.specs.Slice.{part, same}
-use Rattle.value.specs.Level.{foldAll, codesOf, leastOf, markOf, bitsOf}
-use Rattle.wavemem.specs.Packed.{Codes}
+use Rattle.value.specs.Level.{foldAll, codesOf, leastOf, bitsOf}
 use Rattle.fst.specs.declared.Encoding.the-variants.{BitVector}
 use Rattle.fst.specs.declared.Description.{Description}
 use Rattle.fst.specs.declared.NextIndex.{NextIndex}
 use Rattle.fst.specs.declared.NextIndex.the-variants.{Absent, At}
-use Rattle.layout.specs.Entry.{entrySize, widenEntry, widenAll}
-use Rattle.layout.specs.Writable.{entryFrom}
-use Rattle.fst.specs.Record.{Lent, maximum, keptIn, isBad}
-use Rattle.fst.specs.Change.{Change, text, repeats, isOtherKind, isOtherLength, isForeign, isBelowLast}
+use Rattle.layout.specs.Entry.{entrySize}
+use Rattle.fst.specs.Record.{Lent, keptIn, isBad}
+use Rattle.fst.specs.Change.{Change, text, isOtherKind, isOtherLength, isForeign, isBelowLast}
 
 -- numbers 2 to 6 are none
 pub record Admitted (d : Description) (l : Lent) (i : ℕ) (c : Change) : Type 0 where
@@ -48,31 +45,3 @@ pub record SizedVector (d : Description) (width size : ℕ) : Type 0 where
 pub record ShortEntry (M own : States) (value : List ℕ) (size levels : ℕ) : Type 0 where
   pub sized : size ≡ entrySize (length value) M
   pub is : size ≤ 8 → levels ≡ number (2 ^ bitsOf own) (codesOf (foldAll value))
-
--- a string that may repeat the last of some entries, which are then laid out under a joint set
-pub record Repeatable (M joint own : States) (value : List ℕ) (room start count : ℕ) : Type 0 where
-  pub under : markOf own ≤ markOf joint
-  pub up : markOf M ≤ markOf joint
-  pub codes : Codes own (codesOf (foldAll value))
-  pub wide : 1 ≤ length value
-  pub short : length value ≤ 4096
-  pub few : count ≤ maximum
-  pub fits : start + count * entrySize (length value) M ≤ room
-
--- is the entry at a place, laid out under a joint set, that of a string
-abbrev pub equalsWidened : States → States → States → List ℕ → ℕ → List ℕ → Bool
-equalsWidened M joint own value at bytes =
-    let w = length value in
-    same (widenEntry w M joint (part at (entrySize w M) bytes)) (entryFrom joint own value)
-
--- does a string repeat the last of n entries
-abbrev pub repeatsPlain : States → States → List ℕ → ℕ → ℕ → List ℕ → Bool
-repeatsPlain M own value start n bytes =
-    let size = entrySize (length value) M in
-    repeats size n (part start (n * size) bytes) (entryFrom M own value)
-
--- and once they are laid out under a joint set
-abbrev pub repeatsWidened : States → States → States → List ℕ → ℕ → ℕ → List ℕ → Bool
-repeatsWidened M joint own value start n bytes =
-    let w = length value in
-    repeats (entrySize w joint) n (widenAll w M joint n (part start (n * entrySize w M) bytes)) (entryFrom joint own value)

@@ -1,13 +1,12 @@
 -- Document 01, "Add a change".
 -- Assumes nothing.
-use Prim.Native.Nat.{ℕ, zero, suc, _*_}
+use Prim.Native.Nat.{ℕ, zero, suc}
 use mathlib.Core.Bool.{Bool, true, false, cond, not}
 use mathlib.Core.List.{List, [], _∷_, _++_, reverse}
-use lib.Dec.{eqb, leb, ltb}
+use lib.Dec.{eqb, ltb}
 use lib.ListN.{length, getD}
-use Rattle.value.specs.declared.States.{States}
 use Rattle.value.specs.Digits.{digits}
-use Rattle.value.specs.Slice.{part, overlay, same}
+use Rattle.value.specs.Slice.{overlay}
 use Rattle.value.specs.Level.{foldAll, codesOf, hasNoCode, leastOf, join}
 use Rattle.fst.specs.declared.Encoding.{Encoding}
 use Rattle.fst.specs.declared.Encoding.the-variants.{Event, Real, BitVector}
@@ -15,6 +14,7 @@ use Rattle.fst.specs.declared.Description.{Description}
 use Rattle.fst.specs.declared.Added.{Added}
 use Rattle.fst.specs.Refusal.{numberOf, Test, _⇐_, given, tried, Outcome, outcome}
 use Rattle.layout.specs.Entry.{entryOf, widenAll}
+use Rattle.entries.specs.Repeats.{repeats}
 use Rattle.fst.specs.Record.{Lent, Kept, Recorder, sizeOf, keptIn, fits, isBad, described}
 
 -- a change: a string's bytes, or a real's 64 bits
@@ -50,11 +50,6 @@ isForeign (BitVector w M) (real x) = false
 unfoldable pub isBelowLast : ℕ → ℕ → List ℕ → Bool
 isBelowLast i zero indices = false
 isBelowLast i (suc n) indices = ltb i (getD indices n 0)
-
--- "A bit-vector or real change whose bytes equal the last entry's is dropped, index too": the last of n entries
-unfoldable pub repeats : ℕ → ℕ → List ℕ → List ℕ → Bool
-repeats size zero bytes new = false
-repeats size (suc n) bytes new = same (part (n * size) size bytes) new
 
 -- a record with one entry more, unless that repeats the last
 unfoldable pub appended : Encoding → List ℕ → List ℕ → ℕ → List ℕ → Kept

@@ -7,6 +7,7 @@ use native.Mathlib.Omega.{arith}
 use mathlib.Core.Bool.{Bool, true, false, cond, true≢false}
 use mathlib.Core.List.{List, [], _∷_, _++_}
 use borrow.Author.Tests.{eqb-true, eqb-false, eq-eqb, ne-eqb}
+use lib.Dec.{eqb}
 use lib.ListN.{length, take, drop, replicate, length-append, length-drop, length-replicate, take-append-drop}
 use lib.Seq.{length-take-le}
 use Rattle.value.specs.declared.States.{States}
@@ -24,6 +25,21 @@ abbrev pub sizePlain : ℕ → States → ℕ
 sizePlain w Two = (w + 7) / 8
 sizePlain w Four = (w + 4) / 4
 sizePlain w Nine = (w + 2) / 2
+
+-- an entry is never longer than this
+pub size-small : (w : ℕ) (M : States) → w ≤ 4096 → entrySize w M ≤ 2049
+unfolding entrySize
+size-small w Two h = omega arith
+size-small w Four h = go (eqb (w % 4) 0)
+  where
+    go : (b : Bool) → cond b ((w + 3) / 4 + 1) ((w + 3) / 4) ≤ 2049
+    go true = omega arith
+    go false = omega arith
+size-small w Nine h = go (eqb (w % 2) 0)
+  where
+    go : (b : Bool) → cond b ((w + 1) / 2 + 1) ((w + 1) / 2) ≤ 2049
+    go true = omega arith
+    go false = omega arith
 
 module _ (w : ℕ) where
   -- a larger set that has no meta byte: the smaller has none

@@ -17,7 +17,8 @@ use Rattle.value.proofs.Slices.{part-overlay}
 use Rattle.fst.specs.declared.Encoding.the-variants.{BitVector}
 use Rattle.layout.specs.Entry.{entrySize, entryOf, widenAll}
 use Rattle.fst.specs.Record.{Lent, Kept, keptIn, keptOf}
-use Rattle.fst.specs.Change.{repeats, appended, stored}
+use Rattle.fst.specs.Change.{appended, stored}
+use Rattle.entries.specs.Repeats.{repeats}
 use Rattle.runs.specs.All.{All}
 use Rattle.runs.specs.Runs.{byValue, leftIn, Step, indexOf, entriesOf, laidOut, endsLike, joined, Seen, seen}
 use Rattle.layout.proofs.EntryLaws.{Coded, EntryLaws}

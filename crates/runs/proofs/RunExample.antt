@@ -14,7 +14,8 @@ use Rattle.fst.specs.declared.Encoding.the-variants.{BitVector}
 use Rattle.fst.specs.Refusal.{tried}
 use Rattle.layout.specs.Entry.{entrySize, entryOf, markByte, unmarked, levelBytes, widenEntry, widenAll}
 use Rattle.fst.specs.Record.{lent, described, keptIn, widthStands, fitsBytes, fits, isBad}
-use Rattle.fst.specs.Change.{text, isOtherKind, isOtherLength, isForeign, isBelowLast, repeats, appended, changed, refusals, stored, addChange}
+use Rattle.fst.specs.Change.{text, isOtherKind, isOtherLength, isForeign, isBelowLast, appended, changed, refusals, stored, addChange}
+use Rattle.entries.specs.Repeats.{repeats}
 use Rattle.runs.specs.Runs.{byValue, Call, leaves, Run, freshHeld, after, Fed, fed, endsLike, joined, historyOf}
 
 abbrev call : List ℕ → ℕ → List ℕ → ℕ → ℕ → String → Call

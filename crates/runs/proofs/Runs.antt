@@ -21,10 +21,10 @@ use Rattle.fst.specs.declared.Description.{Description}
 use Rattle.fst.specs.declared.Encoding.the-variants.{BitVector}
 use Rattle.fst.specs.Refusal.{Reply, refused, given, tried, Outcome, outcome}
 use Rattle.layout.specs.Entry.{entryOf}
-use Rattle.fst.specs.Record.{Lent, Kept, Held, Recorder, keptIn, heldIn, keptOf, described}
+use Rattle.fst.specs.Record.{Lent, Kept, Held, Recorder, keptIn, heldIn, keptOf}
 use Rattle.fst.specs.Change.{Change, text, real, isOtherKind, isOtherLength, isForeign, changed, withChange, refusals, inHand, stored, addChange}
 use Rattle.runs.specs.All.{All}
-use Rattle.runs.specs.Runs.{byValue, Call, called, leftIn, leaves, Run, freshHeld, after, Fed, fed, Pair, endsLike, joined, sameString, fedOne, historyOf, Step, indexOf, entriesOf, laidOut, stepOf, largestOf, historyLaidOut, seen, seenBy, Same}
+use Rattle.runs.specs.Runs.{byValue, Call, called, leftIn, leaves, Run, freshHeld, after, Fed, fed, Pair, endsLike, joined, sameString, fedOne, historyOf, Step, indexOf, entriesOf, laidOut, stepOf, largestOf, historyLaidOut, seen, Same}
 use Rattle.layout.proofs.EntryLaws.{EntryLaws}
 use Rattle.fst.proofs.Refusals.{Passed, Result, through, stopped, result}
 use Rattle.fst.proofs.Records.{standing}

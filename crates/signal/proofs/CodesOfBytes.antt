@@ -3,16 +3,15 @@
 use mathlib.Core.Path.{_≡_, refl, sym, ap, ap₂, _∙_}
 use mathlib.Core.Bool.{Bool, _||_}
 use mathlib.Core.List.{List, [], _∷_, _++_, map-append}
-use Prim.Native.Nat.{ℕ, zero, suc, _+_, _-_, _*_, _/_, _%_, _^_, _≤_, _<_, zero-le}
-use native.Mathlib.Nat.{zero-add, suc-add, add-comm, mul-comm, mul-zero, mul-suc, mul-le-mul-left, div-div-eq-div-mul}
+use Prim.Native.Nat.{ℕ, suc, _+_, _-_, _*_, _/_, _%_, _^_, _≤_, _<_, zero-le}
+use native.Mathlib.Nat.{mul-comm, mul-zero, mul-suc, mul-le-mul-left}
 use native.Mathlib.Numerals.{add-one}
 use native.Mathlib.Omega.{arith}
 use borrow.Author.Tests.{lt-ltb}
-use lib.Arith.{digits-div}
 use lib.Bits.{bitAnd, bitOr, and-mask, or-zero-l, or-add-and, and-le-r}
 use lib.Dec.{ltb, leb}
 use lib.ListN.{length, take, drop, getD, length-map, length-drop, take-append-drop}
-use lib.Pow.{pow-add, pow-pos}
+use lib.Pow.{pow-pos}
 use lib.Seq.{take-suc, take-all}
 use Rattle.value.specs.declared.States.{States}
 use Rattle.value.specs.declared.States.the-variants.{Two, Four, Nine}

@@ -19,7 +19,7 @@ use Rattle.value.proofs.Slices.{same-sound, same-refl}
 use Rattle.value.proofs.Tests.{to-T, from-T, and-left, and-right, and-both}
 use Rattle.fst.specs.declared.Encoding.the-variants.{BitVector}
 use Rattle.fst.specs.declared.Description.{Description}
-use Rattle.fst.specs.Refusal.{refused, given, _⇐_, tried}
+use Rattle.fst.specs.Refusal.{given, _⇐_, tried}
 use Rattle.layout.specs.Entry.{entrySize}
 use Rattle.fst.specs.Record.{Lent, Kept, usedSize, keptIn, keptOf, isBad, isBadBytes}
 use Rattle.runs.specs.All.{All}

@@ -9,15 +9,14 @@ use native.Mathlib.Nat.{mul-le-mul-right, suc-mul}
 use native.Mathlib.Omega.{arith}
 use denote.Enum.Declared.{tagOf}
 use types.Run.{OneOf}
-use lib.Dec.{ltb}
 use lib.ListN.{length, drop, length-drop}
 use borrow.Author.Tests.{ltb-false, lt-ltb, le-ltb, le-leb, lt-leb}
 use Rattle.value.specs.declared.States.{States}
 use Rattle.value.specs.declared.States.the-variants.{Two}
 use Rattle.value.specs.Slice.{part, overlay}
-use Rattle.value.specs.Level.{markOf, lenOf, setAt, hasNoCode, textOf}
+use Rattle.value.specs.Level.{markOf, lenOf, hasNoCode, textOf}
 use Rattle.value.proofs.Levels.{mark-set, mark-small}
-use Rattle.value.proofs.Slices.{part-length}
+use Rattle.value.proofs.Slices.{part-length, part-part}
 use Rattle.fst.specs.declared.Encoding.{Encoding}
 use Rattle.fst.specs.declared.Encoding.the-variants.{Event, Real, BitVector}
 use Rattle.fst.proofs.Encoding.{the-type}
@@ -28,7 +27,6 @@ use Rattle.fst.specs.Record.{sizeOf, hasNoText, usedSize, isBadBytes}
 use Rattle.layout.proofs.Sizes.{size-pos}
 use Rattle.layout.proofs.EntryParts.{len-fits}
 use Rattle.fst.proofs.Adding.{width-known}
-use Rattle.fst.proofs.LastEntry.{part-part}
 use Rattle.fst.proofs.Rooms.{stands}
 use Rattle.signal.specs.declared.OwnStates.the-variants as own
 use Rattle.signal.specs.declared.EntryAnswer.the-variants as answer

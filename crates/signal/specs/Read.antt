@@ -1,7 +1,6 @@
 -- Document 01, "Read an entry" and "Text of an entry".
 -- Assumes nothing.
 use Prim.Native.Nat.{ℕ}
-use mathlib.Core.Bool.{Bool, true, false}
 use mathlib.Core.List.{List, [], _∷_}
 use lib.Dec.{leb, ltb}
 use lib.ListN.{length}

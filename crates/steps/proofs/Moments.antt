@@ -112,45 +112,47 @@ Each2 R [] (y ∷ ys) = ⊥
 Each2 R (x ∷ xs) [] = ⊥
 Each2 R (x ∷ xs) (y ∷ ys) = R x y × Each2 R xs ys
 
--- an input that has begun shows one of its entries
-abbrev pub NowFrom : Kept → Option Shown → Type 0
-NowFrom k none = ⊥
-NowFrom k (some s) = From k s
+-- what is known of an input that has not begun is U
+module _ (U : Type 0) where
+  -- an input shows one of its entries
+  abbrev pub NowFrom : Kept → Option Shown → Type 0
+  NowFrom k none = U
+  NowFrom k (some s) = From k s
 
-abbrev pub Runs : Kept → Track → Type 0
-Runs k t = NowFrom k (t .now) × All (From k) (t .next)
+  abbrev pub Runs : Kept → Track → Type 0
+  Runs k t = NowFrom k (t .now) × All (From k) (t .next)
 
-pub moved-runs : (k : Kept) (i : ℕ) (n : Option Shown) (l : List Shown) → NowFrom k n → All (From k) l → Runs k (moved i (record { now = n; next = l }))
-unfolding moved
-moved-runs k i n [] h p = (h, tt)
-moved-runs k i n (s ∷ l) h p = go (eqb (s .index) i)
-  where
-    go : (b : Bool) → Runs k (cond b (record { now = some s; next = l }) (record { now = n; next = s ∷ l }))
-    go true = (p .0, p .1)
-    go false = (h, p)
+  pub moved-runs : (k : Kept) (i : ℕ) (n : Option Shown) (l : List Shown) → NowFrom k n → All (From k) l → Runs k (moved i (record { now = n; next = l }))
+  unfolding moved
+  moved-runs k i n [] h p = (h, tt)
+  moved-runs k i n (s ∷ l) h p = go (eqb (s .index) i)
+    where
+      go : (b : Bool) → Runs k (cond b (record { now = some s; next = l }) (record { now = n; next = s ∷ l }))
+      go true = (p .0, p .1)
+      go false = (h, p)
 
-pub runs-all : (ks : List Kept) (ts : List Track) (i : ℕ) → Each2 Runs ks ts → Each2 Runs ks (map (moved i) ts)
-runs-all [] [] i e = tt
-runs-all [] (t ∷ ts) i e = absurd e
-runs-all (k ∷ ks) [] i e = absurd e
-runs-all (k ∷ ks) (t ∷ ts) i e = (moved-runs k i (t .now) (t .next) (e .0 .0) (e .0 .1), runs-all ks ts i (e .1))
+  pub runs-all : (ks : List Kept) (ts : List Track) (i : ℕ) → Each2 Runs ks ts → Each2 Runs ks (map (moved i) ts)
+  runs-all [] [] i e = tt
+  runs-all [] (t ∷ ts) i e = absurd e
+  runs-all (k ∷ ks) [] i e = absurd e
+  runs-all (k ∷ ks) (t ∷ ts) i e = (moved-runs k i (t .now) (t .next) (e .0 .0) (e .0 .1), runs-all ks ts i (e .1))
 
-pub shows-all : (ks : List Kept) (ts : List Track) → Each2 Runs ks ts → Each2 NowFrom ks (map nowOf ts)
-shows-all [] [] e = tt
-shows-all [] (t ∷ ts) e = absurd e
-shows-all (k ∷ ks) [] e = absurd e
-shows-all (k ∷ ks) (t ∷ ts) e = (e .0 .0, shows-all ks ts (e .1))
+  pub shows-all : (ks : List Kept) (ts : List Track) → Each2 Runs ks ts → Each2 NowFrom ks (map nowOf ts)
+  shows-all [] [] e = tt
+  shows-all [] (t ∷ ts) e = absurd e
+  shows-all (k ∷ ks) [] e = absurd e
+  shows-all (k ∷ ks) (t ∷ ts) e = (e .0 .0, shows-all ks ts (e .1))
 
-abbrev pub ShowsEntries : List Kept → Moment → Type 0
-ShowsEntries ks m = Each2 NowFrom ks (m .showing)
+  abbrev pub ShowsEntries : List Kept → Moment → Type 0
+  ShowsEntries ks m = Each2 NowFrom ks (m .showing)
 
-pub moments-show : (ks : List Kept) (n : ℕ) (i : NextIndex) (ts : List Track) → Each2 Runs ks ts → All (ShowsEntries ks) (momentsFrom n i ts)
-unfolding momentsFrom
-moments-show ks zero i ts r = tt
-moments-show ks (suc n) Absent ts r = tt
-moments-show ks (suc n) (At i) ts r =
-    let u = runs-all ks ts i r in
-    (shows-all ks (map (moved i) ts) u, moments-show ks n (smallest (map (moved i) ts)) (map (moved i) ts) u)
+  pub moments-show : (ks : List Kept) (n : ℕ) (i : NextIndex) (ts : List Track) → Each2 Runs ks ts → All (ShowsEntries ks) (momentsFrom n i ts)
+  unfolding momentsFrom
+  moments-show ks zero i ts r = tt
+  moments-show ks (suc n) Absent ts r = tt
+  moments-show ks (suc n) (At i) ts r =
+      let u = runs-all ks ts i r in
+      (shows-all ks (map (moved i) ts) u, moments-show ks n (smallest (map (moved i) ts)) (map (moved i) ts) u)
 
 -- ---- the indices of the steps
 

@@ -65,13 +65,13 @@ head-zero k [] h = absurd (true≢false h)
 head-zero k (zero ∷ l) h = refl
 head-zero k (suc i ∷ l) h = absurd (true≢false h)
 
-moved-first : (k : Kept) (l : List ℕ) → isLate l ≡ false → All (From k) (map shownBy (entriesFrom 0 k l)) → Runs k (moved 0 (unbegun (map shownBy (entriesFrom 0 k l))))
+moved-first : (k : Kept) (l : List ℕ) → isLate l ≡ false → All (From k) (map shownBy (entriesFrom 0 k l)) → Runs ⊥ k (moved 0 (unbegun (map shownBy (entriesFrom 0 k l))))
 unfolding entriesFrom moved
 moved-first k [] h p = absurd (true≢false h)
 moved-first k (zero ∷ l) h p = (p .0, p .1)
 moved-first k (suc i ∷ l) h p = absurd (true≢false h)
 
-start-runs : (ks : List Kept) → any startsLate ks ≡ false → Each2 Runs ks (map (moved 0) (tracks ks))
+start-runs : (ks : List Kept) → any startsLate ks ≡ false → Each2 (Runs ⊥) ks (map (moved 0) (tracks ks))
 unfolding any
 start-runs [] h = tt
 start-runs (k ∷ ks) h =
@@ -165,7 +165,7 @@ fine n ks e b w c =
       coded = ap (any (pickIsBad e)) (sym (List·getD-map entriesIn ks (e .signal) noKept)) ∙ c;
     }
 
-each-at : (ks : List Kept) (sh : List (Option Shown)) → Each2 NowFrom ks sh → (j : ℕ) → j < length ks → NowFrom (getD ks j noKept) (getD sh j none)
+each-at : (ks : List Kept) (sh : List (Option Shown)) → Each2 (NowFrom ⊥) ks sh → (j : ℕ) → j < length ks → NowFrom ⊥ (getD ks j noKept) (getD sh j none)
 each-at [] sh e j h = absurd (omega arith)
 each-at (k ∷ ks) [] e j h = absurd e
 each-at (k ∷ ks) (o ∷ sh) e zero h = e .0
@@ -175,7 +175,7 @@ abbrev PicksNow : Extract → Option Shown → Type 0
 PicksNow e o =
     (length (pickedOf e (codesShown o)) ≡ e .width) × Below 9 (pickedOf e (codesShown o)) × Below (2 ^ bitsOf (setShown o)) (pickedOf e (codesShown o))
 
-piece-picks : (e : Extract) (k : Kept) (o : Option Shown) → endOf e ≤ widthOf (encodingOf k) → any (pickIsBad e) (entriesIn k) ≡ false → NowFrom k o → PicksNow e o
+piece-picks : (e : Extract) (k : Kept) (o : Option Shown) → endOf e ≤ widthOf (encodingOf k) → any (pickIsBad e) (entriesIn k) ≡ false → NowFrom ⊥ k o → PicksNow e o
 piece-picks e k none h c f = absurd f
 piece-picks e k (some s) h c f =
     subst (Picks e) (sym (f .is))
@@ -193,7 +193,7 @@ record WholePick (es : List Extract) (sh : List (Option Shown)) : Type 0 where
   letters : Below 9 (picked es sh)
   below : Below (2 ^ bitsOf (largestShown sh)) (picked es sh)
 
-all-picked : (ks : List Kept) (sh : List (Option Shown)) → Each2 NowFrom ks sh → (es : List Extract) → All (Fine ks) es → WholePick es sh
+all-picked : (ks : List Kept) (sh : List (Option Shown)) → Each2 (NowFrom ⊥) ks sh → (es : List Extract) → All (Fine ks) es → WholePick es sh
 unfolding picked sum
 all-picked ks sh r [] f = record { long = refl; letters = tt; below = tt }
 all-picked ks sh r (e ∷ es) f =
@@ -213,7 +213,7 @@ mark-one k s m f =
     subst (λ (t : Shown). markOf (t .set) ≤ markOf (largestIn (encodingOf k))) (sym (f .is))
     (mark-within (encodingOf k) (entryAt (k .encoding) 0 (k .bytes) (f .at)) (entries-each k entryIsBad m (f .at) (f .inside)))
 
-largest-under : (ks : List Kept) (sh : List (Option Shown)) → any markIsBad ks ≡ false → Each2 NowFrom ks sh → markOf (largestShown sh) ≤ markOf (largestAmong ks)
+largest-under : (ks : List Kept) (sh : List (Option Shown)) → any markIsBad ks ≡ false → Each2 (NowFrom ⊥) ks sh → markOf (largestShown sh) ≤ markOf (largestAmong ks)
 unfolding any joinAll
 largest-under [] [] m e = omega arith
 largest-under [] (o ∷ sh) m e = absurd e
@@ -254,7 +254,7 @@ module _ (d : DerivedBitVecSignal) (count : ℕ) (ks : List Kept) (p : Passes d 
       fine n ks (getD es i (extractOf 0)) (any-none (isBadPiece n) es ((sound d (f .sound)) .pieces) i (extractOf 0) h)
       (any-none (isBeyond ks) es (f .within) i (extractOf 0) h) (any-none (codeIsBad ks) es (p .coded) i (extractOf 0) h))
 
-  step-sound : (m : Moment) → ShowsEntries ks m → Sound (d .width) (largestAmong ks) (yielded es m)
+  step-sound : (m : Moment) → ShowsEntries ⊥ ks m → Sound (d .width) (largestAmong ks) (yielded es m)
   step-sound m r =
       let q = all-picked ks (m .showing) r es all-fine in
       let t = codes-text (picked es (m .showing)) (q .letters) in
@@ -302,7 +302,7 @@ listed d count (k ∷ ks) p z =
     let r = start-runs all (p .begun) in
     let v = ups (tracks all) 0 0 (start-up all (p .rising)) (least-under (tracks all) 0 (subst (LeastOf 0) (sym (start-zero k ks (p .begun))) none-below)) in
     let u = up-map runs.indexOf y 0 ms (moments-up (b .0) (smallest us) us 0 refl v) in
-    let q = all-map (ShowsEntries all) P y ms (step-sound d count all p) (moments-show all (b .0) (smallest us) us r) in
+    let q = all-map (ShowsEntries ⊥ all) P y ms (step-sound d count all p) (moments-show ⊥ all (b .0) (smallest us) us r) in
     let x = y (firstMoment all) in
     let g = grown sameStep P (x ∷ []) (map y ms) 0 u q in
     record {
@@ -311,7 +311,7 @@ listed d count (k ∷ ks) p z =
       is = ap (λ (l : List Moment). foldl (joined sameStep) [] (map y l)) (b .1) ∙ g .is;
       begins = refl;
       up = (none-below, g .up);
-      every = (step-sound d count all p (firstMoment all) (shows-all all us r), g .every);
+      every = (step-sound d count all p (firstMoment all) (shows-all ⊥ all us r), g .every);
     }
 
 module _ (d : DerivedBitVecSignal) (count : ℕ) (ks : List Kept) (p : Passes d count ks) (z : Sized d) where

@@ -9,7 +9,8 @@ use Rattle.value.specs.Level.{codeOf, fold, joinAll, letterOf, placeIn, setOf}
 use Rattle.value.specs.Slice.{any, overlay, part, same, sum}
 use Rattle.value.specs.declared.States.the-variants.{Four}
 use Rattle.layout.specs.Entry.{entryOf, entrySize, widenAll, widenEntry}
-use Rattle.fst.specs.Change.{addChange, appended, changed, isBelowLast, isForeign, isOtherKind, isOtherLength, refusals, repeats, stored}
+use Rattle.fst.specs.Change.{addChange, appended, changed, isBelowLast, isForeign, isOtherKind, isOtherLength, refusals, stored}
+use Rattle.entries.specs.Repeats.{repeats}
 use Rattle.fst.specs.Record.{Kept, Recorder, fits, fitsBytes, fresh, hasNoText, isBad, keptIn, widthStands, described}
 use Rattle.fst.specs.Refusal.{given, tried}
 use Rattle.fst.specs.declared.Description.{Description}

@@ -9,7 +9,7 @@ use native.Mathlib.Numerals.{add-one}
 use native.Mathlib.Omega.{arith}
 use lib.Dec.{T, eqb, eqb→eq, eqb-refl}
 use lib.ListN.{length, take, drop, getD, set, replicate, length-append, length-drop, length-replicate, replicate-append-replicate, take-append-drop}
-use lib.Seq.{take-at, drop-at, take-add, drop-drop, drop-append-add, drop-append-seam, getD-take, getD-drop, length-take-le, set-split}
+use lib.Seq.{take-at, drop-at, take-add, take-take, drop-drop, drop-append-add, drop-append-seam, getD-take, getD-drop, length-take-le, set-split}
 use Rattle.value.specs.Slice.{part, overlay, same, any}
 use Rattle.value.proofs.Tests.{and-left, and-right, and-both, or-left, or-right, both-ways}
 
@@ -23,6 +23,17 @@ module _ {A : Type 0} where
   pub part-at : (l : List A) (start n i : ℕ) (d : A) → i < n → getD (part start n l) i d ≡ getD l (start + i) d
   unfolding part
   part-at l start n i d h = getD-take n (drop start l) i d h ∙ getD-drop start l i d
+
+  -- a part of a part
+  pub part-part : (l : List A) (start n at m : ℕ) → at + m ≤ n → part at m (part start n l) ≡ part (start + at) m l
+  unfolding part
+  part-part l start n at m h = go at n (drop start l) h ∙ ap (take m) (drop-drop at start l)
+    where
+      go : (at n : ℕ) (r : List A) → at + m ≤ n → take m (drop at (take n r)) ≡ take m (drop at r)
+      go zero n r h = take-take m n r (omega arith)
+      go (suc at) zero r h = absurd (omega arith)
+      go (suc at) (suc n) [] h = refl
+      go (suc at) (suc n) (x ∷ r) h = go at n r (omega arith)
 
   -- two parts, one behind the other
   pub part-add : (l : List A) (start n m : ℕ) → part start (n + m) l ≡ part start n l ++ part (start + n) m l

@@ -15,7 +15,6 @@ use lib.Pow.{pow-add, pow-mono, shl-exact}
 use borrow.Author.Tests.{lt-leb}
 use Rattle.value.specs.declared.States.{States}
 use Rattle.value.specs.declared.States.the-variants.{Two, Four, Nine}
-use Rattle.value.specs.declared.CharCode.{CharCode}
 use Rattle.value.specs.declared.CharCode.the-variants as code
 use Rattle.value.specs.Digits.{number, digits, Below}
 use Rattle.value.specs.Slice.{part, overlay, same}

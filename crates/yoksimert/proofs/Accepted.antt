@@ -3,7 +3,7 @@
 use mathlib.Core.Path.{_≡_, refl, sym, ap, _∙_}
 use mathlib.Core.Logic.{_↔_, Iff·trans}
 use mathlib.Core.List.{List, [], _∷_}
-use Prim.Native.Nat.{ℕ, suc}
+use Prim.Native.Nat.{suc}
 use native.Mathlib.Omega.{arith}
 use lib.ListN.{replicate}
 use Rattle.value.specs.Digits.{number, digits}
@@ -11,7 +11,7 @@ use Rattle.value.specs.Level.{placeIn, codeOf, letterOf, fold, setOf, joinAll}
 use Rattle.value.specs.Slice.{part, overlay, same, any, sum}
 use Rattle.layout.specs.Entry.{entrySize, entryOf}
 use Rattle.fst.specs.declared.Description.{Description}
-use Rattle.fst.specs.Refusal.{Reply, Test, refused, given, tried}
+use Rattle.fst.specs.Refusal.{Reply, Test, given, tried}
 use Rattle.fst.specs.Record.{Kept, Lent, hasNoText, keptIn, widthStands, fitsBytes, fits, isBad}
 use Rattle.fst.proofs.Refusals.{Result, through, stopped, result}
 use Rattle.runs.specs.Runs.{endsLike, joined, entriesOf, laidOut, Same}

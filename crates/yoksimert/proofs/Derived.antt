@@ -12,7 +12,6 @@ use Rattle.steps.specs.declared.Input.{Input}
 use Rattle.steps.specs.declared.Inputs.{Inputs}
 use Rattle.steps.specs.Inputs.{isBadInput}
 use Rattle.transform.specs.Derive.{Derived, derive}
-use Rattle.yoksimert.specs.declared.Decoded.{Decoded}
 use Rattle.yoksimert.specs.declared.Decoded.the-variants.{Unknown}
 use Rattle.yoksimert.specs.declared.FlatMade.{FlatMade}
 use Rattle.yoksimert.specs.declared.FlatDerivation.{FlatDerivation}

@@ -7,7 +7,7 @@ use native.Mathlib.Omega.{arith}
 use borrow.Author.Tests.{eq-eqb, ne-eqb, le-leb, lt-leb}
 use Rattle.value.specs.declared.States.{States}
 use Rattle.value.specs.declared.States.the-variants.{Two, Four, Nine}
-use Rattle.value.specs.Level.{markOf, setAt}
+use Rattle.value.specs.Level.{setAt}
 use Rattle.value.proofs.Levels.{mark-set}
 use Rattle.value.proofs.Tests.{by-le, by-eq}
 use Rattle.fst.specs.declared.Encoding.{Encoding}

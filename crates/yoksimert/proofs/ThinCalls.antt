@@ -14,7 +14,8 @@ use Rattle.fst.specs.declared.Made.{Made}
 use Rattle.fst.specs.declared.Made.the-variants as made
 use Rattle.fst.specs.Refusal.{Reply, given, tried, Outcome, outcome, number, numberOf, madeOf}
 use Rattle.fst.specs.Record.{Lent, Kept, Recorder, sizeOf, widthOf, keptIn, fresh}
-use Rattle.fst.specs.Change.{Change, text, real, repeats, appended, changed, withChange, refusals, inHand, stored, addChange, leftBy}
+use Rattle.fst.specs.Change.{Change, text, real, appended, changed, withChange, refusals, inHand, stored, addChange, leftBy}
+use Rattle.entries.specs.Repeats.{repeats}
 use Rattle.fst.proofs.Refusals.{Result, through, stopped, result}
 use Rattle.signal.specs.Read.{kindOf}
 use Rattle.yoksimert.specs.declared.FlatDescription.{FlatDescription}

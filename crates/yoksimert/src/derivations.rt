@@ -123,7 +123,7 @@ pub extern "C" fn yoksimert_concat_right_full(
 // ---- Derive
 
 // Numbers that are no description are taken for a record that is refused with 2.
-fn described(decoded: Decoded) -> Description
+fn description_of(decoded: Decoded) -> Description
     ensures { λ r. ⌜ r ≡ describedBy decoded ⌝ }
 {
     match decoded {
@@ -142,7 +142,7 @@ fn input_of(flat: FlatInput) -> Input
     ensures { λ r. ⌜ r ≡ inputOf flat ⌝ }
 {
     let numbers = flat.description;
-    let description = described(decode(numbers));
+    let description = description_of(decode(numbers));
     Input {
         description,
         byte_start: flat.byte_start,

@@ -4,7 +4,7 @@ use mathlib.Core.Path.{_≡_, refl, sym, ap, ap₂, _∙_}
 use mathlib.Core.Bool.{true, false}
 use mathlib.Core.List.{List, [], _∷_}
 use mathlib.Core.Logic.{⊎-elim}
-use Prim.Native.Nat.{ℕ, _+_, _*_, _≤_, _<_}
+use Prim.Native.Nat.{ℕ, _+_, _*_, _<_}
 use native.Mathlib.Omega.{arith}
 use denote.Ref.{now}
 use lib.ListN.{length, set}
@@ -92,7 +92,7 @@ repeats-real-requires : tie.Need-repeats-real-requires
 repeats-real-requires c κs =
     let b = c .before .before in
     let x = start b in
-    ((stands b) .room .count, real-room (stands b) (isReal b) (x .args .index) (x .args .bits))
+    real-room (stands b) (isReal b) (x .args .index) (x .args .bits)
 
 returns-4 : tie.Need-returns-4
 returns-4 c =

@@ -1,10 +1,11 @@
 -- `fst::record::is_bad_bytes` meets its contract.
 -- Assumes nothing.
-use mathlib.Core.Path.{_≡_, sym, ap, _∙_}
+use mathlib.Core.Path.{ap}
 use native.Mathlib.Omega.{arith}
 use denote.Ref.{now}
 use Rattle.fst.specs.Record.{sizeOf, widthStands}
-use Rattle.fst.proofs.Rooms.{bad-vector, bad-room, size-small}
+use Rattle.fst.proofs.Rooms.{bad-vector, bad-room}
+use Rattle.layout.proofs.Sizes.{size-small}
 use borrow.Author.Needs.{needs}
 use Rattle.fst.proofs.record.is_bad_bytes.Statement.{statement}
 use Rattle.fst.proofs.record.is_bad_bytes.Tie as tie

@@ -1,6 +1,6 @@
 -- `fst::record::is_bad_levels` meets its contract.
 -- Assumes nothing.
-use mathlib.Core.Path.{_≡_, ap, _∙_}
+use mathlib.Core.Path.{ap, _∙_}
 use mathlib.Core.Bool.{not}
 use native.Mathlib.Omega.{arith}
 use Rattle.fst.proofs.Rooms.{width-out, width-in}

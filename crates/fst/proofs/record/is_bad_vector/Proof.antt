@@ -4,7 +4,8 @@ use mathlib.Core.Path.{_≡_, sym, _∙_}
 use native.Mathlib.Omega.{arith}
 use denote.Ref.{now}
 use Rattle.fst.specs.Record.{Lent, lent, isBadBytes}
-use Rattle.fst.proofs.Rooms.{bad-vector, bad-bytes, by-indices, size-small}
+use Rattle.fst.proofs.Rooms.{bad-vector, bad-bytes, by-indices}
+use Rattle.layout.proofs.Sizes.{size-small}
 use borrow.Author.Needs.{needs}
 use Rattle.fst.proofs.record.is_bad_vector.Statement.{statement}
 use Rattle.fst.proofs.record.is_bad_vector.Tie as tie

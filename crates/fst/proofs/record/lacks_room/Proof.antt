@@ -1,6 +1,6 @@
 -- `fst::record::lacks_room` meets its contract.
 -- Assumes nothing.
-use mathlib.Core.Path.{_≡_, subst}
+use mathlib.Core.Path.{subst}
 use Prim.Native.Nat.{ℕ, _+_, _-_, _*_, _≤_, _<_}
 use native.Mathlib.Omega.{arith}
 use denote.Ref.{now}

@@ -1,31 +1,34 @@
 -- `signal::compare::same_text` meets its contract.
 -- Assumes nothing.
-use mathlib.Core.Path.{_≡_, sym, _∙_}
+use mathlib.Core.Path.{_≡_, ap, sym, _∙_}
 use Rattle.signal.specs.Decode.{levelPart}
 use denote.Ref.{now}
 use Rattle.signal.proofs.Reading.{some, Owned}
 use Rattle.signal.proofs.Comparing.{valid-owned, bytes-alike, same-length, codes-alike}
 use borrow.Author.Needs.{needs}
-use Rattle.value.specs.Level.{markOf}
+use Rattle.value.specs.Level.{markOf, setAt}
 use Rattle.fst.specs.declared.Encoding.the-variants.{BitVector}
 use Rattle.signal.proofs.compare.same_text.Statement.{statement}
 use Rattle.signal.proofs.compare.same_text.Tie as tie
 
 -- the start, what is known of the two entries, and the bytes of their levels
 abbrev start : tie.After-level-part2 → tie.Start
-start c = c .before .before .before .before .before .before .before .before
+start c = c .before .before .before .before .before .before .before .before .before .before
 
-own-a : (c : tie.After-states-in2)
-    → let a = c .before .before .before .before .before .before .args in
-    Owned (a .width) (a .max-states) (now (a .a)) (c .before .before .states-in .result)
+own-a : (c : tie.After-states-at2)
+    → let a = c .before .before .before .before .before .before .before .before .args in
+    Owned (a .width) (a .max-states) (now (a .a)) (c .before .before .before .states-at .result)
 own-a c =
-    let m = c .before .before in
-    valid-owned (m .before .before .before .before .pre .0) (m .before .mark .ensures) (m .states-in .ensures)
+    let m = c .before .before .before in
+    let k = m .before .before in
+    valid-owned (k .before .before .before .pre .0) (k .mark .ensures) (m .states-at .ensures ∙ ap setAt (m .before .own-mark .ensures))
 
-own-b : (c : tie.After-states-in2)
-    → let a = c .before .before .before .before .before .before .args in
-    Owned (a .width) (a .other-max) (now (a .b)) (c .states-in2 .result)
-own-b c = valid-owned (c .before .before .before .before .before .before .pre .1) (c .before .mark2 .ensures) (c .states-in2 .ensures)
+own-b : (c : tie.After-states-at2)
+    → let a = c .before .before .before .before .before .before .before .before .args in
+    Owned (a .width) (a .other-max) (now (a .b)) (c .states-at2 .result)
+own-b c =
+    let k = c .before .before in
+    valid-owned (k .before .before .before .before .before .before .pre .1) (k .mark2 .ensures) (c .states-at2 .ensures ∙ ap setAt (c .before .own-mark2 .ensures))
 
 part-a : (c : tie.After-level-part2)
     → let a = start c .args in
@@ -39,14 +42,14 @@ part-b c = c .level-part2 .ensures ∙ own-b (c .before .before) .part
 
 marks : (c : tie.Then1)
     → let m = c .before .before .before .before .before in
-    markOf (m .before .before .states-in .result) ≡ markOf (m .states-in2 .result)
+    markOf (m .before .before .before .states-at .result) ≡ markOf (m .states-at2 .result)
 marks c = sym (c .before .before .mark3 .ensures) ∙ c .if1 .taken ∙ c .before .mark4 .ensures
 
-states-in-requires : tie.Need-states-in-requires
-states-in-requires c κs = some (c .before .before .before .pre .0 .whole)
+own-mark-requires : tie.Need-own-mark-requires
+own-mark-requires c κs = some (c .before .before .before .pre .0 .whole)
 
-states-in-requires-2 : tie.Need-states-in-requires-2
-states-in-requires-2 c κs = some (c .before .before .before .before .before .pre .1 .whole)
+own-mark-requires-2 : tie.Need-own-mark-requires-2
+own-mark-requires-2 c κs = some (c .before .before .before .before .before .before .pre .1 .whole)
 
 level-part-requires : tie.Need-level-part-requires
 level-part-requires c κs = own-a c .within
@@ -81,10 +84,12 @@ same-text-spec =
     (tie.spec
     (λ c κs. search needs)
     (λ c. search needs)
-    states-in-requires
+    own-mark-requires
+    (λ c κs. search needs)
     (λ c κs. search needs)
     (λ c. search needs)
-    states-in-requires-2
+    own-mark-requires-2
+    (λ c κs. search needs)
     level-part-requires
     level-part-requires-2
     (λ c κs. search needs)

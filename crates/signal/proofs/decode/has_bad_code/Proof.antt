@@ -1,7 +1,6 @@
 -- `signal::decode::has_bad_code` meets its contract: a code of the first byte is bad where that has but one, or one of the full bytes is.
 -- Assumes nothing.
 use mathlib.Core.Path.{_≡_, refl, sym, ap, _∙_}
-use mathlib.Core.Bool.{true, false}
 use Prim.Native.Nat.{_-_, _%_, _≤_}
 use native.Mathlib.Omega.{arith}
 use borrow.Author.Needs.{needs}

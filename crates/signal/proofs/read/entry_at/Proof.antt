@@ -4,7 +4,7 @@ use Rattle.value.specs.Slice.{part}
 use denote.Ref.{now}
 use lib.ListN.{length, take, drop}
 use native.Mathlib.Omega.{arith}
-use Prim.Native.Nat.{ℕ, _+_, _*_, _-_, _≤_}
+use Prim.Native.Nat.{ℕ, _+_, _*_, _≤_}
 use native.Mathlib.Nat.{add-sub-cancel-left}
 use borrow.Author.Needs.{needs}
 use mathlib.Core.Path.{ap, _∙_}

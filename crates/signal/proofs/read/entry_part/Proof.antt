@@ -2,7 +2,6 @@
 -- Assumes nothing.
 use Rattle.signal.proofs.Reading.{HasEntry, read-bad, read-past, read-on, inside, whole, part-on}
 use mathlib.Core.Path.{sym, ap, _∙_}
-use Rattle.signal.specs.Decode.{entryAt}
 use denote.Ref.{now}
 use borrow.Author.Needs.{needs}
 use Rattle.signal.specs.Read.{partOf}

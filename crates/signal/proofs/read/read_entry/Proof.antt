@@ -1,12 +1,9 @@
 -- `signal::read::read_entry` meets its contract.
 -- Assumes nothing.
 use Rattle.signal.specs.Parts.{answerIn}
-use mathlib.Core.Path.{_≡_, sym, ap, _∙_}
-use Rattle.signal.specs.Decode.{entryAt}
-use Rattle.signal.specs.Read.{replyOf, partOf}
-use Rattle.signal.specs.declared.EntryAnswer.{EntryAnswer}
+use mathlib.Core.Path.{sym, ap, _∙_}
 use denote.Ref.{now}
-use Rattle.signal.proofs.Reading.{HasEntry, read-bad, read-past, read-on, inside, whole, answer-on, readOn}
+use Rattle.signal.proofs.Reading.{HasEntry, read-bad, read-past, read-on, inside, whole, answer-on}
 use borrow.Author.Needs.{needs}
 use Rattle.signal.proofs.read.read_entry.Statement.{statement}
 use Rattle.signal.proofs.read.read_entry.Tie as tie

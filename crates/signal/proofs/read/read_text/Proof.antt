@@ -1,11 +1,8 @@
 -- `signal::read::read_text` meets its contract.
 -- Assumes nothing.
-use mathlib.Core.Path.{sym, ap, _∙_}
-use Rattle.signal.specs.Parts.{textStored}
+use mathlib.Core.Path.{sym, _∙_}
 use denote.Ref.{now}
 use Rattle.signal.proofs.Reading.{HasEntry, vector, inside, whole, no-text, text-bad, text-none, text-past, text-on}
-use Prim.Native.Nat.{ℕ}
-use mathlib.Core.List.{List}
 use borrow.Author.Needs.{needs}
 use Rattle.signal.proofs.read.read_text.Statement.{statement}
 use Rattle.signal.proofs.read.read_text.Tie as tie

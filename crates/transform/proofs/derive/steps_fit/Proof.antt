@@ -7,7 +7,7 @@ use lib.ListN.{length-replicate}
 use mathlib.Core.Path.{_≡_, refl}
 use native.Mathlib.Omega.{arith}
 use Rattle.layout.specs.Entry.{entrySize}
-use Rattle.fst.proofs.Rooms.{size-small}
+use Rattle.layout.proofs.Sizes.{size-small}
 use Rattle.derivation.specs.Piece.{piecesOf}
 use Rattle.derivation.proofs.Walks.{sized}
 use Rattle.steps.proofs.InputTests.{slotted}

@@ -1,14 +1,14 @@
--- `fst::change::repeats_last` meets its contract.
+-- `entries::repeats_last` meets its contract.
 -- Assumes nothing.
 use mathlib.Core.Path.{_≡_, refl, _∙_}
-use Prim.Native.Nat.{ℕ, _+_, _-_, _*_, _≤_}
+use Prim.Native.Nat.{_+_, _-_, _*_, _≤_}
 use native.Mathlib.Omega.{arith}
 use denote.Ref.{now}
 use lib.ListN.{length}
-use Rattle.fst.proofs.LastEntry.{none-repeated, last-within, last-writable, last-repeatable, last-widened, last-as-is}
+use Rattle.entries.proofs.LastEntry.{none-repeated, last-within, last-writable, last-repeatable, last-widened, last-as-is}
 use borrow.Author.Needs.{needs}
-use Rattle.fst.proofs.change.repeats_last.Statement.{statement}
-use Rattle.fst.proofs.change.repeats_last.Tie as tie
+use Rattle.entries.proofs.repeats_last.Statement.{statement}
+use Rattle.entries.proofs.repeats_last.Tie as tie
 
 -- there is an entry
 some : (c : tie.After-entry-size) → c .before .before .before .before .args .count ≡ 0 → ⊥

@@ -2,32 +2,21 @@
 -- Assumes nothing.
 use mathlib.Core.Path.{_≡_, refl, sym, ap, _∙_}
 use mathlib.Core.Bool.{false}
-use mathlib.Core.List.{List, [], _∷_, _++_, append-nil}
+use mathlib.Core.List.{List, _++_, append-nil}
 use Prim.Native.Nat.{ℕ, zero, suc, _+_, _-_, _*_, _≤_, _<_, zero-le}
 use native.Mathlib.Nat.{zero-mul, one-mul, suc-mul, add-comm}
 use native.Mathlib.Omega.{arith}
 use lib.ListN.{length, take, drop, length-drop}
-use lib.Seq.{take-at, drop-append-add, drop-drop, take-take, length-take-le}
+use lib.Seq.{take-at, drop-append-add, drop-drop, length-take-le}
 use Rattle.value.specs.declared.States.{States}
 use Rattle.value.specs.Slice.{part, overlay, same}
 use Rattle.value.specs.Level.{markOf}
-use Rattle.value.proofs.Slices.{part-length, part-all, part-overlay}
+use Rattle.value.proofs.Slices.{part-length, part-all, part-part, part-overlay}
 use Rattle.layout.specs.Entry.{entrySize, widenEntry, widenAll}
 use Rattle.layout.specs.Writable.{Writable, entryFrom}
-use Rattle.fst.specs.Change.{repeats}
-use Rattle.fst.specs.Adding.{Repeatable, equalsWidened, repeatsPlain, repeatsWidened}
+use Rattle.entries.specs.Repeats.{repeats}
+use Rattle.entries.specs.Repeatable.{Repeatable, equalsWidened, repeatsPlain, repeatsWidened}
 use Rattle.layout.proofs.Sizes.{widen-length, widen-same}
-
--- a part of a part
-pub part-part : (l : List ℕ) (start n at m : ℕ) → at + m ≤ n → part at m (part start n l) ≡ part (start + at) m l
-unfolding part
-part-part l start n at m h = go at n (drop start l) h ∙ ap (take m) (drop-drop at start l)
-  where
-    go : (at n : ℕ) (r : List ℕ) → at + m ≤ n → take m (drop at (take n r)) ≡ take m (drop at r)
-    go zero n r h = take-take m n r (omega arith)
-    go (suc at) zero r h = absurd (omega arith)
-    go (suc at) (suc n) [] h = refl
-    go (suc at) (suc n) (x ∷ r) h = go at n r (omega arith)
 
 -- ---- the last of n entries of one size
 
@@ -131,7 +120,6 @@ module _ {M J own : States} {v : List ℕ} {room start n : ℕ} (p : Repeatable 
         codes = p .codes;
         wide = p .wide;
         short = p .short;
-        few = omega arith;
         fits = omega (arith, one-mul (entrySize (length v) M), last-within);
       }
 

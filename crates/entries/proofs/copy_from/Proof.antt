@@ -1,4 +1,4 @@
--- `fst::change::copy_from` meets its contract: as many bytes stand there as turns were taken.
+-- `entries::copy_from` meets its contract: as many bytes stand there as turns were taken.
 -- Assumes nothing.
 use mathlib.Core.Path.{_≡_, refl, sym, ap, _∙_}
 use mathlib.Core.List.{List}
@@ -9,8 +9,8 @@ use lib.ListN.{length, getD, set, length-set}
 use Rattle.value.specs.Slice.{part, overlay}
 use Rattle.value.proofs.Slices.{part-nil, part-length, overlay-nil, overlay-store}
 use Rattle.wavemem.proofs.Compare.{part-more}
-use Rattle.fst.proofs.change.copy_from.Statement.{statement}
-use Rattle.fst.proofs.change.copy_from.Tie as tie
+use Rattle.entries.proofs.copy_from.Statement.{statement}
+use Rattle.entries.proofs.copy_from.Tie as tie
 
 abbrev Inv-loop : tie.InvT-loop
 Inv-loop bytes at count out₀ j₀ out j = (j ≤ count) × (out ≡ overlay out₀ 0 (part at j bytes)) × (length out ≡ length out₀)

@@ -1,17 +1,17 @@
--- `fst::change::repeats_number` meets its contract.
+-- `entries::repeats_number` meets its contract.
 -- Assumes nothing.
-use mathlib.Core.Path.{_≡_, refl, _∙_}
-use Prim.Native.Nat.{ℕ, _+_, _-_, _*_, _≤_}
+use mathlib.Core.Path.{refl, _∙_}
+use Prim.Native.Nat.{_+_, _-_, _*_, _≤_}
 use native.Mathlib.Omega.{arith}
 use denote.Ref.{now}
 use lib.ListN.{length}
 use Rattle.layout.specs.Writable.{Writable}
 use Rattle.layout.proofs.Numbers.{numbers-same}
 use Rattle.value.proofs.Digits.{below-all}
-use Rattle.fst.proofs.LastEntry.{none-repeated, last-within, last-writable, last-plain}
+use Rattle.entries.proofs.LastEntry.{none-repeated, last-within, last-writable, last-plain}
 use borrow.Author.Needs.{needs}
-use Rattle.fst.proofs.change.repeats_number.Statement.{statement}
-use Rattle.fst.proofs.change.repeats_number.Tie as tie
+use Rattle.entries.proofs.repeats_number.Statement.{statement}
+use Rattle.entries.proofs.repeats_number.Tie as tie
 
 returns : tie.Need-returns
 returns c = none-repeated _ _ _ _ (c .if1 .taken)

@@ -1,11 +1,11 @@
--- `fst::real::repeats_real` meets its contract.
+-- `entries::real::repeats_real` meets its contract.
 -- Assumes nothing.
 use mathlib.Core.Path.{_∙_}
 use denote.Ref.{now}
-use Rattle.fst.proofs.LastEntry.{none-repeated, repeats-plain}
+use Rattle.entries.proofs.LastEntry.{none-repeated, repeats-plain}
 use borrow.Author.Needs.{needs}
-use Rattle.fst.proofs.real.repeats_real.Statement.{statement}
-use Rattle.fst.proofs.real.repeats_real.Tie as tie
+use Rattle.entries.proofs.real.repeats_real.Statement.{statement}
+use Rattle.entries.proofs.real.repeats_real.Tie as tie
 
 returns : tie.Need-returns
 returns c = none-repeated _ _ _ _ (c .if1 .taken)

@@ -1,4 +1,4 @@
--- `fst::real::write_real` meets its contract.
+-- `entries::real::write_real` meets its contract.
 -- Assumes nothing.
 use Rattle.value.specs.Digits.{digits}
 use native.Mathlib.Nat.{div-one}
@@ -11,9 +11,9 @@ use native.Mathlib.Omega.{arith}
 use denote.Ref.{now}
 use lib.ListN.{length, set, length-set}
 use Rattle.value.specs.Slice.{overlay}
-use Rattle.fst.proofs.Reals.{lowest, lowest-length, lowest-more, rest-more}
-use Rattle.fst.proofs.real.write_real.Statement.{statement}
-use Rattle.fst.proofs.real.write_real.Tie as tie
+use Rattle.entries.proofs.Reals.{lowest, lowest-length, lowest-more, rest-more}
+use Rattle.entries.proofs.real.write_real.Statement.{statement}
+use Rattle.entries.proofs.real.write_real.Tie as tie
 
 abbrev Inv-loop : tie.InvT-loop
 Inv-loop bits out₀ at rest₀ j₀ out rest j =

@@ -1,4 +1,4 @@
--- `fst::real::real_equals` meets its contract.
+-- `entries::real::real_equals` meets its contract.
 -- Assumes nothing.
 use Rattle.value.specs.Digits.{digits}
 use native.Mathlib.Nat.{div-one}
@@ -12,9 +12,9 @@ use native.Mathlib.Omega.{arith}
 use denote.Ref.{now}
 use lib.ListN.{getD}
 use Rattle.value.specs.Slice.{part}
-use Rattle.fst.proofs.Reals.{lowest, lowest-more, lowest-at, rest-more}
-use Rattle.fst.proofs.real.real_equals.Statement.{statement}
-use Rattle.fst.proofs.real.real_equals.Tie as tie
+use Rattle.entries.proofs.Reals.{lowest, lowest-more, lowest-at, rest-more}
+use Rattle.entries.proofs.real.real_equals.Statement.{statement}
+use Rattle.entries.proofs.real.real_equals.Tie as tie
 
 abbrev Inv-loop : tie.InvT-loop
 Inv-loop bits bytes at rest₀ j₀ rest j =

@@ -1,12 +1,12 @@
--- `fst::change::store_number` meets its contract.
+-- `entries::store_number` meets its contract.
 -- Assumes nothing.
-use mathlib.Core.Path.{_≡_, ap, _∙_}
+use mathlib.Core.Path.{ap, _∙_}
 use denote.Ref.{now}
 use Rattle.value.specs.Slice.{overlay}
 use Rattle.layout.proofs.Numbers.{entry-digits}
 use borrow.Author.Needs.{needs}
-use Rattle.fst.proofs.change.store_number.Statement.{statement}
-use Rattle.fst.proofs.change.store_number.Tie as tie
+use Rattle.entries.proofs.store_number.Statement.{statement}
+use Rattle.entries.proofs.store_number.Tie as tie
 
 returns-2 : tie.Need-returns-2
 returns-2 c =

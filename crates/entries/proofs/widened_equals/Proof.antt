@@ -1,4 +1,4 @@
--- `fst::change::widened_equals` meets its contract.
+-- `entries::widened_equals` meets its contract.
 -- Assumes nothing.
 use mathlib.Core.Path.{ap, _∙_}
 use mathlib.Core.List.{List}
@@ -11,11 +11,11 @@ use Rattle.value.specs.Slice.{part, overlay, same}
 use Rattle.value.proofs.Slices.{part-length}
 use Rattle.layout.specs.Entry.{entrySize}
 use Rattle.layout.specs.Writable.{entryFrom}
-use Rattle.fst.proofs.Rooms.{size-small}
-use Rattle.fst.proofs.LastEntry.{copy-widened}
+use Rattle.layout.proofs.Sizes.{size-small}
+use Rattle.entries.proofs.LastEntry.{copy-widened}
 use borrow.Author.Needs.{needs}
-use Rattle.fst.proofs.change.widened_equals.Statement.{statement}
-use Rattle.fst.proofs.change.widened_equals.Tie as tie
+use Rattle.entries.proofs.widened_equals.Statement.{statement}
+use Rattle.entries.proofs.widened_equals.Tie as tie
 
 copy-from-requires : tie.Need-copy-from-requires
 copy-from-requires c κs =
