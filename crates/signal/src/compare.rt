@@ -20,7 +20,7 @@ use crate::decode::has_bad_code;
 use crate::decode::level_part;
 use crate::decode::own_mark;
 use crate::decode::own_states;
-use crate::decode::states_at;
+use crate::decode::states_of;
 use crate::read::entry_at;
 use fst::Description;
 use fst::Encoding;
@@ -133,8 +133,8 @@ fn same_text(width: u32, max_states: States, a: &[u8], other_max: States, b: &[u
     requires { ⌜ Valid (BitVector width «max_states») (now a) × Valid (BitVector width «other_max») (now b) ⌝ }
     ensures { λ r. ⌜ r ≡ same (textIn (BitVector width «max_states») (now (a .entry))) (textIn (BitVector width «other_max») (now (b .entry))) ⌝ }
 {
-    let states = states_at(own_mark(max_states.mark() as u32, a));
-    let others = states_at(own_mark(other_max.mark() as u32, b));
+    let states = states_of(own_mark(max_states.mark(), a));
+    let others = states_of(own_mark(other_max.mark(), b));
     let levels = level_part(width, states, a);
     let other_levels = level_part(width, others, b);
     if states.mark() == others.mark() {

@@ -13,17 +13,28 @@ use value::States;
 use value::num_to_bit_char;
 
 // The mark of an entry's own set, by the mark of its record's largest set: 0 where none is stored.
-pub fn own_mark(most: u32, entry: &[u8]) -> u32
+pub fn own_mark(most: u8, entry: &[u8]) -> u8
     requires { ⌜ 0 < length (now entry) ⌝ }
     ensures { λ r. ⌜ r ≡ markIn (setAt most) (now (entry .entry)) ⌝ }
 {
     if most == 0 {
         return 0;
     }
-    (entry[0] >> 6) as u32
+    entry[0] >> 6
 }
 
 // The set of a mark; 3 is none's.
+pub fn states_of(mark: u8) -> States
+    ensures { λ r. ⌜ r ≡ setAt mark ⌝ }
+{
+    match mark {
+        0 => States::Two,
+        1 => States::Four,
+        _ => States::Nine,
+    }
+}
+
+// The set of a mark among wider numbers.
 pub fn states_at(mark: u32) -> States
     ensures { λ r. ⌜ r ≡ setAt mark ⌝ }
 {
@@ -43,19 +54,19 @@ pub fn states_in(most: u32, entry: &[u8]) -> States
     if most == 0 {
         return States::Two;
     }
-    states_at(own_mark(most, entry))
+    states_of(entry[0] >> 6)
 }
 
 pub fn own_states(max_states: States, entry: &[u8]) -> OwnStates
     requires { ⌜ 0 < length (now entry) ⌝ }
     ensures { λ r. ⌜ r ≡ ownStates «max_states» (now (entry .entry)) ⌝ }
 {
-    let most = max_states.mark() as u32;
+    let most = max_states.mark();
     let mark = own_mark(most, entry);
     if most < mark {
         return OwnStates::Bad;
     }
-    OwnStates::Own(states_at(mark))
+    OwnStates::Own(states_of(mark))
 }
 
 // The last bytes of an entry, as many as its levels take under its own set.

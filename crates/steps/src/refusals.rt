@@ -87,7 +87,7 @@ fn any_bad_mark(description: Description, used: &[u8]) -> bool
     else {
         return false;
     };
-    let most = max_states.mark() as u32;
+    let most = max_states.mark();
     let count = description.count;
     let mut k = 0;
     while k < count {

@@ -15,20 +15,20 @@ use Rattle.signal.proofs.compare.same_text.Tie as tie
 abbrev start : tie.After-level-part2 → tie.Start
 start c = c .before .before .before .before .before .before .before .before .before .before
 
-own-a : (c : tie.After-states-at2)
+own-a : (c : tie.After-states-of2)
     → let a = c .before .before .before .before .before .before .before .before .args in
-    Owned (a .width) (a .max-states) (now (a .a)) (c .before .before .before .states-at .result)
+    Owned (a .width) (a .max-states) (now (a .a)) (c .before .before .before .states-of .result)
 own-a c =
     let m = c .before .before .before in
     let k = m .before .before in
-    valid-owned (k .before .before .before .pre .0) (k .mark .ensures) (m .states-at .ensures ∙ ap setAt (m .before .own-mark .ensures))
+    valid-owned (k .before .before .before .pre .0) (k .mark .ensures) (m .states-of .ensures ∙ ap setAt (m .before .own-mark .ensures))
 
-own-b : (c : tie.After-states-at2)
+own-b : (c : tie.After-states-of2)
     → let a = c .before .before .before .before .before .before .before .before .args in
-    Owned (a .width) (a .other-max) (now (a .b)) (c .states-at2 .result)
+    Owned (a .width) (a .other-max) (now (a .b)) (c .states-of2 .result)
 own-b c =
     let k = c .before .before in
-    valid-owned (k .before .before .before .before .before .before .pre .1) (k .mark2 .ensures) (c .states-at2 .ensures ∙ ap setAt (c .before .own-mark2 .ensures))
+    valid-owned (k .before .before .before .before .before .before .pre .1) (k .mark2 .ensures) (c .states-of2 .ensures ∙ ap setAt (c .before .own-mark2 .ensures))
 
 part-a : (c : tie.After-level-part2)
     → let a = start c .args in
@@ -42,7 +42,7 @@ part-b c = c .level-part2 .ensures ∙ own-b (c .before .before) .part
 
 marks : (c : tie.Then1)
     → let m = c .before .before .before .before .before in
-    markOf (m .before .before .before .states-at .result) ≡ markOf (m .states-at2 .result)
+    markOf (m .before .before .before .states-of .result) ≡ markOf (m .states-of2 .result)
 marks c = sym (c .before .before .mark3 .ensures) ∙ c .if1 .taken ∙ c .before .mark4 .ensures
 
 own-mark-requires : tie.Need-own-mark-requires
@@ -83,11 +83,9 @@ same-text-spec =
     tie.close
     (tie.spec
     (λ c κs. search needs)
-    (λ c. search needs)
     own-mark-requires
     (λ c κs. search needs)
     (λ c κs. search needs)
-    (λ c. search needs)
     own-mark-requires-2
     (λ c κs. search needs)
     level-part-requires

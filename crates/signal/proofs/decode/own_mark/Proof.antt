@@ -1,6 +1,5 @@
 -- `signal::decode::own_mark` meets its contract.
 -- Assumes nothing.
-use native.Mathlib.Omega.{arith}
 use borrow.Author.Needs.{needs}
 use Rattle.signal.proofs.Decoding.{mark-none, mark-some}
 use Rattle.signal.proofs.decode.own_mark.Statement.{statement}
@@ -9,11 +8,8 @@ use Rattle.signal.proofs.decode.own_mark.Tie as tie
 returns : tie.Need-returns
 returns c = mark-none _ _ (c .if1 .taken)
 
-cast-result : tie.Need-cast-result
-cast-result c = omega (arith, c .shared-slice-known .given 0)
-
 returns-2 : tie.Need-returns-2
 returns-2 c = mark-some _ _ (c .before .if1 .left)
 
 pub own-mark-spec : {M : Type 1} → statement M
-own-mark-spec = tie.close (tie.spec returns (λ c. search needs) cast-result returns-2)
+own-mark-spec = tie.close (tie.spec returns (λ c. search needs) returns-2)

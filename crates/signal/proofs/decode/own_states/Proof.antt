@@ -13,8 +13,8 @@ returns c =
 returns-2 : tie.Need-returns-2
 returns-2 c =
     let k = c .before .before in
-    own-good _ _ _ _ (k .before .mark .ensures) (k .own-mark .ensures) _ (c .before .if1 .left) (c .states-at .ensures)
+    own-good _ _ _ _ (k .before .mark .ensures) (k .own-mark .ensures) _ (c .before .if1 .left) (c .states-of .ensures)
 
 pub own-states-spec : {M : Type 1} → statement M
 own-states-spec =
-    tie.close (tie.spec (λ c κs. search needs) (λ c. search needs) (λ c κs. search needs) returns (λ c κs. search needs) returns-2)
+    tie.close (tie.spec (λ c κs. search needs) (λ c κs. search needs) returns (λ c κs. search needs) returns-2)

@@ -83,7 +83,6 @@ any-bad-mark-spec =
     (λ c. search needs)
     returns
     (λ c κs. search needs)
-    (λ c. search needs)
     loop-holds
     entry-at-requires
     own-mark-requires
