@@ -26,7 +26,10 @@ impl Operation for AddChange {
 
     const NAMES: &'static [&'static str] = &["add"];
     const NUMBERS: &'static [u8] = &[2, 3, 4, 5, 6, 7];
-    const DEFINITIONS: &'static [Module] = &[Module::new("Rattle.fst.specs.Change", "text real")];
+    const DEFINITIONS: &'static [Module] = &[
+        Module::new("Rattle.entries.specs.Repeats", ""),
+        Module::new("Rattle.fst.specs.Change", "text real"),
+    ];
 
     fn alterable(&self) -> (&[u8], &[u32]) {
         (&self.record.bytes, &self.record.indices)
