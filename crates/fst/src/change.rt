@@ -236,10 +236,8 @@ impl Description {
         if is_below_last(index, indices, index_start, self.count) {
             return refused(self, Refusal::IndexBelowLast);
         }
-        let short = ShortLevels {
-            size,
-            levels: scanned.levels,
-        };
+        let levels = scanned.levels;
+        let short = ShortLevels { size, levels };
         self.add_levels(
             max_states,
             states,

@@ -41,7 +41,7 @@ pub fn fresh_real() -> Description
 }
 
 // Whether `count` entries of `size` bytes stand within the maximum and, from a start, within so many bytes.
-fn has_room(count: u32, size: usize, bytes: usize, byte_start: usize) -> bool
+fn fits_bytes(count: u32, size: usize, bytes: usize, byte_start: usize) -> bool
     requires { ⌜ size ≤ 4096 ⌝ }
     ensures { λ r. ⌜ r ≡ leb count maximum && leb («byte_start» + count * size) bytes ⌝ }
 {
@@ -65,7 +65,7 @@ fn is_bad_levels(width: u32, size: usize, count: u32, bytes: usize, byte_start: 
     if MAX_WIDTH < width {
         return true;
     }
-    !has_room(count, size, bytes, byte_start)
+    !fits_bytes(count, size, bytes, byte_start)
 }
 
 // Number 2 of the calls that are lent no indices: whether a description asks for more bytes than it is lent, or for what no record has.
@@ -75,8 +75,8 @@ pub fn is_bad_bytes(description: Description, bytes: &[u8], byte_start: usize) -
     let count = description.count;
     let encoding = description.encoding;
     match encoding {
-        Encoding::Event => !has_room(count, 0, bytes.len(), byte_start),
-        Encoding::Real => !has_room(count, 8, bytes.len(), byte_start),
+        Encoding::Event => !fits_bytes(count, 0, bytes.len(), byte_start),
+        Encoding::Real => !fits_bytes(count, 8, bytes.len(), byte_start),
         Encoding::BitVector { width, max_states } => {
             let size = entry_size(max_states, width);
             is_bad_levels(width, size, count, bytes.len(), byte_start)

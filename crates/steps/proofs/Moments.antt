@@ -20,7 +20,6 @@ use Rattle.runs.proofs.All.{all-by}
 use Rattle.signal.specs.Decode.{entriesFrom, entriesIn}
 use Rattle.signal.specs.Offset.{falls, headOf}
 use Rattle.signal.proofs.Entries.{entries-count, entry-is, indexed}
-use Rattle.signal.proofs.ReadBack as back
 use Rattle.steps.specs.Steps.{Moment, Shown, Track, momentsFrom, moved, nowOf, shownBy, shownIn, shownIndex, smaller, smallest}
 
 -- ---- lists in order

@@ -12,7 +12,7 @@ use Rattle.value.specs.Slice.{same}
 use Rattle.value.specs.declared.States.{States}
 use Rattle.value.proofs.Levels.{set-mark}
 use Rattle.value.proofs.Tests.{by-eq}
-use Rattle.fst.specs.Record.{hasNoText, largestIn, sizeOf, widthOf}
+use Rattle.fst.specs.Record.{described, hasNoText, largestIn, sizeOf, widthOf}
 use Rattle.fst.specs.declared.Encoding.{Encoding}
 use Rattle.fst.specs.declared.Encoding.the-variants.{BitVector, Event, Real}
 use Rattle.signal.specs.Decode.{codesAt, entryAt, markIn}
@@ -30,7 +30,7 @@ use Rattle.steps.proofs.Levels.{levels-found, marked, part-fits, set-fo
 pub input-read : (numbers starts : List ℕ) (i : ℕ) (M : States) → M ≡ setAt (getD numbers (16 + i) 0)
     → _≡_ {A = Input}
     (record {
-      description = record { encoding = BitVector (getD numbers (8 + i) 0) M; count = getD numbers i 0 };
+      description = described (BitVector (getD numbers (8 + i) 0) M) (getD numbers i 0);
       «byte_start» = getD starts i 0;
       «index_start» = getD starts (8 + i) 0;
     })
@@ -89,7 +89,7 @@ vector-is Real t = let z : _≡_ {A = ℕ} 0 1 = cc in absurd (omega arith)
 vector-is (BitVector w M) t = refl
 
 row-is : (x : Input) (c w m b s : ℕ) → c ≡ x .description .count → BitVector w (setAt m) ≡ x .description .encoding → b ≡ x .«byte_start» → s ≡ x .«index_start»
-    → _≡_ {A = Input} (record { description = record { encoding = BitVector w (setAt m); count = c }; «byte_start» = b; «index_start» = s }) x
+    → _≡_ {A = Input} (record { description = described (BitVector w (setAt m)) c; «byte_start» = b; «index_start» = s }) x
 row-is x c w m b s e f g h = rw (e, f, g, h)
 
 twice : (l : List ℕ) (i j v w k : ℕ) → (k ≡ i → ⊥) → (k ≡ j → ⊥) → getD (set (set l i v) j w) k 0 ≡ getD l k 0

@@ -129,8 +129,8 @@ abbrev pub derivedFrom : DerivedBitVecSignal → Inputs → List ℕ → List �
 derivedFrom d inputs bytes indices = derivedList (piecesOf d) (keptAll bytes indices inputs)
 
 -- an answer and the output slices as they are then
-abbrev pub leftBy : Made → List ℕ → List ℕ → Derived
-leftBy made bytes indices = record { answer = madeOf made; bytes = bytes; indices = indices }
+abbrev pub leftByDerive : Made → List ℕ → List ℕ → Derived
+leftByDerive made bytes indices = record { answer = madeOf made; bytes = bytes; indices = indices }
 
 unfoldable pub derive : DerivedBitVecSignal → Inputs → List ℕ → List ℕ → List ℕ → List ℕ → Derived
 derive d inputs bytes indices outBytes outIndices =

@@ -9,7 +9,7 @@ ghost use Rattle.fst.specs.Refusal.{given, madeOf};
 ghost use Rattle.steps.specs.Inputs.{inputsOf};
 ghost use Rattle.steps.specs.Room.{roomFor};
 ghost use Rattle.steps.specs.Storing.{Roomy, Wrote};
-ghost use Rattle.transform.specs.Derive.{derivedFrom, leftBy, derive};
+ghost use Rattle.transform.specs.Derive.{derivedFrom, leftByDerive, derive};
 ghost use Rattle.transform.specs.Picking.{Walkable, largestOver};
 ghost use Rattle.transform.specs.Refusals.{Derivable};
 use crate::picking::step_states;
@@ -140,7 +140,7 @@ fn derive_all(
     out_indices: &mut [u32],
 ) -> Made
     requires { ⌜ Derivable derivation inputs (now bytes) (now indices) ⌝ }
-    ensures { λ r. ⌜ leftBy r (now («out_bytes» .exit)) (now («out_indices» .exit)) ≡ derive derivation inputs (now (bytes .entry)) (now (indices .entry)) (now («out_bytes» .entry)) (now («out_indices» .entry)) ⌝ }
+    ensures { λ r. ⌜ leftByDerive r (now («out_bytes» .exit)) (now («out_indices» .exit)) ≡ derive derivation inputs (now (bytes .entry)) (now (indices .entry)) (now («out_bytes» .entry)) (now («out_indices» .entry)) ⌝ }
 {
     let max_states = largest_states(inputs);
     let width = derivation.width;
@@ -180,7 +180,7 @@ pub fn derive(
     out_bytes: &mut [u8],
     out_indices: &mut [u32],
 ) -> Made
-    ensures { λ r. ⌜ leftBy r (now («out_bytes» .exit)) (now («out_indices» .exit)) ≡ derive derivation inputs (now (bytes .entry)) (now (indices .entry)) (now («out_bytes» .entry)) (now («out_indices» .entry)) ⌝ }
+    ensures { λ r. ⌜ leftByDerive r (now («out_bytes» .exit)) (now («out_indices» .exit)) ≡ derive derivation inputs (now (bytes .entry)) (now (indices .entry)) (now («out_bytes» .entry)) (now («out_indices» .entry)) ⌝ }
 {
     let verdict = first_refusal(derivation, inputs, bytes, indices);
     match verdict {

@@ -3,7 +3,7 @@
 use mathlib.Core.Path.{_≡_, refl, sym, ap, ap₂, _∙_}
 use mathlib.Core.Bool.{Bool, true, false, not, cond, _&&_, _||_, true≢false}
 use mathlib.Core.List.{List, [], _∷_}
-use Prim.Native.Nat.{ℕ, _+_, _≤_, _<_}
+use Prim.Native.Nat.{ℕ, _+_, _≤_, _<_, min}
 use native.Mathlib.Omega.{arith}
 use borrow.Author.Tests.{eqb-true, leb-true, leb-false, lt-ltb, lt-leb, eq-eqb, ne-eqb}
 use lib.Dec.{T, eqb, leb, ltb}
@@ -83,12 +83,11 @@ binary-bit = code-by 2 (λ (n : ℕ). bitAnd n 1) tt
 pub same-tests : (f g : ℕ → Bool) → T (allBelow (λ (n : ℕ). implies true (both (f n) (g n))) 256) → (c : ℕ) → c < 256 → f c ≡ g c
 same-tests f g t c h = both-same (f c) (g c) (each-byte (λ (n : ℕ). true) (λ (n : ℕ). both (f n) (g n)) t c h refl)
 
--- the smaller of two numbers
-pub smaller-left : (a b : ℕ) → a < b → eqb a 0 ≡ eqb a 0 || eqb b 0
-smaller-left a b h = by-eq a 0 (λ e. rw (eq-eqb a 0 e)) (λ n. rw (ne-eqb a 0 n, ne-eqb b 0 (λ e. omega arith)))
-
-pub smaller-right : (a b : ℕ) → b ≤ a → eqb b 0 ≡ eqb a 0 || eqb b 0
-smaller-right a b h = by-eq a 0 (λ e. let z : b ≡ 0 = omega arith in rw (eq-eqb a 0 e, eq-eqb b 0 z)) (λ n. rw (ne-eqb a 0 n))
+-- the smaller of two numbers is 0 where one of them is
+pub min-zero : {r : ℕ} (a b : ℕ) → r ≡ min a b → eqb r 0 ≡ eqb a 0 || eqb b 0
+min-zero {r} a b e =
+    by-eq a 0 (λ (z : a ≡ 0). rw (eq-eqb r 0 (omega arith), eq-eqb a 0 z))
+    (λ n. rw (ne-eqb a 0 n) (by-eq b 0 (λ (z : b ≡ 0). rw (eq-eqb r 0 (omega arith), eq-eqb b 0 z)) (λ m. rw (ne-eqb r 0 (λ z. omega arith), ne-eqb b 0 m))))
 
 known-is : (c : ℕ) → true ≡ holdsOne 9 c → codeOf (fold c) < 9
 unfolding holdsOne

@@ -1,7 +1,7 @@
 // Levels and state sets, after wellen's src/signal/value.rs.
 ghost use mathlib.Core.Path.{_≡_};
 ghost use mathlib.Core.Bool.{_||_, false};
-ghost use Prim.Native.Nat.{_-_, _/_, _^_, _<_};
+ghost use Prim.Native.Nat.{_-_, _/_, _^_, _<_, min};
 ghost use lib.Dec.{eqb};
 ghost use lib.ListN.{length};
 ghost use Rattle.value.specs.Level.{codeOf, fold, letterOf, markOf, bitsOf, lenOf};
@@ -65,9 +65,9 @@ pub fn wide(byte: u8) -> u64
     byte as u64
 }
 
-// The smaller of two numbers: 0 where one of them is. Compiled to one instruction, also of wide ones.
-fn smaller(a: u8, b: u8) -> u8
-    ensures { λ r. ⌜ eqb r 0 ≡ eqb a 0 || eqb b 0 ⌝ }
+// Compiled to one instruction, also of wide ones.
+fn min(a: u8, b: u8) -> u8
+    ensures { λ r. ⌜ r ≡ min a b ⌝ }
 {
     if a < b { a } else { b }
 }
@@ -84,7 +84,7 @@ fn beside_two(value: u8) -> u8
 fn beside_four(value: u8) -> u8
     ensures { λ r. ⌜ eqb r 0 ≡ holdsOne 4 value ⌝ }
 {
-    smaller(beside_two(value), ((value | 32) & 253) ^ b'x')
+    min(beside_two(value), ((value | 32) & 253) ^ b'x')
 }
 
 // 0 for 0 1 x z h u w l -.
@@ -92,8 +92,8 @@ fn beside_nine(value: u8) -> u8
     ensures { λ r. ⌜ eqb r 0 ≡ holdsOne 9 value ⌝ }
 {
     let small = value | 32;
-    let letter = smaller((small & 253) ^ b'u', (small & 251) ^ b'h');
-    smaller(beside_four(value), smaller(letter, value ^ b'-'))
+    let letter = min((small & 253) ^ b'u', (small & 251) ^ b'h');
+    min(beside_four(value), min(letter, value ^ b'-'))
 }
 
 // Whether every character is 0 or 1.

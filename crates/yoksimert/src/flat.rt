@@ -27,7 +27,7 @@ use value::States;
 
 // ---- numbers of enums
 
-fn wide(number: u8) -> u32
+fn as_u32(number: u8) -> u32
     ensures { λ r. ⌜ r ≡ number ⌝ }
 {
     number as u32
@@ -36,19 +36,19 @@ fn wide(number: u8) -> u32
 pub fn verdict_number(verdict: Verdict) -> u32
     ensures { λ r. ⌜ r ≡ numberOf verdict ⌝ }
 {
-    wide(verdict.number())
+    as_u32(verdict.number())
 }
 
 pub fn refusal_number(refusal: Refusal) -> u32
     ensures { λ r. ⌜ r ≡ number refusal ⌝ }
 {
-    wide(refusal.number())
+    as_u32(refusal.number())
 }
 
 pub fn set_number(states: States) -> u32
     ensures { λ r. ⌜ r ≡ markOf states ⌝ }
 {
-    wide(states.mark())
+    as_u32(states.mark())
 }
 
 pub fn kind_number(kind: Kind) -> u32

@@ -9,7 +9,7 @@ use lib.Bits.{bitAnd, bitOr, bitXor}
 use borrow.Author.Needs.{needs}
 use Rattle.value.specs.Level.{placeIn, codeOf, fold}
 use Rattle.value.specs.Answer.{holdsOne}
-use Rattle.value.proofs.Classes.{same-tests}
+use Rattle.value.proofs.Classes.{same-tests, min-zero}
 use Rattle.value.proofs.beside_four.Statement.{statement}
 use Rattle.value.proofs.beside_four.Tie as tie
 
@@ -18,7 +18,7 @@ unfolding holdsOne codeOf placeIn fold
 returns c =
     let b = c .before in
     let x = b .before .args .value in
-    c .smaller .ensures
+    min-zero _ _ (c .min .ensures)
     ∙ ap (λ (t : Bool). t || eqb (bitXor (bitAnd (bitOr x 32) 253) 120) 0) (b .beside-two .ensures)
     ∙ same-tests (λ (n : ℕ). holdsOne 2 n || eqb (bitXor (bitAnd (bitOr n 32) 253) 120) 0) (holdsOne 4) tt x (omega arith)
 

@@ -9,7 +9,7 @@ use lib.Bits.{bitAnd, bitOr, bitXor}
 use borrow.Author.Needs.{needs}
 use Rattle.value.specs.Level.{placeIn, codeOf, fold}
 use Rattle.value.specs.Answer.{holdsOne}
-use Rattle.value.proofs.Classes.{same-tests}
+use Rattle.value.proofs.Classes.{same-tests, min-zero}
 use Rattle.value.proofs.beside_nine.Statement.{statement}
 use Rattle.value.proofs.beside_nine.Tie as tie
 
@@ -24,8 +24,8 @@ returns c =
     let f = o .before in
     let l = f .before in
     let x = l .before .args .value in
-    c .smaller3 .ensures
-    ∙ ap₂ (λ (s t : Bool). s || t) (f .beside-four .ensures) (o .smaller2 .ensures ∙ ap (λ (t : Bool). t || eqb (bitXor x 45) 0) (l .smaller .ensures))
+    min-zero _ _ (c .min3 .ensures)
+    ∙ ap₂ (λ (s t : Bool). s || t) (f .beside-four .ensures) (min-zero _ _ (o .min2 .ensures) ∙ ap (λ (t : Bool). t || eqb (bitXor x 45) 0) (min-zero _ _ (l .min .ensures)))
     ∙ same-tests (λ (n : ℕ). holdsOne 4 n || (letter n || eqb (bitXor n 45) 0)) (holdsOne 9) tt x (omega arith)
 
 pub beside-nine-spec : {M : Type 1} → statement M

@@ -18,14 +18,14 @@ unfolding widthStands
 returns c =
     let a = c .before .before .before .before .args in
     let e = c .before .enum-told .given .1 in
-    bad-room (a .description) (a .byte-start) (now (a .bytes)) 0 (c .has-room .result) (ap sizeOf e) (ap widthStands e) (c .has-room .ensures)
+    bad-room (a .description) (a .byte-start) (now (a .bytes)) 0 (c .fits-bytes .result) (ap sizeOf e) (ap widthStands e) (c .fits-bytes .ensures)
 
 returns-2 : tie.Need-returns-2
 unfolding widthStands
 returns-2 c =
     let a = c .before .before .before .before .args in
     let e = c .before .enum-told2 .given .1 in
-    bad-room (a .description) (a .byte-start) (now (a .bytes)) 8 (c .has-room2 .result) (ap sizeOf e) (ap widthStands e) (c .has-room2 .ensures)
+    bad-room (a .description) (a .byte-start) (now (a .bytes)) 8 (c .fits-bytes2 .result) (ap sizeOf e) (ap widthStands e) (c .fits-bytes2 .ensures)
 
 returns-3 : tie.Need-returns-3
 returns-3 c =
