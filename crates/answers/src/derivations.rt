@@ -1,8 +1,8 @@
 // Add a piece and Derive, as the operations on records.
 ghost use Prim.Native.Nat.{_<_};
-use crate::records::description;
-use crate::records::has_made;
-use crate::records::index_buffer;
+use calls::description;
+use calls::has_made;
+use calls::index_buffer;
 use derivation::DerivedBitVecSignal;
 use derivation::Joined;
 use fst::Made;

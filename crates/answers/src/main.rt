@@ -2,7 +2,6 @@
 // of its calls came out as stored, or the number of the first line that did not. No stored call is left out. The answers are read from
 // standard input by place, so that has to be a file.
 mod derivations;
-mod records;
 
 use lines::has_word;
 
@@ -47,12 +46,12 @@ fn agrees(operation: usize, line: &[u8]) -> bool {
         return false;
     }
     match operation {
-        0 => records::fresh(line),
-        1 => records::add(line),
-        2 => records::read(line),
-        3 => records::text(line),
-        4 => records::compare(line),
-        5 => records::look_up(line),
+        0 => calls::fresh(line),
+        1 => calls::add(line),
+        2 => calls::read(line),
+        3 => calls::text(line),
+        4 => calls::compare(line),
+        5 => calls::look_up(line),
         6 => derivations::left(line),
         7 => derivations::right(line),
         8 => derivations::derive(line),

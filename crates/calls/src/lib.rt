@@ -1,4 +1,4 @@
-// The operations on records: each function makes the call of a line and says whether all that comes out is what the line has.
+// The calls of stored answers on records: each function makes the call of a line and says whether all that comes out is what the line has.
 ghost use Prim.Native.Nat.{_<_};
 ghost use mathlib.Core.Path.{_≡_};
 ghost use lib.ListN.{length};
