@@ -47,7 +47,7 @@ mark-some zero v n = absurd (n refl)
 mark-some (suc zero) v n = refl
 mark-some (suc (suc m)) v n = refl
 
-module _ (w : ℕ) (S : States) (levels : List ℕ) (h : Levels w S levels) (i : ℕ) (k : i < w) where
+module _ {w : ℕ} {S : States} {levels : List ℕ} (h : Levels w S levels) (i : ℕ) (k : i < w) where
   -- the level of character i lies within the bytes
   pub level-in : LevelIn (bitsOf S) (w - 1 - i) (length levels)
   level-in =

@@ -55,7 +55,7 @@ no-mark Event v h = refl
 no-mark Real v h = refl
 no-mark (BitVector w M) v h = absurd (true≢false (sym h))
 
-module _ (e : Encoding) (w : ℕ) (M : States) (u v : List ℕ) (m k : ℕ) (q : e ≡ BitVector w M) (x : m ≡ markOf M) (y : k ≡ markIn M u) (z : u ≡ v) where
+module _ {e : Encoding} {w : ℕ} {M : States} {u v : List ℕ} {m k : ℕ} (q : e ≡ BitVector w M) (x : m ≡ markOf M) (y : k ≡ markIn M u) (z : u ≡ v) where
   pub mark-over : m < k → hasBadMark e v ≡ true
   unfolding hasBadMark
   mark-over h = rw (q, ← z) (lt-ltb (markOf M) (markIn M u) (rw (← x, ← y) h))

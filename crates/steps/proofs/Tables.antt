@@ -104,7 +104,7 @@ pub record Rows (inputs : Inputs) (numbers starts : List ℕ) (i : ℕ) : Type 0
   pub rows : (k : ℕ) → k < i → inputIn numbers starts k ≡ getD (inputs .slots) k noInput
   pub sizes : (k : ℕ) → k < i → getD starts (16 + k) 0 ≡ sizeOf ((getD (inputs .slots) k noInput) .description .encoding)
 
-module _ (inputs : Inputs) (numbers starts : List ℕ) (i : ℕ) (few : i < 8) (was : Rows inputs numbers starts i) where
+module _ {inputs : Inputs} {numbers starts : List ℕ} {i : ℕ} (few : i < 8) (was : Rows inputs numbers starts i) where
   abbrev x : Input
   x = getD (inputs .slots) i noInput
 

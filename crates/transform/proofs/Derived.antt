@@ -241,7 +241,7 @@ pub passes : (d : DerivedBitVecSignal) (inputs : Inputs) (bytes indices : List �
 passes d inputs bytes indices p =
     record { fit = p .fit; begun = p .begun; rising = p .rising; marked = p .marked; coded = p .coded }
 
-module _ (d : DerivedBitVecSignal) (count : ℕ) (ks : List Kept) (p : Passes d count ks) where
+module _ {d : DerivedBitVecSignal} {count : ℕ} {ks : List Kept} (p : Passes d count ks) where
   abbrev es : List Extract
   es = piecesOf d
 
@@ -288,10 +288,10 @@ record Listed (d : DerivedBitVecSignal) (ks : List Kept) : Type 0 where
   up : Up runs.indexOf 0 (first ∷ rest)
   every : All (Sound (d .width) (largestAmong ks)) (first ∷ rest)
 
-listed : (d : DerivedBitVecSignal) (count : ℕ) (ks : List Kept) → Passes d count ks → Sized d → Listed d ks
+listed : {d : DerivedBitVecSignal} {count : ℕ} {ks : List Kept} → Passes d count ks → Sized d → Listed d ks
 unfolding keptSteps joined endsLike
-listed d count [] p z = absurd (omega (arith, some-input d count [] p z))
-listed d count (k ∷ ks) p z =
+listed {ks = []} p z = absurd (omega (arith, some-input p z))
+listed {d} {ks = k ∷ ks} p z =
     let all = k ∷ ks in
     let P = Sound (d .width) (largestAmong all) in
     let y = yielded (piecesOf d) in
@@ -302,7 +302,7 @@ listed d count (k ∷ ks) p z =
     let r = start-runs all (p .begun) in
     let v = ups (tracks all) 0 0 (start-up all (p .rising)) (least-under (tracks all) 0 (subst (LeastOf 0) (sym (start-zero k ks (p .begun))) none-below)) in
     let u = up-map runs.indexOf y 0 ms (moments-up (b .0) (smallest us) us 0 refl v) in
-    let q = all-map (ShowsEntries ⊥ all) P y ms (step-sound d count all p) (moments-show ⊥ all (b .0) (smallest us) us r) in
+    let q = all-map (ShowsEntries ⊥ all) P y ms (step-sound p) (moments-show ⊥ all (b .0) (smallest us) us r) in
     let x = y (firstMoment all) in
     let g = grown sameStep P (x ∷ []) (map y ms) 0 u q in
     record {
@@ -311,21 +311,21 @@ listed d count (k ∷ ks) p z =
       is = ap (λ (l : List Moment). foldl (joined sameStep) [] (map y l)) (b .1) ∙ g .is;
       begins = refl;
       up = (none-below, g .up);
-      every = (step-sound d count all p (firstMoment all) (shows-all ⊥ all us r), g .every);
+      every = (step-sound p (firstMoment all) (shows-all ⊥ all us r), g .every);
     }
 
-module _ (d : DerivedBitVecSignal) (count : ℕ) (ks : List Kept) (p : Passes d count ks) (z : Sized d) where
+module _ {d : DerivedBitVecSignal} {count : ℕ} {ks : List Kept} (p : Passes d count ks) (z : Sized d) where
   -- each step has as many letters as the derivation is wide, all of its own set, which is not above the largest
   pub derived-sound : All (Sound (d .width) (largestAmong ks)) (derivedList (piecesOf d) ks)
-  derived-sound = let l = listed d count ks p z in rw (l .is) (l .every)
+  derived-sound = let l = listed p z in rw (l .is) (l .every)
 
   -- its indices don't fall
   pub derived-rises : falls (map runs.indexOf (derivedList (piecesOf d) ks)) ≡ false
-  derived-rises = let l = listed d count ks p z in rw (l .is) (up-falls runs.indexOf 0 (l .first ∷ l .rest) (l .up))
+  derived-rises = let l = listed p z in rw (l .is) (up-falls runs.indexOf 0 (l .first ∷ l .rest) (l .up))
 
   -- it is not empty, and starts at index 0
   pub derived-begins : isLate (map runs.indexOf (derivedList (piecesOf d) ks)) ≡ false
-  derived-begins = let l = listed d count ks p z in rw (l .is, l .begins) refl
+  derived-begins = let l = listed p z in rw (l .is, l .begins) refl
 
 -- ---- an accepted Derive
 
@@ -365,7 +365,7 @@ module _ (a : Accepted) where
   accepted-width = fit-wide (fit (a .derivation) (a .inputs .count) ks (accepted-passes .fit)) (a .sized)
 
   pub accepted-sound : All (Sound (a .derivation .width) M) (listOf a)
-  accepted-sound = derived-sound (a .derivation) (a .inputs .count) ks accepted-passes (a .sized)
+  accepted-sound = derived-sound accepted-passes (a .sized)
 
   -- the description that was answered
   made-is : described (laid .encoding) (length (laid .indices)) ≡ a .made

@@ -103,7 +103,7 @@ to e levels = length levels - e .lsb / 2
 abbrev pub bytesOf : Extract → List ℕ → List ℕ
 bytesOf e levels = part (from e levels) (to e levels - from e levels) levels
 
-module _ (e : Extract) (w : ℕ) (levels : List ℕ) (h : Levels w Nine levels) (inside : endOf e ≤ w) (bytes : Below 256 levels) where
+module _ (e : Extract) {w : ℕ} {levels : List ℕ} (h : Levels w Nine levels) (inside : endOf e ≤ w) (bytes : Below 256 levels) where
   abbrev codes : List ℕ
   codes = codesAt w Nine levels
 
@@ -124,8 +124,8 @@ module _ (e : Extract) (w : ℕ) (levels : List ℕ) (h : Levels w Nine levels) 
         let s : bitAnd (j * 4) 7 ≡ j * 4 % 8 = and-mask (j * 4) 3 in
         let c : getD (pickedOf e codes) i 0 ≡ getD levels at 0 / 2 ^ bitAnd (j * 4) 7 % 16 =
         sym (pick-code e w Nine levels inside i k)
-        ∙ sym (level-code w Nine levels h n m)
-        ∙ sym (read Nine j levels bytes (level-in w Nine levels h n m))
+        ∙ sym (level-code h n m)
+        ∙ sym (read Nine j levels bytes (level-in h n m))
         ∙ and-mask (getD levels at 0 / 2 ^ bitAnd (j * 4) 7) 4 in
         rw c
         (by-eq (j * 4 % 8) 0
@@ -136,17 +136,17 @@ module _ (e : Extract) (w : ℕ) (levels : List ℕ) (h : Levels w Nine levels) 
     none-nine = none-foreign (pickedOf e codes) (below-each 9 (pickedOf e codes) (λ i k. code i (rw (pick-count e w Nine levels inside) at k)))
 
 -- under a set of four bits
-pub none-picked : (S : States) → 4 ≤ bitsOf S → (e : Extract) (w : ℕ) (levels : List ℕ) → Levels w S levels → endOf e ≤ w → Below 256 levels
+pub none-picked : (S : States) → 4 ≤ bitsOf S → (e : Extract) {w : ℕ} {levels : List ℕ} → Levels w S levels → endOf e ≤ w → Below 256 levels
     → any isBadByte (bytesOf e levels) ≡ false
     → hasNoCode (pickedOf e (codesAt w S levels)) ≡ false
-none-picked Two b = absurd (omega arith)
-none-picked Four b = absurd (omega arith)
-none-picked Nine b = λ e w levels h inside bytes clean. none-nine e w levels h inside bytes clean
+none-picked Two b e h inside bytes clean = absurd (omega arith)
+none-picked Four b e h inside bytes clean = absurd (omega arith)
+none-picked Nine b e h inside bytes clean = none-nine e h inside bytes clean
 
-pub picked-room : (e : Extract) (w : ℕ) (S : States) (levels : List ℕ) → Levels w S levels → endOf e ≤ w → 4 ≤ bitsOf S → (endOf e + 1) / 2 ≤ length levels
-picked-room e w Two levels h inside b = absurd (omega arith)
-picked-room e w Four levels h inside b = absurd (omega arith)
-picked-room e w Nine levels h inside b = let l : length levels ≡ (w + 1) / 2 = h .long in omega arith
+pub picked-room : (e : Extract) {w : ℕ} (S : States) {levels : List ℕ} → Levels w S levels → endOf e ≤ w → 4 ≤ bitsOf S → (endOf e + 1) / 2 ≤ length levels
+picked-room e Two h inside b = absurd (omega arith)
+picked-room e Four h inside b = absurd (omega arith)
+picked-room e {w} Nine {levels} h inside b = let l : length levels ≡ (w + 1) / 2 = h .long in omega arith
 
 -- ---- all levels of an input
 

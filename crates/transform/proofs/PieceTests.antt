@@ -56,7 +56,7 @@ pub pick-none : (e : Extract) (cs : List ℕ) → hasNoCode cs ≡ false → has
 unfolding part
 pick-none e cs h = none-foreign (pickedOf e cs) (below-take 9 _ (below-drop 9 cs (all-below cs h) (length cs - endOf e)) (e .width))
 
-module _ (e : Extract) (w : ℕ) (M : States) (v : List ℕ) (p : EntryPick e w M v) where
+module _ {e : Extract} {w : ℕ} {M : States} {v : List ℕ} (p : EntryPick e w M v) where
   pub pick-owned : (S : States) → S ≡ setAt (markIn M v) → Owned w M v S
   unfolding hasBadMark ownStates
   pick-owned S s = owned (p .whole) (rw (p .marked, s))

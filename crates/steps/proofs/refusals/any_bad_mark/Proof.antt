@@ -54,7 +54,7 @@ returns-2 c indices l =
     let a = e .before .before .before .args in
     sym
     (entries-one (keptWith (a .description) (now (a .used)) indices) entryIsBad (t .before .loop .k) (rw l (t .loop-test .taken))
-    (mark-over (a .description .encoding) _ _ _ _ _ _ (e .encoding .given .1) (k .mark .ensures) (mark-by _ _ _ _ (k .mark .ensures) (m .own-mark .ensures)) (m .before .entry-at .ensures) (c .if1 .taken)))
+    (mark-over (e .encoding .given .1) (k .mark .ensures) (mark-by _ _ _ _ (k .mark .ensures) (m .own-mark .ensures)) (m .before .entry-at .ensures) (c .if1 .taken)))
 
 loop-again : tie.Need-loop-again Inv-loop μ-loop
 loop-again c =
@@ -65,7 +65,7 @@ loop-again c =
     let a = e .before .before .before .args in (
       omega arith,
       below-more _ (t .before .loop .k) (t .before .loop .inv .1)
-          (mark-under (a .description .encoding) _ _ _ _ _ _ (e .encoding .given .1) (k .mark .ensures) (mark-by _ _ _ _ (k .mark .ensures) (m .own-mark .ensures)) (m .before .entry-at .ensures) (c .if1 .left)),
+          (mark-under (e .encoding .given .1) (k .mark .ensures) (mark-by _ _ _ _ (k .mark .ensures) (m .own-mark .ensures)) (m .before .entry-at .ensures) (c .if1 .left)),
     )
 
 returns-3 : tie.Need-returns-3 Inv-loop μ-loop

@@ -34,7 +34,7 @@ loop-again c =
     let slots = slotted (s .args .t1) _ (s .good .0) in
     let h = w .before .before .before .loop-test .taken in (
       omega arith,
-      rows-more (s .args .t1) (l .loop .numbers) (l .loop .starts) (l .loop .i) (omega (arith, s .pre .few)) (l .loop .inv .1) _ _ _
+      rows-more (omega (arith, s .pre .few)) (l .loop .inv .1) _ _ _
           (input-at (s .args .t1) (s .pre .few) slots (l .loop .i) h (λ i. hasNoText (i .description .encoding) ≡ false) (s .pre .vectors))
           (w .width .ensures) (k .mark .ensures ∙ ap markOf (g .largest .ensures)) (c .size .ensures),
     )

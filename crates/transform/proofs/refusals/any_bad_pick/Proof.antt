@@ -39,7 +39,7 @@ returns-2 c indices l =
     (entries-none (keptWith (a .description) (now (a .used)) indices) (pickIsBad (a .extract))
     (λ i h.
     levels-as (a .extract) _ (e .encoding .given .1)
-    (pick-below (a .extract) _ _ _ (picks (a .extract) (a .description) (now (a .used)) (s .pre) _ _ (e .encoding .given .1) i (omega arith)) (rw (b .bits .ensures) at (c .if1 .taken)))))
+    (pick-below (picks (a .extract) (a .description) (now (a .used)) (s .pre) _ _ (e .encoding .given .1) i (omega arith)) (rw (b .bits .ensures) at (c .if1 .taken)))))
 
 loop-holds : tie.Need-loop-holds Inv-loop μ-loop
 loop-holds c = (omega arith, λ j h. absurd (omega arith))

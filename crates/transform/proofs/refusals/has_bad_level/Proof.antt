@@ -15,7 +15,7 @@ use Rattle.transform.proofs.refusals.has_bad_level.Tie as tie
 
 -- the bytes of the picked levels lie within those of all
 room : (s : tie.Start) → (endOf (s .args .extract) + 1) / 2 ≤ length (now (s .args .levels))
-room s = picked-room (s .args .extract) (s .args .width) (s .args .states) (now (s .args .levels)) (s .pre .0) (s .pre .1) (s .pre .2)
+room s = picked-room (s .args .extract) (s .args .states) (s .pre .0) (s .pre .1) (s .pre .2)
 
 sub-from : tie.Need-sub-from
 sub-from c = room (c .before .before .before)
@@ -30,7 +30,7 @@ returns-2 c =
     let k = b .before .before .before .before .before in
     let s = k .before in
     sym
-    (none-picked (s .args .states) (s .pre .2) (s .args .extract) (s .args .width) (now (s .args .levels)) (s .pre .0) (s .pre .1)
+    (none-picked (s .args .states) (s .pre .2) (s .args .extract) (s .pre .0) (s .pre .1)
     (below-all 256 (now (s .args .levels)) (λ i. omega (arith, k .shared-slice-known .given i))) (sym (b .has-bad-byte .ensures) ∙ c .if1 .left))
 
 pub has-bad-level-spec : {M : Type 1} → statement M

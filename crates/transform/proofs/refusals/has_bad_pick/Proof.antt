@@ -22,19 +22,19 @@ returns : tie.Need-returns
 returns c =
     let b = c .before in
     let s = b .before .before .before .before in
-    sym (pick-few (s .args .extract) (s .args .width) (s .args .max-states) (now (s .args .entry)) (s .pre) (b .before .states-in .result) (own b) (rw (b .bits .ensures) at (c .if1 .taken)))
+    sym (pick-few (s .pre) (b .before .states-in .result) (own b) (rw (b .bits .ensures) at (c .if1 .taken)))
 
 level-part-requires : tie.Need-level-part-requires
 level-part-requires c κs =
     let b = c .before in
     let s = b .before .before .before .before in
-    pick-owned (s .args .extract) (s .args .width) (s .args .max-states) (now (s .args .entry)) (s .pre) (b .before .states-in .result) (own b) .within
+    pick-owned (s .pre) (b .before .states-in .result) (own b) .within
 
 has-bad-level-requires : tie.Need-has-bad-level-requires
 has-bad-level-requires c κs =
     let b = c .before .before in
     let s = b .before .before .before .before in
-    let o = pick-owned (s .args .extract) (s .args .width) (s .args .max-states) (now (s .args .entry)) (s .pre) (b .before .states-in .result) (own b) in
+    let o = pick-owned (s .pre) (b .before .states-in .result) (own b) in
     (rw (c .level-part .ensures, o .part) (o .levels), s .pre .inside, rw (b .bits .ensures) at (c .before .if1 .left))
 
 returns-2 : tie.Need-returns-2
@@ -43,7 +43,7 @@ returns-2 c =
     let b = p .before .before in
     let s = b .before .before .before .before in
     c .has-bad-level .ensures
-    ∙ pick-levels (s .args .extract) (s .args .width) (s .args .max-states) (now (s .args .entry)) (s .pre) (b .before .states-in .result) (own b) _ (p .level-part .ensures)
+    ∙ pick-levels (s .pre) (b .before .states-in .result) (own b) _ (p .level-part .ensures)
 
 pub has-bad-pick-spec : {M : Type 1} → statement M
 has-bad-pick-spec =
