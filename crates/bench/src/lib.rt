@@ -3,7 +3,7 @@ ghost use lib.ListN.{length};
 ghost use Rattle.value.specs.Level.{setAt};
 ghost use Rattle.wavemem.specs.Packed.{Packable};
 ghost use Rattle.layout.specs.Expand.{Widenable};
-ghost use Rattle.signal.specs.Search.{Reached};
+ghost use Rattle.offset.specs.Search.{Reached};
 use fst::NextIndex;
 use signal::decode::states_at;
 use value::States;
@@ -44,7 +44,7 @@ pub extern "C" fn bench_expand(from: u32, to: u32, data: &mut [u8], entries: usi
     layout::expand::expand_entries(states_at(from), states_at(to), data, 0, entries, bits)
 }
 
-// What a search finds: the fields of `signal::DataOffset` by numbers.
+// What a search finds: the fields of `offset::DataOffset` by numbers.
 #[repr(C)]
 pub struct Place {
     pub start: usize,
@@ -59,7 +59,7 @@ pub struct Place {
 pub extern "C" fn bench_search(indices: &[u32], needle: u32) -> Place
     requires { ⌜ Reached needle (now indices) ⌝ }
 {
-    let offset = signal::offset::find_offset_from_time_table_idx(indices, needle);
+    let offset = offset::find_offset_from_time_table_idx(indices, needle);
     let next = offset.next_index;
     let mut has_next = false;
     let mut next_index = 0;
@@ -79,5 +79,5 @@ pub extern "C" fn bench_search(indices: &[u32], needle: u32) -> Place
 // 1 where an index falls, and else 0.
 #[no_mangle]
 pub extern "C" fn bench_falls(indices: &[u32]) -> u32 {
-    if signal::offset::falls(indices) { 1 } else { 0 }
+    if offset::falls(indices) { 1 } else { 0 }
 }

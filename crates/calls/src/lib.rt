@@ -18,11 +18,11 @@ use lines::number_32;
 use lines::place;
 use lines::read_bytes;
 use lines::read_indices;
-use signal::DataOffset;
+use offset::DataOffset;
 use signal::EntryAnswer;
 use signal::EqualAnswer;
 use signal::Kind;
-use signal::OffsetAnswer;
+use offset::OffsetAnswer;
 use value::States;
 
 pub fn index_buffer() -> [u32; 4096]
@@ -310,7 +310,7 @@ fn is_looked_up(line: &[u8], indices: &[u32]) -> bool {
         time_match: false,
         next_index: NextIndex::Absent,
     };
-    match signal::offset::get_offset(indices, number_32(line, 3)) {
+    match offset::get_offset(indices, number_32(line, 3)) {
         OffsetAnswer::At(offset) => has_offset(line, 0, true, offset),
         OffsetAnswer::Nothing => has_offset(line, 0, false, nowhere),
         OffsetAnswer::Refused(refusal) => has_offset(line, refusal.number(), false, nowhere),

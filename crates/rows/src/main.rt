@@ -8,8 +8,8 @@ use fst::Description;
 use fst::Encoding;
 use fst::Made;
 use fst::NextIndex;
-use signal::DataOffset;
-use signal::OffsetAnswer;
+use offset::DataOffset;
+use offset::OffsetAnswer;
 use steps::Input;
 use steps::Inputs;
 
@@ -186,7 +186,7 @@ fn write_offset(offset: DataOffset) {
 }
 
 fn look_up(indices: &[u32], sought: u32) {
-    match signal::offset::get_offset(indices, sought) {
+    match offset::get_offset(indices, sought) {
         OffsetAnswer::At(offset) => write_offset(offset),
         OffsetAnswer::Nothing => title(b" none"),
         OffsetAnswer::Refused(refusal) => {

@@ -1,4 +1,4 @@
--- Rows 9 to 11 of document 01, and its examples of reading and comparing. By computation over the definitions.
+-- Document 01's examples of reading and comparing. By computation over the definitions.
 -- Assumes nothing.
 use mathlib.Core.Path.{_≡_, refl}
 use Prim.Native.Nat.{ℕ, _+_, _*_, _^_}
@@ -11,51 +11,16 @@ use Rattle.value.specs.declared.States.the-variants.{Two, Four, Nine}
 use Rattle.value.specs.Text.{chars}
 use Rattle.value.specs.Digits.{number, digits}
 use Rattle.value.specs.Slice.{part, overlay, same, any}
-use Rattle.value.specs.Level.{placeIn, letterOf}
+use Rattle.value.specs.Level.{letterOf}
 use Rattle.fst.specs.declared.Encoding.the-variants.{Event, Real, BitVector}
 use Rattle.fst.specs.Refusal.{Reply, refused, given, tried}
 use Rattle.layout.specs.Entry.{entrySize}
 use Rattle.fst.specs.Record.{Kept, hasNoText, keptIn, widthStands, fitsBytes, fits, isBadBytes, isBad}
 use Rattle.fst.proofs.Rows.{around, heldBy, lentBy, kept}
 use Rattle.signal.specs.declared.Kind.the-variants as kind
-use Rattle.fst.specs.declared.NextIndex.{NextIndex}
-use Rattle.fst.specs.declared.NextIndex.the-variants.{Absent, At}
 use Rattle.signal.specs.Decode.{entryAt, entriesFrom, markIn, setIn, levelPart, levelsIn, hasBadMark}
 use Rattle.signal.specs.Read.{Entry, readEntry, textLeft, readText}
 use Rattle.signal.specs.Compare.{sameReal, sameValue, walked, compareRecords}
-use Rattle.signal.specs.Offset.{falls, greatest, runOf, Place, none, at, placeOf, place, lookUp}
-
--- ---- Look up
-
--- a list, a sought index and the answer
-pub record Sought : Type 0 where
-  pub indices : List ℕ
-  pub index : ℕ
-  pub found : Place
-
-unfoldable pub Finds : Sought → Type 0
-Finds s = lookUp (s .indices) (s .index) ≡ given (s .found)
-
-unfoldable pub AllFind : List Sought → Type 0
-AllFind [] = Unit
-AllFind (s ∷ l) = Finds s × AllFind l
-
-abbrev place-at : ℕ → ℕ → Bool → NextIndex → Place
-place-at start n equal next = at (record { start = start; elements = n; «time_match» = equal; «next_index» = next })
-
-abbrev pub rows : List Sought
-rows =
-    -- 9. indices 0 5 5 9, seek 6: start 1, two, unequal, next 9
-    record { indices = 0 ∷ 5 ∷ 5 ∷ 9 ∷ []; index = 6; found = place-at 1 2 false (At 9) }
-    -- 10. seek 9: start 3, one, equal, absent
-    ∷ record { indices = 0 ∷ 5 ∷ 5 ∷ 9 ∷ []; index = 9; found = place-at 3 1 true Absent }
-    -- 11. index 3 alone, seek 2: none
-    ∷ record { indices = 3 ∷ []; index = 2; found = none }
-    ∷ []
-
-pub rows-hold : AllFind rows
-unfolding Finds AllFind tried placeIn falls greatest runOf placeOf place lookUp
-rows-hold = (refl, (refl, (refl, tt)))
 
 -- ---- Read and Text
 

@@ -1,11 +1,9 @@
 // Reading records, after wellen's src/signal/mod.rs.
-use fst::NextIndex;
 use fst::Refusal;
 use value::States;
 
 pub mod compare;
 pub mod decode;
-pub mod offset;
 pub mod read;
 
 pub enum Kind {
@@ -30,20 +28,5 @@ pub enum OwnStates {
 pub enum EqualAnswer {
     Equal,
     Unequal,
-    Refused(Refusal),
-}
-
-// The entries that carry the greatest time index not above the sought one.
-pub struct DataOffset {
-    pub start: usize,
-    pub elements: u16,
-    pub time_match: bool,
-    pub next_index: NextIndex,
-}
-
-// The answer of Look up.
-pub enum OffsetAnswer {
-    Nothing,
-    At(DataOffset),
     Refused(Refusal),
 }

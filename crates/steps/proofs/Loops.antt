@@ -13,7 +13,7 @@ use Rattle.fst.specs.declared.NextIndex.{NextIndex}
 use Rattle.fst.specs.declared.NextIndex.the-variants.{Absent, At}
 use Rattle.runs.specs.All.{All}
 use Rattle.runs.proofs.All.{all-at}
-use Rattle.signal.specs.Offset.{headOf}
+use Rattle.offset.specs.Offset.{headOf}
 use Rattle.steps.specs.Inputs.{inputsOf}
 use Rattle.steps.specs.Stepping.{Cursor, Reaches, advanced, begunAt, cursor, cursors, nextIn, soonest}
 use Rattle.steps.specs.Steps.{smaller}

@@ -18,7 +18,7 @@ use Rattle.runs.specs.All.{All}
 use Rattle.runs.specs.Runs.{Step, endsLike, indexOf, joined}
 use Rattle.runs.proofs.All.{all-by}
 use Rattle.signal.specs.Decode.{entriesFrom, entriesIn}
-use Rattle.signal.specs.Offset.{falls, headOf}
+use Rattle.offset.specs.Offset.{falls, headOf}
 use Rattle.signal.proofs.Entries.{entries-count, entry-is, indexed}
 use Rattle.steps.specs.Steps.{Moment, Shown, Track, momentsFrom, moved, nowOf, shownBy, shownIn, shownIndex, smaller, smallest}
 

@@ -19,7 +19,7 @@ use Rattle.fst.specs.declared.NextIndex.{NextIndex}
 use Rattle.fst.specs.declared.NextIndex.the-variants.{Absent, At}
 use Rattle.fst.proofs.Records.{indices-used}
 use Rattle.signal.specs.Decode.{Indexed, entriesFrom, entriesIn, entryAt}
-use Rattle.signal.specs.Offset.{headOf}
+use Rattle.offset.specs.Offset.{headOf}
 use Rattle.signal.proofs.Entries.{entries-count, entry-is, indexed}
 use Rattle.signal.proofs.Reading.{entry-within}
 use Rattle.steps.specs.Inputs.{inputKept}

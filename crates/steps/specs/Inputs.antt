@@ -8,7 +8,7 @@ use Rattle.value.specs.Slice.{any}
 use Rattle.fst.specs.Record.{Kept, Lent, hasNoText, isBad, keptIn, lent}
 use Rattle.fst.specs.declared.Encoding.{Encoding}
 use Rattle.signal.specs.Decode.{Indexed, entriesIn, hasBadMark}
-use Rattle.signal.specs.Offset.{falls}
+use Rattle.offset.specs.Offset.{falls}
 use Rattle.steps.specs.declared.Input.{Input}
 use Rattle.steps.specs.declared.Inputs.{Inputs}
 

@@ -13,7 +13,7 @@ use Rattle.fst.specs.declared.NextIndex.{NextIndex}
 use Rattle.fst.specs.declared.NextIndex.the-variants.{Absent, At}
 use Rattle.runs.specs.Runs.{joined}
 use Rattle.signal.specs.Decode.{Indexed, entriesIn, levelsIn, setIn}
-use Rattle.signal.specs.Offset.{headOf}
+use Rattle.offset.specs.Offset.{headOf}
 
 -- an entry as an input shows it
 pub record Shown : Type 0 where

@@ -15,7 +15,7 @@ use fst::Description;
 use fst::Encoding;
 use fst::record::is_bad;
 use signal::decode::own_mark;
-use signal::offset::falls;
+use offset::falls;
 use signal::read::entry_at;
 
 // How many slots hold inputs.

@@ -34,7 +34,7 @@ use Rattle.runs.specs.Runs.{Same, Step, byValue, endsLike, joined, laidOut, see
 use Rattle.runs.proofs.All.{all-by, all-map}
 use Rattle.runs.proofs.Laid.{Sound, laid-found, laid-same}
 use Rattle.signal.specs.Decode.{entriesFrom, entriesIn, entryAt, levelsIn, setIn}
-use Rattle.signal.specs.Offset.{falls, headOf}
+use Rattle.offset.specs.Offset.{falls, headOf}
 use Rattle.signal.proofs.Entries.{entries-count, entries-each}
 use Rattle.signal.proofs.ReadBack as back
 use Rattle.signal.proofs.ReadBack.{Tells}

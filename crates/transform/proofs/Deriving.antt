@@ -26,7 +26,7 @@ use Rattle.runs.specs.Runs.{Step, endsLike, joined}
 use Rattle.runs.proofs.All.{all-both, all-map, all-of}
 use Rattle.runs.proofs.Joined.{joined-all, joined-by}
 use Rattle.runs.proofs.Laid.{Sound, entry-tells, entryFor, sameEntry}
-use Rattle.signal.specs.Offset.{headOf}
+use Rattle.offset.specs.Offset.{headOf}
 use Rattle.derivation.specs.Piece.{extractOf, piecesOf}
 use Rattle.derivation.specs.declared.DerivedBitVecSignal.{DerivedBitVecSignal}
 use Rattle.steps.specs.Inputs.{inputKept, inputsOf, isLate, startsLate}

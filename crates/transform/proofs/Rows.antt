@@ -19,8 +19,8 @@ use Rattle.fst.proofs.Rows as written
 use Rattle.fst.proofs.Rows.{accepted, around, kept, lentBy, row}
 use Rattle.runs.specs.Runs.{endsLike, entriesOf, joined, laidOut}
 use Rattle.signal.specs.Decode.{entriesFrom, entryAt, hasBadMark, levelPart, levelsIn, markIn, setIn}
-use Rattle.signal.specs.Offset.{falls}
-use Rattle.signal.proofs.Rows as sought
+use Rattle.offset.specs.Offset.{falls}
+use Rattle.offset.proofs.Rows as sought
 use Rattle.derivation.specs.Piece.{Sized, addPiece, adjoin, derivationWith, emptyDerivation, extractOf, isBadDerivation, isBadPiece, isBadRange, isOverfull, merging, nameAdded, packedOf, pieceAdded, sliceOf}
 use Rattle.steps.specs.Steps.{keptSteps, momentsFrom, momentsOf, moved, smallest}
 use Rattle.steps.specs.declared.Input.{Input}

@@ -16,7 +16,7 @@ use Rattle.fst.specs.Record.{Kept, Lent, hasNoText, keptIn, widthStands, fitsBy
 use Rattle.fst.proofs.Refusals.{Result, through, stopped, result}
 use Rattle.runs.specs.Runs.{endsLike, joined, entriesOf, laidOut, Same}
 use Rattle.signal.specs.Decode.{entryAt, entriesFrom, markIn, setIn, levelPart, levelsIn, hasBadMark}
-use Rattle.signal.specs.Offset.{falls}
+use Rattle.offset.specs.Offset.{falls}
 use Rattle.derivation.specs.declared.DerivedBitVecSignal.{DerivedBitVecSignal}
 use Rattle.derivation.specs.Piece.{extractOf, isBadPiece, isBadDerivation}
 use Rattle.steps.specs.declared.Inputs.{Inputs}

@@ -15,7 +15,7 @@ use Rattle.fst.specs.declared.Encoding.the-variants.{Event, Real, BitVector}
 use Rattle.fst.specs.declared.Description.{Description}
 use Rattle.fst.specs.Record.{described}
 use Rattle.fst.specs.declared.NextIndex.the-variants as next
-use Rattle.signal.specs.declared.DataOffset.{DataOffset}
+use Rattle.offset.specs.declared.DataOffset.{DataOffset}
 use Rattle.yoksimert.specs.declared.FlatDescription.{FlatDescription}
 use Rattle.yoksimert.specs.declared.FlatMade.{FlatMade}
 use Rattle.yoksimert.specs.declared.FlatOffset.{FlatOffset}

@@ -16,9 +16,9 @@ use Rattle.signal.specs.declared.Kind.{Kind}
 use Rattle.signal.specs.declared.Kind.the-variants as kind
 use Rattle.fst.specs.declared.NextIndex.{NextIndex}
 use Rattle.fst.specs.declared.NextIndex.the-variants as next
-use Rattle.signal.specs.declared.DataOffset.{DataOffset}
+use Rattle.offset.specs.declared.DataOffset.{DataOffset}
 use Rattle.signal.specs.Read.{Entry, kindOf}
-use Rattle.signal.specs.Offset.{Place, none, at}
+use Rattle.offset.specs.Offset.{Place, none, at}
 use Rattle.yoksimert.specs.declared.FlatDescription.{FlatDescription}
 use Rattle.yoksimert.specs.declared.Decoded.{Decoded}
 use Rattle.yoksimert.specs.declared.Decoded.the-variants.{Known, Unknown}

@@ -4,7 +4,7 @@ ghost use mathlib.Core.List.{List};
 ghost use Prim.Native.Nat.{ℕ};
 ghost use Rattle.fst.specs.Refusal.{Outcome};
 ghost use Rattle.fst.specs.Record.{lent, fresh, freshReal};
-ghost use Rattle.signal.specs.Offset.{lookUp};
+ghost use Rattle.offset.specs.Offset.{lookUp};
 ghost use Rattle.yoksimert.specs.Flat.{encoded, flatMade, flatOffset};
 ghost use Rattle.yoksimert.specs.Exports.{flatRead, flatText, flatCompare};
 use crate::Decoded;
@@ -28,7 +28,7 @@ use fst::record::fresh;
 use fst::record::fresh_real;
 use signal::EntryAnswer;
 use signal::compare::compare_records;
-use signal::offset::get_offset;
+use offset::get_offset;
 use signal::read::read_entry;
 use signal::read::read_text;
 

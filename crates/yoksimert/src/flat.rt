@@ -5,7 +5,7 @@ ghost use Rattle.fst.specs.Refusal.{number, numberOf, madeOf};
 ghost use Rattle.fst.specs.declared.Encoding.the-variants.{BitVector};
 ghost use Rattle.signal.specs.Read.{kindOf};
 ghost use Rattle.signal.specs.Compare.{equalOf};
-ghost use Rattle.signal.specs.Offset.{offsetOf};
+ghost use Rattle.offset.specs.Offset.{offsetOf};
 ghost use Rattle.yoksimert.specs.Flat.{known, decoded, encoded, noDescription, kindNumber, noEntry, levelLength, flatMade, flatEqual, nowhere, placed, flatOffset};
 use crate::Decoded;
 use crate::FlatDescription;
@@ -19,10 +19,10 @@ use fst::Made;
 use fst::NextIndex;
 use fst::Refusal;
 use fst::Verdict;
-use signal::DataOffset;
+use offset::DataOffset;
 use signal::EqualAnswer;
 use signal::Kind;
-use signal::OffsetAnswer;
+use offset::OffsetAnswer;
 use value::States;
 
 // ---- numbers of enums

@@ -28,7 +28,7 @@ impl Operation for LookUp {
             "Rattle.fst.specs.declared.NextIndex.the-variants",
             "Absent At",
         ),
-        Module::new("Rattle.signal.specs.Offset", "none at"),
+        Module::new("Rattle.offset.specs.Offset", "none at"),
     ];
 
     fn by_oracle(&self, _: Slices) -> Result<Option<Offset>, Refusal> {

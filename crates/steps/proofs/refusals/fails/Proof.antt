@@ -8,7 +8,7 @@ use mathlib.Core.Path.{_∙_, ap, sym}
 use Rattle.value.specs.Slice.{part}
 use Rattle.fst.specs.Record.{keptIn}
 use Rattle.fst.proofs.Records.{indices-used, standing}
-use Rattle.signal.specs.Offset.{falls}
+use Rattle.offset.specs.Offset.{falls}
 use Rattle.steps.specs.Inputs.{isLate, markIsBad}
 use Rattle.steps.specs.Refusals.{failsBy, isFirst, keptWith}
 use Rattle.steps.specs.declared.InputTest.{InputTest}

@@ -1,8 +1,8 @@
 -- `yoksimert::flat::flat_offset` meets its contract.
 -- Assumes nothing.
 use mathlib.Core.Path.{sym, ap, _∙_}
-use Rattle.signal.specs.declared.OffsetAnswer.{OffsetAnswer}
-use Rattle.signal.specs.Offset.{offsetOf}
+use Rattle.offset.specs.declared.OffsetAnswer.{OffsetAnswer}
+use Rattle.offset.specs.Offset.{offsetOf}
 use Rattle.yoksimert.specs.Flat.{nowhere, flatOffset}
 use borrow.Author.Needs.{needs}
 use Rattle.yoksimert.proofs.flat.flat_offset.Statement.{statement}

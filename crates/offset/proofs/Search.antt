@@ -14,8 +14,8 @@ use lib.Seq.{getD-drop, drop-cons, drop-drop}
 use Rattle.value.specs.Level.{placeIn}
 use Rattle.value.proofs.Tests.{or-left, or-right, by-le}
 use Rattle.fst.specs.declared.NextIndex.the-variants.{Absent, At}
-use Rattle.signal.specs.Offset.{falls, greatest, runOf, headOf}
-use Rattle.signal.specs.Search.{Reached, Last}
+use Rattle.offset.specs.Offset.{falls, greatest, runOf, headOf}
+use Rattle.offset.specs.Search.{Reached, Last}
 
 -- ---- a list that doesn't fall
 

@@ -1,4 +1,4 @@
--- `signal::offset::falls` meets its contract. The loop's invariant: the list falls where it fell before `i` or falls from there on.
+-- `offset::falls` meets its contract. The loop's invariant: the list falls where it fell before `i` or falls from there on.
 -- Assumes nothing.
 use mathlib.Core.Path.{_≡_, refl, sym, ap, _∙_}
 use mathlib.Core.Bool.{Bool, _||_, or-assoc, or-false}
@@ -6,10 +6,10 @@ use Prim.Native.Nat.{_≤_, _+_, _-_}
 use native.Mathlib.Omega.{arith}
 use lib.Dec.{ltb}
 use lib.ListN.{length, getD, drop}
-use Rattle.signal.specs.Offset.{falls}
-use Rattle.signal.proofs.Search.{falls-step, falls-end}
-use Rattle.signal.proofs.offset.falls.Statement.{statement}
-use Rattle.signal.proofs.offset.falls.Tie as tie
+use Rattle.offset.specs.Offset.{falls}
+use Rattle.offset.proofs.Search.{falls-step, falls-end}
+use Rattle.offset.proofs.falls.Statement.{statement}
+use Rattle.offset.proofs.falls.Tie as tie
 
 abbrev Inv-loop : tie.InvT-loop
 Inv-loop indices fell₀ i₀ fell i = (i ≤ length indices) × (falls indices ≡ (fell || falls (drop i indices)))

@@ -1,11 +1,11 @@
--- `signal::offset::binary_search` meets its contract. The loop's invariant: the last place is one of the `size` from `place` on.
+-- `offset::binary_search` meets its contract. The loop's invariant: the last place is one of the `size` from `place` on.
 -- Assumes nothing.
 use Prim.Native.Nat.{_+_, _-_, _*_, _/_}
 use native.Mathlib.Omega.{arith}
 use borrow.Author.Needs.{needs}
-use Rattle.signal.proofs.Search.{Bracket, bracket-start, bracket-half, bracket-one}
-use Rattle.signal.proofs.offset.binary_search.Statement.{statement}
-use Rattle.signal.proofs.offset.binary_search.Tie as tie
+use Rattle.offset.proofs.Search.{Bracket, bracket-start, bracket-half, bracket-one}
+use Rattle.offset.proofs.binary_search.Statement.{statement}
+use Rattle.offset.proofs.binary_search.Tie as tie
 
 abbrev Inv-loop : tie.InvT-loop
 Inv-loop indices needle place₀ size₀ place size = Bracket needle indices place size

@@ -1,14 +1,14 @@
--- `signal::offset::find_offset_from_time_table_idx` meets its contract.
+-- `offset::find_offset_from_time_table_idx` meets its contract.
 -- Assumes nothing.
 use mathlib.Core.Path.{refl}
 use Prim.Native.Nat.{_≤_}
 use native.Mathlib.Omega.{arith}
 use borrow.Author.Needs.{needs}
 use lib.ListN.{length, getD, drop, length-drop}
-use Rattle.signal.proofs.Search.{place-first, run-within, last-greatest}
-use Rattle.signal.proofs.Offsets.{place-found}
-use Rattle.signal.proofs.offset.find_offset_from_time_table_idx.Statement.{statement}
-use Rattle.signal.proofs.offset.find_offset_from_time_table_idx.Tie as tie
+use Rattle.offset.proofs.Search.{place-first, run-within, last-greatest}
+use Rattle.offset.proofs.Offsets.{place-found}
+use Rattle.offset.proofs.find_offset_from_time_table_idx.Statement.{statement}
+use Rattle.offset.proofs.find_offset_from_time_table_idx.Tie as tie
 
 -- the run starts in the list
 within : (c : tie.After-find-start) → c .find-start .result ≤ length (c .before .before .before .before .args .indices .now)

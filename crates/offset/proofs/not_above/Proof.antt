@@ -1,9 +1,9 @@
--- `signal::offset::not_above` meets its contract.
+-- `offset::not_above` meets its contract.
 -- Assumes nothing.
 use borrow.Author.Needs.{needs}
-use Rattle.signal.proofs.Search.{borrowed}
-use Rattle.signal.proofs.offset.not_above.Statement.{statement}
-use Rattle.signal.proofs.offset.not_above.Tie as tie
+use Rattle.offset.proofs.Search.{borrowed}
+use Rattle.offset.proofs.not_above.Statement.{statement}
+use Rattle.offset.proofs.not_above.Tie as tie
 
 returns : tie.Need-returns
 returns c = borrowed (c .args .index) (c .args .needle) (search needs) (search needs)

@@ -1,4 +1,4 @@
--- `signal::offset::find_start` meets its contract.
+-- `offset::find_start` meets its contract.
 -- Assumes nothing.
 use mathlib.Core.Path.{_≡_, refl}
 use mathlib.Core.Logic.{⊎-elim}
@@ -7,9 +7,9 @@ use native.Mathlib.Omega.{arith}
 use borrow.Author.Needs.{needs}
 use borrow.Author.Tests.{eqb-false, not-true}
 use lib.ListN.{getD}
-use Rattle.signal.proofs.Search.{rising, start-is, start-first, start-behind}
-use Rattle.signal.proofs.offset.find_start.Statement.{statement}
-use Rattle.signal.proofs.offset.find_start.Tie as tie
+use Rattle.offset.proofs.Search.{rising, start-is, start-first, start-behind}
+use Rattle.offset.proofs.find_start.Statement.{statement}
+use Rattle.offset.proofs.find_start.Tie as tie
 
 -- another index stands in front of the place
 other : (c : tie.Joined1) →

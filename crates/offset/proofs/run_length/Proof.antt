@@ -1,4 +1,4 @@
--- `signal::offset::run_length` meets its contract. The loop's invariant: the run from `start` on is `elements` longer than the run from where the loop stands.
+-- `offset::run_length` meets its contract. The loop's invariant: the run from `start` on is `elements` longer than the run from where the loop stands.
 -- Assumes nothing.
 use mathlib.Core.Path.{_≡_, sym, ap, _∙_}
 use native.Mathlib.Nat.{add-zero, zero-add}
@@ -7,10 +7,10 @@ use Prim.Native.Nat.{_≤_, _<_, _+_, _-_}
 use native.Mathlib.Omega.{arith}
 use lib.ListN.{length, drop}
 use Rattle.fst.specs.declared.NextIndex.the-variants.{At}
-use Rattle.signal.specs.Offset.{runOf, headOf}
-use Rattle.signal.proofs.Search.{head-is, run-ends, run-differs, run-more}
-use Rattle.signal.proofs.offset.run_length.Statement.{statement}
-use Rattle.signal.proofs.offset.run_length.Tie as tie
+use Rattle.offset.specs.Offset.{runOf, headOf}
+use Rattle.offset.proofs.Search.{head-is, run-ends, run-differs, run-more}
+use Rattle.offset.proofs.run_length.Statement.{statement}
+use Rattle.offset.proofs.run_length.Tie as tie
 
 abbrev Inv-loop : tie.InvT-loop
 Inv-loop indices start index elements₀ elements =

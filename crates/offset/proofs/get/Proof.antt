@@ -1,10 +1,10 @@
--- `signal::offset::get` meets its contract.
+-- `offset::get` meets its contract.
 -- Assumes nothing.
 use mathlib.Core.Path.{sym}
 use borrow.Author.Needs.{needs}
-use Rattle.signal.proofs.Search.{head-at, head-past}
-use Rattle.signal.proofs.offset.get.Statement.{statement}
-use Rattle.signal.proofs.offset.get.Tie as tie
+use Rattle.offset.proofs.Search.{head-at, head-past}
+use Rattle.offset.proofs.get.Statement.{statement}
+use Rattle.offset.proofs.get.Tie as tie
 
 returns : tie.Need-returns
 returns c =

@@ -10,9 +10,9 @@ use Rattle.fst.specs.Refusal.{Reply, refused, given, _⇐_, tried, number}
 use Rattle.fst.specs.Record.{maximum}
 use Rattle.fst.specs.declared.NextIndex.{NextIndex}
 use Rattle.fst.specs.declared.NextIndex.the-variants as next
-use Rattle.signal.specs.declared.DataOffset.{DataOffset}
-use Rattle.signal.specs.declared.OffsetAnswer.{OffsetAnswer}
-use Rattle.signal.specs.declared.OffsetAnswer.the-variants as answer
+use Rattle.offset.specs.declared.DataOffset.{DataOffset}
+use Rattle.offset.specs.declared.OffsetAnswer.{OffsetAnswer}
+use Rattle.offset.specs.declared.OffsetAnswer.the-variants as answer
 
 -- "11: an index falls"
 unfoldable pub falls : List ℕ → Bool

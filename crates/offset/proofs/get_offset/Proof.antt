@@ -1,4 +1,4 @@
--- `signal::offset::get_offset` meets its contract.
+-- `offset::get_offset` meets its contract.
 -- Assumes nothing.
 use mathlib.Core.Path.{_≡_, sym, ap, _∙_}
 use mathlib.Core.Bool.{false}
@@ -7,11 +7,11 @@ use native.Mathlib.Omega.{arith}
 use borrow.Author.Needs.{needs}
 use lib.ListN.{length, getD}
 use Rattle.fst.specs.Refusal.{given}
-use Rattle.signal.specs.Offset.{falls, at, place, lookUp}
-use Rattle.signal.proofs.Search.{head-is, head-none}
-use Rattle.signal.proofs.Offsets.{look-up-long, look-up-falling, look-up-rising, place-empty, place-above, place-reached}
-use Rattle.signal.proofs.offset.get_offset.Statement.{statement}
-use Rattle.signal.proofs.offset.get_offset.Tie as tie
+use Rattle.offset.specs.Offset.{falls, at, place, lookUp}
+use Rattle.offset.proofs.Search.{head-is, head-none}
+use Rattle.offset.proofs.Offsets.{look-up-long, look-up-falling, look-up-rising, place-empty, place-above, place-reached}
+use Rattle.offset.proofs.get_offset.Statement.{statement}
+use Rattle.offset.proofs.get_offset.Tie as tie
 
 returns : tie.Need-returns
 returns c = sym (look-up-long _ _ (c .if1 .taken))

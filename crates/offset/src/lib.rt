@@ -1,17 +1,30 @@
-// The entries that hold at a time index.
+// The entries that hold at a time index, after wellen's src/signal/mod.rs.
 ghost use mathlib.Core.Path.{_≡_};
 ghost use mathlib.Core.Bool.{false, cond};
 ghost use Prim.Native.Nat.{_≤_, _<_};
 ghost use lib.Dec.{leb};
 ghost use lib.ListN.{length, getD, drop};
 ghost use Rattle.value.specs.Level.{placeIn};
-ghost use Rattle.signal.specs.Offset.{falls, runOf, headOf, placeOf, lookUp, offsetOf};
-ghost use Rattle.signal.specs.Search.{Reached, Last};
-use crate::DataOffset;
-use crate::OffsetAnswer;
+ghost use Rattle.offset.specs.Offset.{falls, runOf, headOf, placeOf, lookUp, offsetOf};
+ghost use Rattle.offset.specs.Search.{Reached, Last};
 use fst::NextIndex;
 use fst::Refusal;
 use fst::record::MAXIMUM;
+
+// The entries that carry the greatest time index not above the sought one.
+pub struct DataOffset {
+    pub start: usize,
+    pub elements: u16,
+    pub time_match: bool,
+    pub next_index: NextIndex,
+}
+
+// The answer of Look up.
+pub enum OffsetAnswer {
+    Nothing,
+    At(DataOffset),
+    Refused(Refusal),
+}
 
 // Whether an index is below the one before it. Every pair is compared, since a scan that can end early is not vectorised.
 pub fn falls(indices: &[u32]) -> bool

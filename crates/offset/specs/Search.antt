@@ -5,7 +5,7 @@ use Prim.Native.Nat.{ℕ, _≤_, _<_}
 use mathlib.Core.Bool.{false}
 use mathlib.Core.List.{List}
 use lib.ListN.{length, getD}
-use Rattle.signal.specs.Offset.{falls}
+use Rattle.offset.specs.Offset.{falls}
 
 -- a list that doesn't fall, and whose first index isn't above a needle
 pub record Reached (needle : ℕ) (l : List ℕ) : Type 0 where

@@ -16,10 +16,10 @@ use Rattle.fst.specs.Refusal.{refused, given, tried}
 use Rattle.fst.specs.Record.{maximum}
 use Rattle.fst.specs.declared.NextIndex.{NextIndex}
 use Rattle.fst.specs.declared.NextIndex.the-variants.{Absent, At}
-use Rattle.signal.specs.declared.DataOffset.{DataOffset}
-use Rattle.signal.specs.Offset.{falls, greatest, runOf, elementsOf, headOf, none, at, placeOf, place, lookUp}
-use Rattle.signal.specs.Search.{Reached}
-use Rattle.signal.proofs.Search.{rising, greatest-bounds, greatest-stands, place-first, head-at, head-past, Carrying, run-is}
+use Rattle.offset.specs.declared.DataOffset.{DataOffset}
+use Rattle.offset.specs.Offset.{falls, greatest, runOf, elementsOf, headOf, none, at, placeOf, place, lookUp}
+use Rattle.offset.specs.Search.{Reached}
+use Rattle.offset.proofs.Search.{rising, greatest-bounds, greatest-stands, place-first, head-at, head-past, Carrying, run-is}
 
 -- ---- the definition by cases
 
