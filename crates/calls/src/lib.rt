@@ -2,6 +2,7 @@
 ghost use Prim.Native.Nat.{_<_};
 ghost use mathlib.Core.Path.{_≡_};
 ghost use lib.ListN.{length};
+use equality::EqualAnswer;
 use fst::Added;
 use fst::Description;
 use fst::Encoding;
@@ -19,10 +20,9 @@ use lines::place;
 use lines::read_bytes;
 use lines::read_indices;
 use offset::DataOffset;
-use signal::EntryAnswer;
-use signal::EqualAnswer;
-use signal::Kind;
 use offset::OffsetAnswer;
+use signal::EntryAnswer;
+use signal::Kind;
 use value::States;
 
 pub fn index_buffer() -> [u32; 4096]
@@ -254,7 +254,7 @@ fn is_compared(
     b_bytes: &[u8],
     b_indices: &[u32],
 ) -> bool {
-    let answer = signal::compare::compare_records(
+    let answer = equality::compare_records(
         description(line, 2),
         a_bytes,
         place(line, 7),

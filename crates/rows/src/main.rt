@@ -102,55 +102,30 @@ fn fresh(width: u32) -> Description {
     description
 }
 
-fn row_1() {
-    let mut bytes = [0xaau8; 4];
-    let mut indices = [0x46u32; 5];
-    title(b"row 1");
-    let d = fresh(1);
-    string(d, &mut bytes, &mut indices, 0, b"1");
-}
-
-fn row_2() {
-    let mut bytes = [0xaau8; 5];
-    let mut indices = [0x46u32; 6];
-    title(b"row 2");
-    let d = fresh(1);
-    let e = string(d, &mut bytes, &mut indices, 0, b"x");
-    string(e, &mut bytes, &mut indices, 1, b"X");
-}
-
-fn rows_3_and_4() {
+// A change to a new record of a width, between bytes aa and indices 46.
+fn one(name: &[u8], width: u32, value: &[u8]) {
     let mut bytes = [0xaau8; 8];
     let mut indices = [0x46u32; 6];
-    title(b"rows 3 and 4");
-    let d = fresh(3);
-    let e = string(d, &mut bytes, &mut indices, 0, b"x01");
-    string(e, &mut bytes, &mut indices, 0, b"hz1");
+    title(name);
+    string(fresh(width), &mut bytes, &mut indices, 0, value);
 }
 
-fn row_5() {
+// A change at 0, and then another.
+fn two(name: &[u8], width: u32, first: &[u8], index: u32, second: &[u8]) {
     let mut bytes = [0xaau8; 8];
     let mut indices = [0x46u32; 6];
-    title(b"row 5");
-    let d = fresh(4);
-    let e = string(d, &mut bytes, &mut indices, 0, b"1010");
-    string(e, &mut bytes, &mut indices, 2, b"10xz");
+    title(name);
+    let d = string(fresh(width), &mut bytes, &mut indices, 0, first);
+    string(d, &mut bytes, &mut indices, index, second);
 }
 
-fn row_6() {
-    let mut bytes = [0xaau8; 6];
-    let mut indices = [0x46u32; 5];
-    title(b"row 6");
-    let d = fresh(5);
-    string(d, &mut bytes, &mut indices, 0, b"0000x");
-}
-
-fn row_7() {
-    let mut bytes = [0xaau8; 6];
-    let mut indices = [0x46u32; 5];
-    title(b"row 7");
-    let d = fresh(2);
-    string(d, &mut bytes, &mut indices, 0, b"u-");
+fn rows_1_to_7() {
+    one(b"row 1", 1, b"1");
+    two(b"row 2", 1, b"x", 1, b"X");
+    two(b"rows 3 and 4", 3, b"x01", 0, b"hz1");
+    two(b"row 5", 4, b"1010", 2, b"10xz");
+    one(b"row 6", 5, b"0000x");
+    one(b"row 7", 2, b"u-");
 }
 
 fn row_8() {
@@ -321,12 +296,7 @@ fn edge_width() {
 }
 
 fn main() {
-    row_1();
-    row_2();
-    rows_3_and_4();
-    row_5();
-    row_6();
-    row_7();
+    rows_1_to_7();
     row_8();
     rows_9_to_11();
     row_12();

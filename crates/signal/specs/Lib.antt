@@ -1,4 +1,3 @@
 pub mod Decode
 pub mod Read
-pub mod Compare
 pub mod Parts

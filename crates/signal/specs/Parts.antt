@@ -1,10 +1,10 @@
--- Inner: the steps by which an entry is decoded, tried and compared, for the functions that share them.
+-- Inner: the steps by which an entry is decoded and tried, for the functions that share them.
 -- Assumes nothing.
 use Prim.Native.Nat.{ℕ, _+_, _*_, _≤_}
 use mathlib.Core.Path.{_≡_}
-use mathlib.Core.Bool.{Bool, true, false, cond, _&&_}
+use mathlib.Core.Bool.{Bool, true, cond}
 use mathlib.Core.List.{List, [], _∷_}
-use lib.Dec.{ltb, eqb}
+use lib.Dec.{ltb}
 use lib.ListN.{length}
 use Rattle.value.specs.declared.States.{States}
 use Rattle.value.specs.Digits.{digits}
@@ -13,7 +13,7 @@ use Rattle.value.specs.Level.{markOf, lenOf, setAt, hasNoCode}
 use Rattle.fst.specs.declared.Encoding.{Encoding}
 use Rattle.fst.specs.declared.Encoding.the-variants.{BitVector}
 use Rattle.fst.specs.declared.Refusal.the-variants.{BadMark}
-use Rattle.fst.specs.Refusal.{Reply, given, _⇐_, tried, Outcome, outcome}
+use Rattle.fst.specs.Refusal.{given, _⇐_, tried, Outcome, outcome}
 use Rattle.fst.specs.Record.{sizeOf, widthStands}
 use Rattle.signal.specs.declared.OwnStates.{OwnStates}
 use Rattle.signal.specs.declared.OwnStates.the-variants as own
@@ -21,7 +21,6 @@ use Rattle.signal.specs.declared.EntryAnswer.{EntryAnswer}
 use Rattle.signal.specs.declared.EntryAnswer.the-variants as answer
 use Rattle.signal.specs.Decode.{markIn, setIn, levelPart, hasBadMark, hasBadCode, textIn}
 use Rattle.signal.specs.Read.{kindOf}
-use Rattle.signal.specs.Compare.{sameValue}
 
 -- ---- one entry
 
@@ -63,27 +62,3 @@ textStored w M v out =
     outcome out
     (tried (9 ⇐ hasBadMark (BitVector w M) v ∷ 10 ⇐ hasBadCode (BitVector w M) v ∷ 7 ⇐ ltb (length out) w ∷ [])
     (given (overlay out 0 (textIn (BitVector w M) v))))
-
--- ---- Compare
-
--- 9 or 10 of an entry, and 0 for neither
-unfoldable pub badNumber : Encoding → List ℕ → ℕ
-badNumber e v = cond (hasBadMark e v) 9 (cond (hasBadCode e v) 10 0)
-
--- an entry that is neither
-pub record Valid (e : Encoding) (v : List ℕ) : Type 0 where
-  pub whole : Whole e v
-  pub mark : hasBadMark e v ≡ false
-  pub code : hasBadCode e v ≡ false
-
--- a pair of entries with their time indices: "the first record's entry is tried for 9 and 10, then the second's, and only then are they
--- compared"
-unfoldable pub pairOf : Encoding → List ℕ → ℕ → Encoding → List ℕ → ℕ → Reply Bool
-pairOf a x i b y j =
-    tried
-    (9 ⇐ hasBadMark a x
-    ∷ 10 ⇐ hasBadCode a x
-    ∷ 9 ⇐ hasBadMark b y
-    ∷ 10 ⇐ hasBadCode b y
-    ∷ [])
-    (given (eqb i j && sameValue a x b y))

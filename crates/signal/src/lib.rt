@@ -2,7 +2,6 @@
 use fst::Refusal;
 use value::States;
 
-pub mod compare;
 pub mod decode;
 pub mod read;
 
@@ -22,11 +21,4 @@ pub enum EntryAnswer {
 pub enum OwnStates {
     Own(States),
     Bad,
-}
-
-// The answer of Compare.
-pub enum EqualAnswer {
-    Equal,
-    Unequal,
-    Refused(Refusal),
 }

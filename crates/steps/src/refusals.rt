@@ -14,8 +14,8 @@ use crate::Inputs;
 use fst::Description;
 use fst::Encoding;
 use fst::record::is_bad;
-use signal::decode::own_mark;
 use offset::falls;
+use signal::decode::own_mark;
 use signal::read::entry_at;
 
 // How many slots hold inputs.

@@ -18,7 +18,7 @@ use Rattle.signal.specs.declared.Kind.{Kind}
 use Rattle.signal.specs.declared.EntryAnswer.{EntryAnswer}
 use Rattle.signal.specs.declared.EntryAnswer.the-variants as answer
 use Rattle.signal.specs.Read.{Entry, readEntry, replyOf, partOf, readText}
-use Rattle.signal.specs.Compare.{compareRecords}
+use Rattle.equality.specs.Compare.{compareRecords}
 use Rattle.yoksimert.specs.declared.FlatDescription.{FlatDescription}
 use Rattle.yoksimert.specs.declared.FlatAdded.{FlatAdded}
 use Rattle.yoksimert.specs.declared.FlatEntry.{FlatEntry}

@@ -7,7 +7,7 @@ use Rattle.fst.specs.Refusal.{Outcome, refused}
 use Rattle.fst.specs.Record.{Lent, Recorder, sizeOf}
 use Rattle.fst.specs.Change.{Change, addChange}
 use Rattle.signal.specs.Read.{readEntry, readText}
-use Rattle.signal.specs.Compare.{compareRecords}
+use Rattle.equality.specs.Compare.{compareRecords}
 use Rattle.yoksimert.specs.declared.FlatDescription.{FlatDescription}
 use Rattle.yoksimert.specs.declared.Decoded.{Decoded}
 use Rattle.yoksimert.specs.declared.Decoded.the-variants.{Known, Unknown}

@@ -24,11 +24,11 @@ use crate::flat::no_entry;
 use crate::flat::refusal_number;
 use crate::flat::set_number;
 use crate::flat::verdict_number;
+use equality::compare_records;
 use fst::record::fresh;
 use fst::record::fresh_real;
-use signal::EntryAnswer;
-use signal::compare::compare_records;
 use offset::get_offset;
+use signal::EntryAnswer;
 use signal::read::read_entry;
 use signal::read::read_text;
 

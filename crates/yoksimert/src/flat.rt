@@ -4,7 +4,7 @@ ghost use Rattle.value.specs.Level.{markOf};
 ghost use Rattle.fst.specs.Refusal.{number, numberOf, madeOf};
 ghost use Rattle.fst.specs.declared.Encoding.the-variants.{BitVector};
 ghost use Rattle.signal.specs.Read.{kindOf};
-ghost use Rattle.signal.specs.Compare.{equalOf};
+ghost use Rattle.equality.specs.Compare.{equalOf};
 ghost use Rattle.offset.specs.Offset.{offsetOf};
 ghost use Rattle.yoksimert.specs.Flat.{known, decoded, encoded, noDescription, kindNumber, noEntry, levelLength, flatMade, flatEqual, nowhere, placed, flatOffset};
 use crate::Decoded;
@@ -13,6 +13,7 @@ use crate::FlatEntry;
 use crate::FlatEqual;
 use crate::FlatMade;
 use crate::FlatOffset;
+use equality::EqualAnswer;
 use fst::Description;
 use fst::Encoding;
 use fst::Made;
@@ -20,9 +21,8 @@ use fst::NextIndex;
 use fst::Refusal;
 use fst::Verdict;
 use offset::DataOffset;
-use signal::EqualAnswer;
-use signal::Kind;
 use offset::OffsetAnswer;
+use signal::Kind;
 use value::States;
 
 // ---- numbers of enums

@@ -27,7 +27,7 @@ impl Operation for Compare {
     const NUMBERS: &'static [u8] = &[2, 9, 10];
     const DEFINITIONS: &'static [Module] = &[
         Module::library("lib.Ieee", "", "eq ofBits ofFields odd"),
-        Module::new("Rattle.signal.specs.Compare", ""),
+        Module::new("Rattle.equality.specs.Compare", ""),
     ];
 
     fn by_oracle(&self, _: Slices) -> Result<bool, Refusal> {

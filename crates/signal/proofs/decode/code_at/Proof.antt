@@ -2,7 +2,6 @@
 -- Assumes nothing.
 use mathlib.Core.Path.{_∙_}
 use borrow.Author.Needs.{needs}
-use denote.Ref.{now}
 use Rattle.signal.proofs.Decoding.{level-in, level-code}
 use Rattle.signal.proofs.decode.code_at.Statement.{statement}
 use Rattle.signal.proofs.decode.code_at.Tie as tie

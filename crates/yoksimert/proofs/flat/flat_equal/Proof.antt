@@ -3,8 +3,8 @@
 use mathlib.Core.Path.{sym, ap, _∙_}
 use Prim.Native.Nat.{ℕ}
 use Rattle.fst.specs.Refusal.{refused}
-use Rattle.signal.specs.declared.EqualAnswer.{EqualAnswer}
-use Rattle.signal.specs.Compare.{equalOf}
+use Rattle.equality.specs.declared.EqualAnswer.{EqualAnswer}
+use Rattle.equality.specs.Compare.{equalOf}
 use Rattle.yoksimert.specs.Flat.{flatEqual}
 use borrow.Author.Needs.{needs}
 use Rattle.yoksimert.proofs.flat.flat_equal.Statement.{statement}

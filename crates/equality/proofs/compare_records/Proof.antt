@@ -1,10 +1,10 @@
--- `signal::compare::compare_records` meets its contract.
+-- `equality::compare_records` meets its contract.
 -- Assumes nothing.
 use mathlib.Core.Path.{sym, _∙_}
 use borrow.Author.Needs.{needs}
-use Rattle.signal.proofs.Comparing.{first-record, second-record}
-use Rattle.signal.proofs.compare.compare_records.Statement.{statement}
-use Rattle.signal.proofs.compare.compare_records.Tie as tie
+use Rattle.equality.proofs.Comparing.{first-record, second-record}
+use Rattle.equality.proofs.compare_records.Statement.{statement}
+use Rattle.equality.proofs.compare_records.Tie as tie
 
 returns : tie.Need-returns
 returns c = first-record _ _ _ _ (sym (c .before .is-bad .ensures) ∙ c .if1 .taken)

@@ -1,4 +1,4 @@
--- `signal::compare::equal_bytes` meets its contract: the union of the differences so far is 0 where the bytes so far agree.
+-- `equality::equal_bytes` meets its contract: the union of the differences so far is 0 where the bytes so far agree.
 -- Assumes nothing.
 use mathlib.Core.Path.{_≡_, refl, ap₂, _∙_}
 use Prim.Native.Nat.{_-_, _≤_}
@@ -8,9 +8,9 @@ use lib.Dec.{eqb}
 use lib.ListN.{length, take}
 use lib.Seq.{take-all}
 use Rattle.value.specs.Slice.{same}
-use Rattle.signal.proofs.Comparing.{alike-union}
-use Rattle.signal.proofs.compare.equal_bytes.Statement.{statement}
-use Rattle.signal.proofs.compare.equal_bytes.Tie as tie
+use Rattle.equality.proofs.Comparing.{alike-union}
+use Rattle.equality.proofs.equal_bytes.Statement.{statement}
+use Rattle.equality.proofs.equal_bytes.Tie as tie
 
 abbrev Inv-loop : tie.InvT-loop
 Inv-loop a b union₀ i₀ union i = (i ≤ length a) × (eqb union 0 ≡ same (take i a) (take i b))

@@ -1,4 +1,4 @@
--- `signal::compare::compare_entries` meets its contract: the records agree exactly where their entries from `k` on do.
+-- `equality::compare_entries` meets its contract: the records agree exactly where their entries from `k` on do.
 -- Assumes nothing.
 use mathlib.Core.Path.{_≡_, sym, _∙_}
 use mathlib.Core.Logic.{⊎-elim}
@@ -8,13 +8,13 @@ use denote.Ref.{now}
 use borrow.Author.Needs.{needs}
 use borrow.Author.Tests.{ltb-true, ltb-false}
 use Rattle.fst.specs.Record.{Lent, lent}
-use Rattle.signal.specs.Compare.{walked, compareRecords, equalOf}
+use Rattle.equality.specs.Compare.{walked, compareRecords, equalOf}
 use Rattle.fst.proofs.Records.{standing}
 use Rattle.signal.proofs.Reading.{inside, whole}
 use Rattle.signal.proofs.Entries.{HasIndexed, has-entry, has-index, has-few, rest}
-use Rattle.signal.proofs.Comparing.{follow, Walked, walk-starts, step, goes-on, ends, first-longer, second-longer, both-end}
-use Rattle.signal.proofs.compare.compare_entries.Statement.{statement}
-use Rattle.signal.proofs.compare.compare_entries.Tie as tie
+use Rattle.equality.proofs.Comparing.{follow, Walked, walk-starts, step, goes-on, ends, first-longer, second-longer, both-end}
+use Rattle.equality.proofs.compare_entries.Statement.{statement}
+use Rattle.equality.proofs.compare_entries.Tie as tie
 
 abbrev Inv-loop : tie.InvT-loop
 Inv-loop a a-bytes a-byte-start a-indices a-index-start b b-bytes b-byte-start b-indices b-index-start a-encoding b-encoding k₀ k =

@@ -1,13 +1,13 @@
--- `signal::compare::same_value` meets its contract.
+-- `equality::same_value` meets its contract.
 -- Assumes nothing.
 use mathlib.Core.Path.{sym, ap₂, _∙_}
-use Rattle.signal.proofs.Comparing.{valid-vector, unlike-event, unlike-real, unlike-vector, unlike-width, like-vector}
+use Rattle.equality.proofs.Comparing.{valid-vector, unlike-event, unlike-real, unlike-vector, unlike-width, like-vector}
 use denote.Ref.{now}
 use Rattle.fst.specs.declared.Encoding.{Encoding}
-use Rattle.signal.specs.Compare.{sameValue}
+use Rattle.equality.specs.Compare.{sameValue}
 use borrow.Author.Needs.{needs}
-use Rattle.signal.proofs.compare.same_value.Statement.{statement}
-use Rattle.signal.proofs.compare.same_value.Tie as tie
+use Rattle.equality.proofs.same_value.Statement.{statement}
+use Rattle.equality.proofs.same_value.Tie as tie
 
 returns : tie.Need-returns
 returns c = unlike-event _ _ _ (c .before .enum-told .given .1) (c .match2 .keys2)

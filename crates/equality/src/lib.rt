@@ -10,25 +10,32 @@ ghost use Rattle.value.specs.Slice.{same};
 ghost use Rattle.fst.specs.declared.Encoding.the-variants.{BitVector};
 ghost use Rattle.fst.specs.Record.{lent, isBad};
 ghost use Rattle.fst.specs.Refusal.{numberOf};
 ghost use Rattle.signal.specs.Decode.{textIn, codesAt};
-ghost use Rattle.signal.specs.Compare.{sameReal, sameValue, compareRecords, equalOf};
-ghost use Rattle.signal.specs.Parts.{Levels, Whole, badNumber, Valid, pairOf};
-use crate::EqualAnswer;
-use crate::OwnStates;
-use crate::decode::code_at;
-use crate::decode::has_bad_code;
-use crate::decode::level_part;
-use crate::decode::own_mark;
-use crate::decode::own_states;
-use crate::decode::states_of;
-use crate::read::entry_at;
+ghost use Rattle.equality.specs.Compare.{sameReal, sameValue, compareRecords, equalOf};
+ghost use Rattle.signal.specs.Parts.{Levels, Whole};
+ghost use Rattle.equality.specs.Pairs.{badNumber, Valid, pairOf};
 use fst::Description;
 use fst::Encoding;
 use fst::Refusal;
 use fst::Verdict;
 use fst::record::is_bad;
+use signal::OwnStates;
+use signal::decode::code_at;
+use signal::decode::has_bad_code;
+use signal::decode::level_part;
+use signal::decode::own_mark;
+use signal::decode::own_states;
+use signal::decode::states_of;
+use signal::read::entry_at;
 use value::States;
 use value::wide;
+
+// The answer of Compare.
+pub enum EqualAnswer {
+    Equal,
+    Unequal,
+    Refused(Refusal),
+}
 
 // The weight of a real's sign bit.
 const SIGN: u64 = 9223372036854775808;

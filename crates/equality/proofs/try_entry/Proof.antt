@@ -1,12 +1,12 @@
--- `signal::compare::try_entry` meets its contract.
+-- `equality::try_entry` meets its contract.
 -- Assumes nothing.
 use borrow.Author.Needs.{needs}
 use mathlib.Core.Path.{sym, _∙_}
 use Rattle.signal.proofs.Reading.{vector, some, Owned, owned}
-use Rattle.signal.proofs.Comparing.{bad-none, bad-mark, bad-code, bad-no-code}
+use Rattle.equality.proofs.Comparing.{bad-none, bad-mark, bad-code, bad-no-code}
 use denote.Ref.{now}
-use Rattle.signal.proofs.compare.try_entry.Statement.{statement}
-use Rattle.signal.proofs.compare.try_entry.Tie as tie
+use Rattle.equality.proofs.try_entry.Statement.{statement}
+use Rattle.equality.proofs.try_entry.Tie as tie
 
 -- what is known of the entry once its own set is told
 own-part : (c : tie.After-known-told2)

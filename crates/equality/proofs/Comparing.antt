@@ -33,16 +33,17 @@ use Rattle.fst.specs.Refusal.{Reply, refused, given, Test, _⇐_, tried, number
 use Rattle.fst.specs.Record.{Lent, isBad}
 use Rattle.fst.proofs.Records.{Standing, standing}
 use Rattle.fst.proofs.Refusals.{number-some}
-use Rattle.signal.specs.declared.EqualAnswer.{EqualAnswer}
-use Rattle.signal.specs.declared.EqualAnswer.the-variants as answer
-use Rattle.signal.proofs.EqualAnswer.{the-type as equal-type}
-use Rattle.signal.specs.Compare.{sameValue, agree, walked, compareRecords, equalOf}
+use Rattle.equality.specs.declared.EqualAnswer.{EqualAnswer}
+use Rattle.equality.specs.declared.EqualAnswer.the-variants as answer
+use Rattle.equality.proofs.EqualAnswer.{the-type as equal-type}
+use Rattle.equality.specs.Compare.{sameValue, agree, walked, compareRecords, equalOf}
 use Rattle.signal.specs.declared.OwnStates.the-variants as own
 use Rattle.signal.specs.Decode.{Indexed, entryAt, markIn, setIn, levelPart, levelsIn, hasBadMark, hasBadCode, textIn, codesAt}
-use Rattle.signal.specs.Parts.{ownStates, Whole, badNumber, Valid, pairOf}
+use Rattle.signal.specs.Parts.{ownStates, Whole}
+use Rattle.equality.specs.Pairs.{badNumber, Valid, pairOf}
 use Rattle.signal.proofs.Decoding.{mark-by, codes-length}
 use Rattle.signal.proofs.Reading.{Owned, owned, bad-told}
 use Rattle.signal.proofs.Entries.{HasIndexed, entryNumber, rest, rest-more, rest-end}
 
 -- ---- a real's bits
 

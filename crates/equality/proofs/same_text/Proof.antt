@@ -1,15 +1,15 @@
--- `signal::compare::same_text` meets its contract.
+-- `equality::same_text` meets its contract.
 -- Assumes nothing.
 use mathlib.Core.Path.{_≡_, ap, sym, _∙_}
 use Rattle.signal.specs.Decode.{levelPart}
 use denote.Ref.{now}
 use Rattle.signal.proofs.Reading.{some, Owned}
-use Rattle.signal.proofs.Comparing.{valid-owned, bytes-alike, same-length, codes-alike}
+use Rattle.equality.proofs.Comparing.{valid-owned, bytes-alike, same-length, codes-alike}
 use borrow.Author.Needs.{needs}
 use Rattle.value.specs.Level.{markOf, setAt}
 use Rattle.fst.specs.declared.Encoding.the-variants.{BitVector}
-use Rattle.signal.proofs.compare.same_text.Statement.{statement}
-use Rattle.signal.proofs.compare.same_text.Tie as tie
+use Rattle.equality.proofs.same_text.Statement.{statement}
+use Rattle.equality.proofs.same_text.Tie as tie
 
 -- the start, what is known of the two entries, and the bytes of their levels
 abbrev start : tie.After-level-part2 → tie.Start

@@ -13,9 +13,9 @@ use Rattle.fst.specs.declared.Description.{Description}
 use Rattle.fst.specs.Refusal.{Reply, refused, given, _⇐_, tried}
 use Rattle.fst.specs.Refusal as refusal
 use Rattle.fst.specs.Record.{Lent, keptIn, isBad}
-use Rattle.signal.specs.declared.EqualAnswer.{EqualAnswer}
-use Rattle.signal.specs.declared.EqualAnswer.the-variants as answer
+use Rattle.equality.specs.declared.EqualAnswer.{EqualAnswer}
+use Rattle.equality.specs.declared.EqualAnswer.the-variants as answer
 use Rattle.signal.specs.Decode.{Indexed, entriesIn, hasBadMark, hasBadCode, textIn}
 
 -- "reals by float ==", from the bits
 unfoldable pub sameReal : List ℕ → List ℕ → Bool

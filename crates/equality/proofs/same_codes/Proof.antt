@@ -1,15 +1,15 @@
--- `signal::compare::same_codes` meets its contract: the codes passed agree.
+-- `equality::same_codes` meets its contract: the codes passed agree.
 -- Assumes nothing.
 use lib.ListN.{take}
 use Prim.Native.Nat.{_-_, _≤_}
 use mathlib.Core.Path.{_≡_}
-use Rattle.signal.proofs.Comparing.{alike-none, alike-not, alike-more, alike-all}
+use Rattle.equality.proofs.Comparing.{alike-none, alike-not, alike-more, alike-all}
 use Rattle.signal.specs.Decode.{codesAt}
 use native.Mathlib.Omega.{arith}
 use Rattle.signal.proofs.Decoding.{codes-length}
 use denote.Ref.{now}
-use Rattle.signal.proofs.compare.same_codes.Statement.{statement}
-use Rattle.signal.proofs.compare.same_codes.Tie as tie
+use Rattle.equality.proofs.same_codes.Statement.{statement}
+use Rattle.equality.proofs.same_codes.Tie as tie
 
 abbrev Inv-loop : tie.InvT-loop
 Inv-loop width states levels others other-levels i₀ i = (i ≤ width) × (take i (codesAt width states levels) ≡ take i (codesAt width others other-levels))

@@ -1,4 +1,4 @@
--- `signal::compare::real_bits` meets its contract: the bits of the bytes passed stand in the number.
+-- `equality::real_bits` meets its contract: the bits of the bytes passed stand in the number.
 -- Assumes nothing.
 use Rattle.value.specs.Digits.{number}
 use mathlib.Core.List.{reverse}
@@ -6,11 +6,11 @@ use borrow.Author.Needs.{needs}
 use mathlib.Core.Path.{_≡_}
 use Prim.Native.Nat.{_-_, _^_, _≤_, _<_}
 use native.Mathlib.Omega.{arith}
-use Rattle.signal.proofs.Comparing.{bits-start, bits-more}
+use Rattle.equality.proofs.Comparing.{bits-start, bits-more}
 use lib.ListN.{drop}
 use denote.Ref.{now}
-use Rattle.signal.proofs.compare.real_bits.Statement.{statement}
-use Rattle.signal.proofs.compare.real_bits.Tie as tie
+use Rattle.equality.proofs.real_bits.Statement.{statement}
+use Rattle.equality.proofs.real_bits.Tie as tie
 
 abbrev Inv-loop : tie.InvT-loop
 Inv-loop value bits₀ i₀ bits i = (i ≤ 8) × (bits ≡ number 256 (reverse (drop i value))) × (bits < 256 ^ (8 - i))

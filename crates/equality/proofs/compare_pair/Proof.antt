@@ -1,13 +1,13 @@
--- `signal::compare::compare_pair` meets its contract.
+-- `equality::compare_pair` meets its contract.
 -- Assumes nothing.
 use mathlib.Core.Path.{_≡_, sym, ap, _∙_}
 use denote.Ref.{now}
-use Rattle.signal.proofs.Comparing.{valid, first-refused, second-refused, pair-apart, pair-told}
-use Rattle.signal.specs.Parts.{Valid, pairOf}
+use Rattle.equality.proofs.Comparing.{valid, first-refused, second-refused, pair-apart, pair-told}
+use Rattle.equality.specs.Pairs.{Valid, pairOf}
 use borrow.Author.Needs.{needs}
 use Rattle.fst.specs.Refusal.{numberOf, given}
-use Rattle.signal.proofs.compare.compare_pair.Statement.{statement}
-use Rattle.signal.proofs.compare.compare_pair.Tie as tie
+use Rattle.equality.proofs.compare_pair.Statement.{statement}
+use Rattle.equality.proofs.compare_pair.Tie as tie
 
 -- neither entry is 9 or 10
 first : (c : tie.After-enum-told) → Valid (c .before .before .before .before .before .args .a) (now (c .before .before .before .before .before .args .x))

@@ -1,12 +1,12 @@
--- `signal::compare::same_real` meets its contract.
+-- `equality::same_real` meets its contract.
 -- Assumes nothing.
 use borrow.Author.Needs.{needs}
 use mathlib.Core.Path.{ap₂, _∙_}
 use Prim.Native.Nat.{ℕ}
 use lib.Ieee.{eq, ofBits, binary64}
-use Rattle.signal.specs.Compare.{sameReal}
-use Rattle.signal.proofs.compare.same_real.Statement.{statement}
-use Rattle.signal.proofs.compare.same_real.Tie as tie
+use Rattle.equality.specs.Compare.{sameReal}
+use Rattle.equality.proofs.same_real.Statement.{statement}
+use Rattle.equality.proofs.same_real.Tie as tie
 
 real-bits-requires : tie.Need-real-bits-requires
 real-bits-requires c κs = c .before .before .pre .0

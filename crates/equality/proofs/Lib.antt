@@ -1,0 +1,4 @@
+pub mod Rows
+pub mod Floats
+pub mod Comparing
+pub mod Agreeing
