@@ -94,7 +94,7 @@ fn replay_first(text: &[u8], number: usize, agreed: &mut [u64], first: &mut [u64
     std::num::wrapping_add_usize(end, 1)
 }
 
-// The same at a place of the input. 0 past its end.
+// Replays the line at a place of the input, and gives its length; 0 past the input's end.
 fn replay_at(place: usize, number: usize, agreed: &mut [u64], first: &mut [u64]) -> usize {
     let mut space = io::large_buffer();
     let got = libc::pread(0, &mut space, (place % 4611686018427387904) as i64);

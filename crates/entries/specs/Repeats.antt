@@ -1,4 +1,4 @@
--- Document 01, "Add a change": a change that is dropped.
+-- Document 01, "A record": a change that is dropped.
 -- Assumes nothing.
 use Prim.Native.Nat.{ℕ, zero, suc, _*_}
 use mathlib.Core.Bool.{Bool, false}

@@ -14,6 +14,7 @@ use Rattle.value.specs.declared.States.the-variants.{Two}
 use Rattle.value.specs.Slice.{same}
 use Rattle.value.proofs.Slices.{same-sound, same-refl}
 use Rattle.value.proofs.Tests.{to-T, from-T, and-left, and-right, and-both}
+use Rattle.layout.proofs.Entries.{laws}
 use Rattle.fst.specs.declared.Encoding.the-variants.{BitVector}
 use Rattle.fst.specs.declared.Description.{Description}
 use Rattle.fst.specs.Refusal.{given, _⇐_, tried}
@@ -21,14 +22,13 @@ use Rattle.fst.specs.Record.{Lent, Kept, keptIn, keptOf, isBad}
 use Rattle.runs.specs.All.{All}
 use Rattle.runs.specs.Runs.{Pair, Step, indexOf, laidOut, stepOf, largestOf, historyLaidOut, byValue, Call, Run, freshHeld, after, fed, historyOf}
 use Rattle.runs.proofs.Laid.{entryFor, Sound}
-use Rattle.layout.proofs.Entries.{laws}
 use Rattle.runs.proofs.Runs.{steps-sound}
 use Rattle.runs.proofs.Runs as runs
 use Rattle.runs.proofs.Demand3.{run-is-laid-out}
 use Rattle.signal.specs.Decode.{Indexed, entriesIn, hasBadMark, hasBadCode}
-use Rattle.equality.specs.Compare.{sameValue, agree, walked, compareRecords}
 use Rattle.signal.proofs.Entries.{entries-count, entry-is}
 use Rattle.signal.proofs.ReadBack.{entry-tells, laid-entry}
+use Rattle.equality.specs.Compare.{sameValue, agree, walked, compareRecords}
 
 -- ---- Compare of any two lists of entries
 

@@ -17,7 +17,7 @@ use lib.Pow.{shl-exact}
 use lib.ListN.{length, getD, take, drop, length-map, drop-of-length-le}
 use lib.Seq.{take-suc, take-take, take-all, drop-cons, getD-take}
 use Rattle.value.specs.declared.States.{States}
-use Rattle.value.specs.Digits.{number as digitsNumber}
+use Rattle.value.specs.Digits.{number}
 use Rattle.value.specs.Slice.{same, any}
 use Rattle.value.specs.Level.{markOf, lenOf, setAt, letterOf, hasNoCode, textOf}
 use Rattle.value.proofs.Digits.{number-snoc}
@@ -29,32 +29,32 @@ use Rattle.fst.specs.declared.Encoding.the-variants.{Event, Real, BitVector}
 use Rattle.fst.proofs.Encoding.{the-type}
 use Rattle.fst.specs.declared.Description.{Description}
 use Rattle.fst.specs.declared.Refusal.{Refusal}
-use Rattle.fst.specs.Refusal.{Reply, refused, given, Test, _⇐_, tried, number}
+use Rattle.fst.specs.Refusal.{Reply, refused, given, Test, _⇐_, tried, refusalNumber}
 use Rattle.fst.specs.Record.{Lent, isBad}
 use Rattle.fst.proofs.Records.{Standing, standing}
 use Rattle.fst.proofs.Refusals.{number-some}
-use Rattle.equality.specs.declared.EqualAnswer.{EqualAnswer}
-use Rattle.equality.specs.declared.EqualAnswer.the-variants as answer
-use Rattle.equality.proofs.EqualAnswer.{the-type as equal-type}
-use Rattle.equality.specs.Compare.{sameValue, agree, walked, compareRecords, equalOf}
 use Rattle.signal.specs.declared.OwnStates.the-variants as own
 use Rattle.signal.specs.Decode.{Indexed, entryAt, markIn, setIn, levelPart, levelsIn, hasBadMark, hasBadCode, textIn, codesAt}
 use Rattle.signal.specs.Parts.{ownStates, Whole}
-use Rattle.equality.specs.Pairs.{badNumber, Valid, pairOf}
 use Rattle.signal.proofs.Decoding.{mark-by, codes-length}
 use Rattle.signal.proofs.Reading.{Owned, owned, bad-told}
 use Rattle.signal.proofs.Entries.{HasIndexed, entryNumber, rest, rest-more, rest-end}
+use Rattle.equality.specs.declared.EqualAnswer.{EqualAnswer}
+use Rattle.equality.specs.declared.EqualAnswer.the-variants as answer
+use Rattle.equality.specs.Compare.{sameValue, agree, walked, compareRecords, equalOf}
+use Rattle.equality.specs.Pairs.{badNumber, Valid, pairOf}
+use Rattle.equality.proofs.EqualAnswer.{the-type as equal-type}
 
 -- ---- a real's bits
 
-pub bits-start : (v : List ℕ) → length v ≡ 8 → 0 ≡ digitsNumber 256 (reverse (drop 8 v))
-unfolding digitsNumber
-bits-start v h = ap (λ (l : List ℕ). digitsNumber 256 (reverse l)) (sym (drop-of-length-le v {i = 8} (omega arith)))
+pub bits-start : (v : List ℕ) → length v ≡ 8 → 0 ≡ number 256 (reverse (drop 8 v))
+unfolding number
+bits-start v h = ap (λ (l : List ℕ). number 256 (reverse l)) (sym (drop-of-length-le v {i = 8} (omega arith)))
 
 -- one byte more, below those that stand there
-pub bits-more : (v : List ℕ) (i bits byte : ℕ) → length v ≡ 8 → i ≤ 8 → 0 < i → bits ≡ digitsNumber 256 (reverse (drop i v)) → bits < 256 ^ (8 - i)
+pub bits-more : (v : List ℕ) (i bits byte : ℕ) → length v ≡ 8 → i ≤ 8 → 0 < i → bits ≡ number 256 (reverse (drop i v)) → bits < 256 ^ (8 - i)
     → byte ≡ getD v (i - 1) 0 → byte < 256
-    → (bitOr (bits * 2 ^ 8 % 2 ^ 64) byte ≡ digitsNumber 256 (reverse (drop (i - 1) v))) × (bitOr (bits * 2 ^ 8 % 2 ^ 64) byte < 256 ^ (8 - (i - 1)))
+    → (bitOr (bits * 2 ^ 8 % 2 ^ 64) byte ≡ number 256 (reverse (drop (i - 1) v))) × (bitOr (bits * 2 ^ 8 % 2 ^ 64) byte < 256 ^ (8 - (i - 1)))
 bits-more v i bits byte l a p e b g u = go (i - 1) (omega arith)
   where
     small : (n : ℕ) → i ≡ suc n → bits < 2 ^ 56
@@ -66,11 +66,11 @@ bits-more v i bits byte l a p e b g u = go (i - 1) (omega arith)
     next : (n : ℕ) → i ≡ suc n → 8 - n ≡ suc (8 - i)
     next n q = omega arith
 
-    go : (n : ℕ) → i ≡ suc n → (bitOr (bits * 2 ^ 8 % 2 ^ 64) byte ≡ digitsNumber 256 (reverse (drop n v))) × (bitOr (bits * 2 ^ 8 % 2 ^ 64) byte < 256 ^ (8 - n))
+    go : (n : ℕ) → i ≡ suc n → (bitOr (bits * 2 ^ 8 % 2 ^ 64) byte ≡ number 256 (reverse (drop n v))) × (bitOr (bits * 2 ^ 8 % 2 ^ 64) byte < 256 ^ (8 - n))
     go n q = (
-      or n q ∙ ap₂ (λ (x y : ℕ). x * 256 + y) (e ∙ ap (λ (x : ℕ). digitsNumber 256 (reverse (drop x v))) q) (g ∙ ap (λ (x : ℕ). getD v x 0) (omega arith))
-          ∙ sym (number-snoc 256 (reverse (drop (suc n) v)) (getD v n 0)) ∙ ap (digitsNumber 256) (sym (reverse-cons (getD v n 0) (drop (suc n) v)))
-          ∙ ap (λ (r : List ℕ). digitsNumber 256 (reverse r)) (sym (drop-cons v n 0 (omega arith))),
+      or n q ∙ ap₂ (λ (x y : ℕ). x * 256 + y) (e ∙ ap (λ (x : ℕ). number 256 (reverse (drop x v))) q) (g ∙ ap (λ (x : ℕ). getD v x 0) (omega arith))
+          ∙ sym (number-snoc 256 (reverse (drop (suc n) v)) (getD v n 0)) ∙ ap (number 256) (sym (reverse-cons (getD v n 0) (drop (suc n) v)))
+          ∙ ap (λ (r : List ℕ). number 256 (reverse r)) (sym (drop-cons v n 0 (omega arith))),
       rw (or n q, next n q, pow-suc) (omega (arith, mul-le-mul-right 256 b)),
     )
 
@@ -255,14 +255,14 @@ first-bad e v n l h tests r = go (hasBadMark e v) (hasBadCode e v) h
     go false true h = ap refused h
     go false false h = absurd (omega arith)
 
-pub first-refused : (a b : Encoding) (x y : List ℕ) (i j : ℕ) (r : Refusal) → number r ≡ badNumber a x → refused (number r) ≡ pairOf a x i b y j
+pub first-refused : (a b : Encoding) (x y : List ℕ) (i j : ℕ) (r : Refusal) → refusalNumber r ≡ badNumber a x → refused (refusalNumber r) ≡ pairOf a x i b y j
 unfolding pairOf
-first-refused a b x y i j r h = first-bad a x (number r) (number-some r) h _ _
+first-refused a b x y i j r h = first-bad a x (refusalNumber r) (number-some r) h _ _
 
 module _ {a : Encoding} {x : List ℕ} (p : Valid a x) where
-  pub second-refused : (b : Encoding) (y : List ℕ) (i j : ℕ) (r : Refusal) → number r ≡ badNumber b y → refused (number r) ≡ pairOf a x i b y j
+  pub second-refused : (b : Encoding) (y : List ℕ) (i j : ℕ) (r : Refusal) → refusalNumber r ≡ badNumber b y → refused (refusalNumber r) ≡ pairOf a x i b y j
   unfolding pairOf tried
-  second-refused b y i j r h = rw (p .mark, p .code) (first-bad b y (number r) (number-some r) h [] (given (eqb i j && sameValue a x b y)))
+  second-refused b y i j r h = rw (p .mark, p .code) (first-bad b y (refusalNumber r) (number-some r) h [] (given (eqb i j && sameValue a x b y)))
 
   module _ {b : Encoding} {y : List ℕ} (q : Valid b y) {i j : ℕ} where
     pub pair-apart : (i ≡ j → ⊥) → given false ≡ pairOf a x i b y j

@@ -9,14 +9,14 @@ use Rattle.value.specs.declared.States.the-variants.{Nine}
 use Rattle.value.specs.Digits.{number, digits}
 use Rattle.value.specs.Slice.{part, same, any}
 use Rattle.value.specs.Level.{letterOf}
+use Rattle.layout.specs.Entry.{entrySize}
 use Rattle.fst.specs.declared.Encoding.the-variants.{Event, Real, BitVector}
 use Rattle.fst.specs.Refusal.{Reply, refused, given, tried}
-use Rattle.layout.specs.Entry.{entrySize}
 use Rattle.fst.specs.Record.{Kept, keptIn, widthStands, fitsBytes, fits, isBad}
 use Rattle.fst.proofs.Rows.{around, heldBy, lentBy, kept}
 use Rattle.signal.specs.Decode.{entryAt, entriesFrom, markIn, setIn, levelPart, levelsIn, hasBadMark}
-use Rattle.equality.specs.Compare.{sameReal, sameValue, walked, compareRecords}
 use Rattle.signal.proofs.Rows.{four, nine}
+use Rattle.equality.specs.Compare.{sameReal, sameValue, walked, compareRecords}
 
 compared : Kept → Kept → Reply Bool
 compared a b =

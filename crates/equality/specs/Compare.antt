@@ -10,12 +10,11 @@ use Rattle.value.specs.Slice.{same}
 use Rattle.fst.specs.declared.Encoding.{Encoding}
 use Rattle.fst.specs.declared.Encoding.the-variants.{Event, Real, BitVector}
 use Rattle.fst.specs.declared.Description.{Description}
-use Rattle.fst.specs.Refusal.{Reply, refused, given, _⇐_, tried}
-use Rattle.fst.specs.Refusal as refusal
+use Rattle.fst.specs.Refusal.{refusalNumber, Reply, refused, given, Test, _⇐_, tried}
 use Rattle.fst.specs.Record.{Lent, keptIn, isBad}
+use Rattle.signal.specs.Decode.{Indexed, entriesIn, hasBadMark, hasBadCode, textIn}
 use Rattle.equality.specs.declared.EqualAnswer.{EqualAnswer}
 use Rattle.equality.specs.declared.EqualAnswer.the-variants as answer
-use Rattle.signal.specs.Decode.{Indexed, entriesIn, hasBadMark, hasBadCode, textIn}
 
 -- "reals by float ==", from the bits
 unfoldable pub sameReal : List ℕ → List ℕ → Bool
@@ -36,21 +35,18 @@ sameValue (BitVector w M) v (BitVector x N) u = same (textIn (BitVector w M) v) 
 abbrev pub agree : Indexed → Indexed → Bool
 agree a b = eqb (a .index) (b .index) && sameValue (a .encoding) (a .bytes) (b .encoding) (b .bytes)
 
--- "Entries are walked in pairs to the first difference or an end; in a pair the first record's entry is tried for 9 and 10, then the
--- second's, and only then are they compared. Yes exactly when both lists of index and value agree"
+-- "in a pair the first record's entry is tried for 9 and 10, then the second's"
+abbrev pub pairTests : Encoding → List ℕ → Encoding → List ℕ → List Test
+pairTests e v f u = 9 ⇐ hasBadMark e v ∷ 10 ⇐ hasBadCode e v ∷ 9 ⇐ hasBadMark f u ∷ 10 ⇐ hasBadCode f u ∷ []
+
+-- "Entries are walked in pairs to the first difference or an end; .. and only then are they compared. Yes exactly when both lists of index
+-- and value agree"
 unfoldable pub walked : List Indexed → List Indexed → Reply Bool
 walked [] [] = given true
 walked [] (b ∷ m) = given false
 walked (a ∷ l) [] = given false
 walked (a ∷ l) (b ∷ m) =
-    let rest = walked l m in
-    tried
-    (9 ⇐ hasBadMark (a .encoding) (a .bytes)
-    ∷ 10 ⇐ hasBadCode (a .encoding) (a .bytes)
-    ∷ 9 ⇐ hasBadMark (b .encoding) (b .bytes)
-    ∷ 10 ⇐ hasBadCode (b .encoding) (b .bytes)
-    ∷ [])
-    (cond (agree a b) rest (given false))
+    tried (pairTests (a .encoding) (a .bytes) (b .encoding) (b .bytes)) (cond (agree a b) (walked l m) (given false))
 
 -- "2 for the first, then the second"
 unfoldable pub compareRecords : Description → Lent → Description → Lent → Reply Bool
@@ -60,4 +56,4 @@ compareRecords d l e m = tried (2 ⇐ isBad d l ∷ 2 ⇐ isBad e m ∷ []) (wal
 abbrev pub equalOf : EqualAnswer → Reply Bool
 equalOf answer.Equal = given true
 equalOf answer.Unequal = given false
-equalOf (answer.Refused r) = refused (refusal.number r)
+equalOf (answer.Refused r) = refused (refusalNumber r)

@@ -3,13 +3,13 @@
 use Prim.Native.Nat.{ℕ}
 use mathlib.Core.Path.{_≡_}
 use mathlib.Core.Bool.{Bool, false, cond, _&&_}
-use mathlib.Core.List.{List, [], _∷_}
+use mathlib.Core.List.{List}
 use lib.Dec.{eqb}
 use Rattle.fst.specs.declared.Encoding.{Encoding}
-use Rattle.fst.specs.Refusal.{Reply, given, _⇐_, tried}
+use Rattle.fst.specs.Refusal.{Reply, given, tried}
 use Rattle.signal.specs.Decode.{hasBadMark, hasBadCode}
 use Rattle.signal.specs.Parts.{Whole}
-use Rattle.equality.specs.Compare.{sameValue}
+use Rattle.equality.specs.Compare.{sameValue, pairTests}
 
 -- 9 or 10 of an entry, and 0 for neither
 unfoldable pub badNumber : Encoding → List ℕ → ℕ
@@ -21,14 +21,6 @@ pub record Valid (e : Encoding) (v : List ℕ) : Type 0 where
   pub mark : hasBadMark e v ≡ false
   pub code : hasBadCode e v ≡ false
 
--- a pair of entries with their time indices: "the first record's entry is tried for 9 and 10, then the second's, and only then are they
--- compared"
+-- a pair of entries with their time indices
 unfoldable pub pairOf : Encoding → List ℕ → ℕ → Encoding → List ℕ → ℕ → Reply Bool
-pairOf a x i b y j =
-    tried
-    (9 ⇐ hasBadMark a x
-    ∷ 10 ⇐ hasBadCode a x
-    ∷ 9 ⇐ hasBadMark b y
-    ∷ 10 ⇐ hasBadCode b y
-    ∷ [])
-    (given (eqb i j && sameValue a x b y))
+pairOf a x i b y j = tried (pairTests a x b y) (given (eqb i j && sameValue a x b y))

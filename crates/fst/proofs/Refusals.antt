@@ -11,7 +11,7 @@ use denote.Enum.Declared.{Choice}
 use denote.Struct.Field.{Field}
 use Rattle.value.proofs.Tests.{and-left, and-right}
 use Rattle.fst.specs.declared.Refusal.{Refusal}
-use Rattle.fst.specs.Refusal.{number, Reply, refused, given, Test, _⇐_, tried, outcome}
+use Rattle.fst.specs.Refusal.{refusalNumber, Reply, refused, given, Test, _⇐_, tried, outcome}
 use Rattle.fst.proofs.Refusal.{parts, as-values, make, eta}
 
 -- ---- no refusal has number 0
@@ -28,10 +28,10 @@ every-holds ([] ∷ fs) f t (inl v) = and-left (f (inl tt)) (every fs (λ c. f (
 every-holds ([] ∷ fs) f t (inr c) = every-holds fs (λ c. f (inr c)) (and-right (f (inl tt)) (every fs (λ c. f (inr c))) t) c
 every-holds ((x ∷ xs) ∷ fs) f t c = absurd t
 
-pub number-some : (r : Refusal) → 0 < number r
+pub number-some : (r : Refusal) → 0 < refusalNumber r
 number-some r =
-    subst (λ (r : Refusal). 0 < number r) (eta r)
-    (ltb→lt 0 (number (make (as-values r))) (every-holds parts (λ c. ltb 0 (number (make c))) tt (as-values r)))
+    subst (λ (r : Refusal). 0 < refusalNumber r) (eta r)
+    (ltb→lt 0 (refusalNumber (make (as-values r))) (every-holds parts (λ c. ltb 0 (refusalNumber (make c))) tt (as-values r)))
 
 -- ---- what is tried
 

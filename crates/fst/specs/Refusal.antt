@@ -11,27 +11,27 @@ use Rattle.fst.specs.declared.Description.{Description}
 use Rattle.fst.specs.declared.Made.{Made}
 use Rattle.fst.specs.declared.Made.the-variants as made
 
-abbrev pub number : Refusal → ℕ
-number refusal.WidthTooLarge = 1
-number refusal.BadRecord = 2
-number refusal.WrongKind = 3
-number refusal.WrongLength = 4
-number refusal.ForeignCharacter = 5
-number refusal.IndexBelowLast = 6
-number refusal.NoRoom = 7
-number refusal.NoSuchEntry = 8
-number refusal.BadMark = 9
-number refusal.BadCode = 10
-number refusal.IndexFalls = 11
-number refusal.BadRange = 12
-number refusal.DerivationFull = 13
-number refusal.BadDerivation = 14
-number refusal.LateInput = 15
+abbrev pub refusalNumber : Refusal → ℕ
+refusalNumber refusal.WidthTooLarge = 1
+refusalNumber refusal.BadRecord = 2
+refusalNumber refusal.WrongKind = 3
+refusalNumber refusal.WrongLength = 4
+refusalNumber refusal.ForeignCharacter = 5
+refusalNumber refusal.IndexBelowLast = 6
+refusalNumber refusal.NoRoom = 7
+refusalNumber refusal.NoSuchEntry = 8
+refusalNumber refusal.BadMark = 9
+refusalNumber refusal.BadCode = 10
+refusalNumber refusal.IndexFalls = 11
+refusalNumber refusal.BadRange = 12
+refusalNumber refusal.DerivationFull = 13
+refusalNumber refusal.BadDerivation = 14
+refusalNumber refusal.LateInput = 15
 
 -- 0 is no refusal
 abbrev pub numberOf : Verdict → ℕ
 numberOf Accepted = 0
-numberOf (Refused r) = number r
+numberOf (Refused r) = refusalNumber r
 
 -- a reply: the number of a refusal, or what was asked for
 pub data Reply (A : Type 0) : Type 0 where
@@ -62,4 +62,4 @@ outcome old (given new) = record { refused = 0; left = new }
 -- the answer of a call that makes a record, by number and value
 abbrev pub madeOf : Made → Reply Description
 madeOf (made.Record d) = given d
-madeOf (made.Refused r) = refused (number r)
+madeOf (made.Refused r) = refused (refusalNumber r)

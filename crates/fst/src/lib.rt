@@ -1,6 +1,6 @@
 // Records and their writer, after wellen's src/fst.rs.
 ghost use mathlib.Core.Path.{_≡_};
-ghost use Rattle.fst.specs.Refusal.{number, numberOf};
+ghost use Rattle.fst.specs.Refusal.{refusalNumber, numberOf};
 ghost use Rattle.fst.specs.Record.{sizeOf, widthOf, largestIn, hasNoText, described};
 use layout::entry::entry_size;
 use value::States;
@@ -30,7 +30,7 @@ pub enum Refusal {
 
 impl Refusal {
     pub fn number(self) -> u8
-        ensures { λ r. ⌜ r ≡ number self ⌝ }
+        ensures { λ r. ⌜ r ≡ refusalNumber self ⌝ }
     {
         let refusal = self;
         match refusal {

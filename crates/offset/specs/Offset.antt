@@ -6,7 +6,7 @@ use mathlib.Core.List.{List, [], _∷_}
 use lib.Dec.{eqb, leb, ltb}
 use lib.ListN.{length, drop}
 use Rattle.value.specs.Level.{placeIn}
-use Rattle.fst.specs.Refusal.{Reply, refused, given, _⇐_, tried, number}
+use Rattle.fst.specs.Refusal.{Reply, refused, given, _⇐_, tried, refusalNumber}
 use Rattle.fst.specs.Record.{maximum}
 use Rattle.fst.specs.declared.NextIndex.{NextIndex}
 use Rattle.fst.specs.declared.NextIndex.the-variants as next
@@ -66,4 +66,4 @@ lookUp indices sought = tried (2 ⇐ ltb maximum (length indices) ∷ 11 ⇐ fal
 abbrev pub offsetOf : OffsetAnswer → Reply Place
 offsetOf answer.Nothing = given none
 offsetOf (answer.At o) = given (at o)
-offsetOf (answer.Refused r) = refused (number r)
+offsetOf (answer.Refused r) = refused (refusalNumber r)

@@ -9,7 +9,7 @@ use Rattle.value.specs.Slice.{overlay}
 use Rattle.fst.specs.declared.Encoding.{Encoding}
 use Rattle.fst.specs.declared.Encoding.the-variants.{Event, Real, BitVector}
 use Rattle.fst.specs.declared.Description.{Description}
-use Rattle.fst.specs.Refusal.{Reply, refused, given, _⇐_, tried, Outcome, outcome, number}
+use Rattle.fst.specs.Refusal.{Reply, refused, given, _⇐_, tried, Outcome, outcome, refusalNumber}
 use Rattle.fst.specs.Record.{widthOf, hasNoText, isBadBytes}
 use Rattle.signal.specs.declared.Kind.{Kind}
 use Rattle.signal.specs.declared.Kind.the-variants as kind
@@ -49,7 +49,7 @@ partOf (given e) = e .part
 -- the small answer, by number and values, with the part that is returned beside it
 abbrev pub replyOf : EntryAnswer → List ℕ → Reply Entry
 replyOf (answer.Entry k s) p = given (record { kind = k; set = s; part = p })
-replyOf (answer.Refused r) p = refused (number r)
+replyOf (answer.Refused r) p = refused (refusalNumber r)
 
 -- what Text leaves, by its number and the text slice as it is then
 abbrev pub textLeft : ℕ → List ℕ → Outcome (List ℕ)

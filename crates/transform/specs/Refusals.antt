@@ -7,7 +7,7 @@ use mathlib.Core.Path.{_≡_}
 use Rattle.value.specs.Slice.{any}
 use Rattle.value.specs.declared.States.{States}
 use Rattle.fst.specs.Record.{isBadBytes, widthOf}
-use Rattle.fst.specs.Refusal.{Reply, Test, _⇐_, given, number, refused}
+use Rattle.fst.specs.Refusal.{Reply, Test, _⇐_, given, refusalNumber, refused}
 use Rattle.fst.specs.declared.Description.{Description}
 use Rattle.fst.specs.declared.Encoding.the-variants.{BitVector}
 use Rattle.fst.specs.declared.Verdict.{Verdict}
@@ -72,4 +72,4 @@ firstTests d inputs bytes indices =
 -- a verdict as a reply
 abbrev pub verdictReply : Verdict → Reply Unit
 verdictReply Accepted = given tt
-verdictReply (Refused r) = refused (number r)
+verdictReply (Refused r) = refused (refusalNumber r)

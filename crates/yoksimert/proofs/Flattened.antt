@@ -10,7 +10,7 @@ use Rattle.value.specs.Level.{markOf}
 use Rattle.fst.specs.declared.Description.{Description}
 use Rattle.fst.specs.declared.Added.{Added}
 use Rattle.fst.specs.declared.Refusal.{Refusal}
-use Rattle.fst.specs.Refusal.{Reply, refused, given, Outcome, number, numberOf}
+use Rattle.fst.specs.Refusal.{Reply, refused, given, Outcome, refusalNumber, numberOf}
 use Rattle.fst.specs.Record.{Lent, Recorder, sizeOf}
 use Rattle.fst.specs.Change.{Change, addChange, leftBy}
 use Rattle.runs.proofs.Histories.{refused-unchanged}
@@ -100,11 +100,11 @@ module _ (f : FlatDescription) (bytes : List ℕ) (start k : ℕ) where
   read-unknown h = rw h
 
   module _ (d : Description) (h : decoded f ≡ Known d) (a : EntryAnswer) (e : replyOf a (partOf (readEntry d bytes start k)) ≡ readEntry d bytes start k) where
-    pub read-refused : {x : Refusal} → a ≡ answer.Refused x → {n : ℕ} → n ≡ number x → noEntry n ≡ flatRead f bytes start k
+    pub read-refused : {x : Refusal} → a ≡ answer.Refused x → {n : ℕ} → n ≡ refusalNumber x → noEntry n ≡ flatRead f bytes start k
     unfolding flatRead
     read-refused {x} q p =
         let z = sizeOf (d .encoding) in
-        let r : refused (number x) ≡ readEntry d bytes start k = ap (λ (b : EntryAnswer). replyOf b (partOf (readEntry d bytes start k))) (sym q) ∙ e in
+        let r : refused (refusalNumber x) ≡ readEntry d bytes start k = ap (λ (b : EntryAnswer). replyOf b (partOf (readEntry d bytes start k))) (sym q) ∙ e in
         rw (h, p) (ap (flatEntry (start + (k * z + z))) r)
 
     pub read-known : {K : Kind} {S : States} → a ≡ answer.Entry K S → {m n size l : ℕ} → m ≡ kindNumber K → n ≡ markOf S → size ≡ sizeOf (d .encoding)

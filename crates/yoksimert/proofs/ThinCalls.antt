@@ -12,7 +12,7 @@ use Rattle.fst.specs.declared.Added.{Added}
 use Rattle.fst.specs.declared.Refusal.{Refusal}
 use Rattle.fst.specs.declared.Made.{Made}
 use Rattle.fst.specs.declared.Made.the-variants as made
-use Rattle.fst.specs.Refusal.{Reply, given, tried, Outcome, outcome, number, numberOf, madeOf}
+use Rattle.fst.specs.Refusal.{Reply, given, tried, Outcome, outcome, refusalNumber, numberOf, madeOf}
 use Rattle.fst.specs.Record.{Lent, Kept, Recorder, sizeOf, widthOf, keptIn, fresh}
 use Rattle.fst.specs.Change.{Change, text, real, appended, changed, withChange, refusals, inHand, stored, addChange, leftBy}
 use Rattle.entries.specs.Repeats.{repeats}
@@ -104,7 +104,7 @@ module _ (f : FlatDescription) (w : ℕ) (m : Made) (e : madeOf m ≡ fresh w) w
   fresh-made d h g q =
       ap (λ (x : FlatDescription). record { refused = 0; left = x }) q ∙ sym (ap (λ (x : Made). madeOver f (madeOf x)) h) ∙ ap (madeOver f) e
 
-  pub fresh-refused : (x : Refusal) → m ≡ made.Refused x → (n : ℕ) → n ≡ number x
+  pub fresh-refused : (x : Refusal) → m ≡ made.Refused x → (n : ℕ) → n ≡ refusalNumber x
       → _≡_ {A = Outcome FlatDescription} (record { refused = n; left = f }) (flatFresh f w)
   fresh-refused x h n q =
       ap (λ (k : ℕ). record { refused = k; left = f }) q ∙ sym (ap (λ (x : Made). madeOver f (madeOf x)) h) ∙ ap (madeOver f) e

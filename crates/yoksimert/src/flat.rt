@@ -1,7 +1,7 @@
 // Numbers into descriptions and answers into numbers.
 ghost use mathlib.Core.Path.{_≡_};
 ghost use Rattle.value.specs.Level.{markOf};
-ghost use Rattle.fst.specs.Refusal.{number, numberOf, madeOf};
+ghost use Rattle.fst.specs.Refusal.{refusalNumber, numberOf, madeOf};
 ghost use Rattle.fst.specs.declared.Encoding.the-variants.{BitVector};
 ghost use Rattle.signal.specs.Read.{kindOf};
 ghost use Rattle.equality.specs.Compare.{equalOf};
@@ -40,7 +40,7 @@ pub fn verdict_number(verdict: Verdict) -> u32
 }
 
 pub fn refusal_number(refusal: Refusal) -> u32
-    ensures { λ r. ⌜ r ≡ number refusal ⌝ }
+    ensures { λ r. ⌜ r ≡ refusalNumber refusal ⌝ }
 {
     as_u32(refusal.number())
 }

@@ -4,7 +4,7 @@ use std::collections::{BTreeMap, BTreeSet};
 use std::fs;
 use std::path::{Path, PathBuf};
 
-const DOCUMENTS: [&str; 7] = [
+const DOCUMENTS: [&str; 10] = [
     "README.md",
     "docs/FORMAT.md",
     "docs/PROOFS.md",
@@ -12,6 +12,9 @@ const DOCUMENTS: [&str; 7] = [
     "docs/DIFFERENCES.md",
     "docs/FROM-WELLEN.md",
     "docs/BENCHMARKS.md",
+    "docs/LANDINGS.md",
+    "crates/answers/README.md",
+    "rust/compare/README.md",
 ];
 const WIDEST: usize = 120;
 

@@ -8,10 +8,10 @@ use denote.Ref.{now}
 use borrow.Author.Needs.{needs}
 use borrow.Author.Tests.{ltb-true, ltb-false}
 use Rattle.fst.specs.Record.{Lent, lent}
-use Rattle.equality.specs.Compare.{walked, compareRecords, equalOf}
 use Rattle.fst.proofs.Records.{standing}
 use Rattle.signal.proofs.Reading.{inside, whole}
 use Rattle.signal.proofs.Entries.{HasIndexed, has-entry, has-index, has-few, rest}
+use Rattle.equality.specs.Compare.{walked, compareRecords, equalOf}
 use Rattle.equality.proofs.Comparing.{follow, Walked, walk-starts, step, goes-on, ends, first-longer, second-longer, both-end}
 use Rattle.equality.proofs.compare_entries.Statement.{statement}
 use Rattle.equality.proofs.compare_entries.Tie as tie

@@ -2,10 +2,10 @@
 -- Assumes nothing.
 use mathlib.Core.Path.{_≡_, sym, ap, _∙_}
 use denote.Ref.{now}
-use Rattle.equality.proofs.Comparing.{valid, first-refused, second-refused, pair-apart, pair-told}
-use Rattle.equality.specs.Pairs.{Valid, pairOf}
 use borrow.Author.Needs.{needs}
 use Rattle.fst.specs.Refusal.{numberOf, given}
+use Rattle.equality.specs.Pairs.{Valid, pairOf}
+use Rattle.equality.proofs.Comparing.{valid, first-refused, second-refused, pair-apart, pair-told}
 use Rattle.equality.proofs.compare_pair.Statement.{statement}
 use Rattle.equality.proofs.compare_pair.Tie as tie
 

@@ -1,14 +1,14 @@
 -- `equality::real_bits` meets its contract: the bits of the bytes passed stand in the number.
 -- Assumes nothing.
-use Rattle.value.specs.Digits.{number}
 use mathlib.Core.List.{reverse}
 use borrow.Author.Needs.{needs}
 use mathlib.Core.Path.{_≡_}
 use Prim.Native.Nat.{_-_, _^_, _≤_, _<_}
 use native.Mathlib.Omega.{arith}
-use Rattle.equality.proofs.Comparing.{bits-start, bits-more}
 use lib.ListN.{drop}
 use denote.Ref.{now}
+use Rattle.value.specs.Digits.{number}
+use Rattle.equality.proofs.Comparing.{bits-start, bits-more}
 use Rattle.equality.proofs.real_bits.Statement.{statement}
 use Rattle.equality.proofs.real_bits.Tie as tie
 

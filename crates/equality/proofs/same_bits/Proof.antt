@@ -1,11 +1,11 @@
 -- `equality::same_bits` meets its contract.
 -- Assumes nothing.
-use Rattle.equality.proofs.Floats.{first-nan, second-nan, equal-bits, both-zeros, unequal-bits}
 use borrow.Author.Needs.{needs}
 use mathlib.Core.Path.{_∙_}
 use borrow.Author.Tests.{eq-eqb, ne-eqb}
 use Prim.Native.Nat.{_%_}
 use Rattle.value.proofs.Tests.{by-eq}
+use Rattle.equality.proofs.Floats.{first-nan, second-nan, equal-bits, both-zeros, unequal-bits}
 use Rattle.equality.proofs.same_bits.Statement.{statement}
 use Rattle.equality.proofs.same_bits.Tie as tie
 

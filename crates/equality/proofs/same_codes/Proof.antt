@@ -3,11 +3,11 @@
 use lib.ListN.{take}
 use Prim.Native.Nat.{_-_, _≤_}
 use mathlib.Core.Path.{_≡_}
-use Rattle.equality.proofs.Comparing.{alike-none, alike-not, alike-more, alike-all}
-use Rattle.signal.specs.Decode.{codesAt}
 use native.Mathlib.Omega.{arith}
-use Rattle.signal.proofs.Decoding.{codes-length}
 use denote.Ref.{now}
+use Rattle.signal.specs.Decode.{codesAt}
+use Rattle.signal.proofs.Decoding.{codes-length}
+use Rattle.equality.proofs.Comparing.{alike-none, alike-not, alike-more, alike-all}
 use Rattle.equality.proofs.same_codes.Statement.{statement}
 use Rattle.equality.proofs.same_codes.Tie as tie
 

@@ -1,13 +1,13 @@
 -- `equality::same_text` meets its contract.
 -- Assumes nothing.
 use mathlib.Core.Path.{_≡_, ap, sym, _∙_}
-use Rattle.signal.specs.Decode.{levelPart}
 use denote.Ref.{now}
-use Rattle.signal.proofs.Reading.{some, Owned}
-use Rattle.equality.proofs.Comparing.{valid-owned, bytes-alike, same-length, codes-alike}
 use borrow.Author.Needs.{needs}
 use Rattle.value.specs.Level.{markOf, setAt}
 use Rattle.fst.specs.declared.Encoding.the-variants.{BitVector}
+use Rattle.signal.specs.Decode.{levelPart}
+use Rattle.signal.proofs.Reading.{some, Owned}
+use Rattle.equality.proofs.Comparing.{valid-owned, bytes-alike, same-length, codes-alike}
 use Rattle.equality.proofs.same_text.Statement.{statement}
 use Rattle.equality.proofs.same_text.Tie as tie
 

@@ -1,11 +1,11 @@
 -- `equality::same_value` meets its contract.
 -- Assumes nothing.
 use mathlib.Core.Path.{sym, ap₂, _∙_}
-use Rattle.equality.proofs.Comparing.{valid-vector, unlike-event, unlike-real, unlike-vector, unlike-width, like-vector}
 use denote.Ref.{now}
+use borrow.Author.Needs.{needs}
 use Rattle.fst.specs.declared.Encoding.{Encoding}
 use Rattle.equality.specs.Compare.{sameValue}
-use borrow.Author.Needs.{needs}
+use Rattle.equality.proofs.Comparing.{valid-vector, unlike-event, unlike-real, unlike-vector, unlike-width, like-vector}
 use Rattle.equality.proofs.same_value.Statement.{statement}
 use Rattle.equality.proofs.same_value.Tie as tie
 

@@ -2,9 +2,9 @@
 -- Assumes nothing.
 use borrow.Author.Needs.{needs}
 use mathlib.Core.Path.{sym, _∙_}
+use denote.Ref.{now}
 use Rattle.signal.proofs.Reading.{vector, some, Owned, owned}
 use Rattle.equality.proofs.Comparing.{bad-none, bad-mark, bad-code, bad-no-code}
-use denote.Ref.{now}
 use Rattle.equality.proofs.try_entry.Statement.{statement}
 use Rattle.equality.proofs.try_entry.Tie as tie
 
