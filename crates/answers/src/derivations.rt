@@ -1,4 +1,4 @@
-// Add a piece and Derive, as the operations on records.
+// The calls of stored answers on derivations: Add a piece and Derive.
 ghost use Prim.Native.Nat.{_<_};
 use calls::description;
 use calls::has_made;
