@@ -1,4 +1,4 @@
--- Document 01's numbers, and "In each operation the numbers are tried in the order written".
+-- The numbers of documents 01 and 02, and "In each operation the numbers are tried in the order written".
 -- Assumes nothing.
 use Prim.Native.Nat.{ℕ}
 use mathlib.Core.Bool.{Bool, true, false}
@@ -27,6 +27,9 @@ refusalNumber refusal.BadRange = 12
 refusalNumber refusal.DerivationFull = 13
 refusalNumber refusal.BadDerivation = 14
 refusalNumber refusal.LateInput = 15
+refusalNumber refusal.WrongWidth = 16
+refusalNumber refusal.NotBinary = 17
+refusalNumber refusal.NotDecimal = 18
 
 -- 0 is no refusal
 abbrev pub numberOf : Verdict → ℕ

@@ -9,7 +9,7 @@ pub mod change;
 pub mod real;
 pub mod record;
 
-// Why a call was refused, by the numbers of document 01.
+// Why a call was refused, by the numbers of documents 01 and 02.
 pub enum Refusal {
     WidthTooLarge,
     BadRecord,
@@ -26,6 +26,9 @@ pub enum Refusal {
     DerivationFull,
     BadDerivation,
     LateInput,
+    WrongWidth,
+    NotBinary,
+    NotDecimal,
 }
 
 impl Refusal {
@@ -49,6 +52,9 @@ impl Refusal {
             Refusal::DerivationFull => 13,
             Refusal::BadDerivation => 14,
             Refusal::LateInput => 15,
+            Refusal::WrongWidth => 16,
+            Refusal::NotBinary => 17,
+            Refusal::NotDecimal => 18,
         }
     }
 }

@@ -106,20 +106,21 @@ module _ {w : ℕ} {levels : List ℕ} where
   pub split-told : {S : States} {p k : ℕ} → Levels w S levels → p ≡ perByte S → k ≡ lenOf (w % p) S → Split w S levels (w % p) k
   split-told {S} h e f = rw (f, e) (split-first S h)
 
-  split-codes : {S : States} {i k : ℕ} → Split w S levels i k → Below 256 levels
-      → codesAt w S levels ≡ digits (2 ^ bitsOf S) i (number 256 (take k levels)) ++ digits (2 ^ bitsOf S) (perByte S * length (drop k levels)) (number 256 (drop k levels))
-  split-codes {S} {i} {k} h b =
-      let B = 2 ^ bitsOf S in
-      let xs = take k levels in
-      let ys = drop k levels in
-      let n = perByte S * length ys in
-      let e : w ≡ i + n = sym (h .rest) ∙ ap (λ (l : ℕ). i + perByte S * l) (sym (length-drop k levels)) in
-      let p : 256 ^ length ys ≡ B ^ n =
-      ap (λ (x : ℕ). x ^ length ys) (sym (byte-base S)) ∙ pow-pow B (perByte S) (length ys) ∙ ap (λ (x : ℕ). B ^ x) (mul-comm (length ys) (perByte S)) in
-      let f : number 256 levels ≡ number 256 xs * B ^ n + number 256 ys =
-      ap (number 256) (sym (take-append-drop k levels)) ∙ number-append 256 xs ys ∙ ap (λ (q : ℕ). number 256 xs * q + number 256 ys) p in
-      ap₂ (digits B) e f
-      ∙ digits-append B (pow-pos (bitsOf S)) i n (number 256 xs) (number 256 ys) (rw (← p) (number-lt 256 ys (below-drop 256 levels b k)))
+-- the first i codes, which k bytes hold, and the others
+pub codes-split : (w : ℕ) (S : States) (levels : List ℕ) (i k : ℕ) → i + perByte S * (length levels - k) ≡ w → Below 256 levels
+    → codesAt w S levels ≡ digits (2 ^ bitsOf S) i (number 256 (take k levels)) ++ digits (2 ^ bitsOf S) (perByte S * length (drop k levels)) (number 256 (drop k levels))
+codes-split w S levels i k h b =
+    let B = 2 ^ bitsOf S in
+    let xs = take k levels in
+    let ys = drop k levels in
+    let n = perByte S * length ys in
+    let e : w ≡ i + n = sym h ∙ ap (λ (l : ℕ). i + perByte S * l) (sym (length-drop k levels)) in
+    let p : 256 ^ length ys ≡ B ^ n =
+    ap (λ (x : ℕ). x ^ length ys) (sym (byte-base S)) ∙ pow-pow B (perByte S) (length ys) ∙ ap (λ (x : ℕ). B ^ x) (mul-comm (length ys) (perByte S)) in
+    let f : number 256 levels ≡ number 256 xs * B ^ n + number 256 ys =
+    ap (number 256) (sym (take-append-drop k levels)) ∙ number-append 256 xs ys ∙ ap (λ (q : ℕ). number 256 xs * q + number 256 ys) p in
+    ap₂ (digits B) e f
+    ∙ digits-append B (pow-pos (bitsOf S)) i n (number 256 xs) (number 256 ys) (rw (← p) (number-lt 256 ys (below-drop 256 levels b k)))
 
 -- ---- characters stored behind characters
 
@@ -214,7 +215,7 @@ module _ {w : ℕ} {S : States} {levels : List ℕ} {i k j : ℕ} {first : List 
       ∙ ap₂ (λ (o v : List ℕ). overlay o i (textOf (digits B (perByte S * length v) (number 256 v))))
       (e ∙ ap (λ (m : ℕ). overlay out 0 (textOf (digits B i (number 256 (take m levels))))) (sym d)) full
       ∙ text-append out xs ys 0 i n (omega (arith, h .rest))
-      ∙ ap (λ (cs : List ℕ). overlay out 0 (textOf cs)) (sym (split-codes h b))
+      ∙ ap (λ (cs : List ℕ). overlay out 0 (textOf cs)) (sym (codes-split w S levels i k (h .rest) b))
 
 -- ---- codes 9 to 15
 
@@ -272,4 +273,4 @@ bad-whole {w} {S} {levels} n h b e f =
     rw n
     (ap₂ (λ (s t : Bool). s || t) e (f ∙ bad-bytes ys (below-drop 256 levels b (w % 2)))
     ∙ sym (any-append isNoCode (digits 16 (w % 2) (number 256 (take (w % 2) levels))) (digits 16 (2 * length ys) (number 256 ys)))
-    ∙ ap (λ (cs : List ℕ). hasNoCode cs) (sym (split-codes s b)))
+    ∙ ap (λ (cs : List ℕ). hasNoCode cs) (sym (codes-split w Nine levels (w % 2) (w % 2) (s .rest) b)))

@@ -1,7 +1,7 @@
 -- Document 01, "Read an entry" and "Text of an entry".
 -- Assumes nothing.
 use Prim.Native.Nat.{ℕ}
-use mathlib.Core.List.{List, [], _∷_}
+use mathlib.Core.List.{List, [], _∷_, _++_}
 use lib.Dec.{leb, ltb}
 use lib.ListN.{length}
 use Rattle.value.specs.declared.States.{States}
@@ -9,7 +9,7 @@ use Rattle.value.specs.Slice.{overlay}
 use Rattle.fst.specs.declared.Encoding.{Encoding}
 use Rattle.fst.specs.declared.Encoding.the-variants.{Event, Real, BitVector}
 use Rattle.fst.specs.declared.Description.{Description}
-use Rattle.fst.specs.Refusal.{Reply, refused, given, _⇐_, tried, Outcome, outcome, refusalNumber}
+use Rattle.fst.specs.Refusal.{Reply, refused, given, Test, _⇐_, tried, Outcome, outcome, refusalNumber}
 use Rattle.fst.specs.Record.{widthOf, hasNoText, isBadBytes}
 use Rattle.signal.specs.declared.Kind.{Kind}
 use Rattle.signal.specs.declared.Kind.the-variants as kind
@@ -55,17 +55,20 @@ replyOf (answer.Refused r) p = refused (refusalNumber r)
 abbrev pub textLeft : ℕ → List ℕ → Outcome (List ℕ)
 textLeft n out = record { refused = n; left = out }
 
--- "As reading; a real or event is 3, tried after 2. 10: .. 7: the lent text slice is shorter than the width. .. bytes past the width unaltered"
-unfoldable pub readText : Description → List ℕ → ℕ → ℕ → List ℕ → Outcome (List ℕ)
-readText d bytes start k out =
+-- "As reading; a real or event is 3, tried after 2. 10: a code 9 to 15": what makes an entry one of no characters
+abbrev pub unreadable : Description → List ℕ → ℕ → ℕ → List Test
+unreadable d bytes start k =
     let v = entryAt (d .encoding) start bytes k in
-    outcome out
-    (tried
-    (2 ⇐ isBadBytes d start bytes
+    2 ⇐ isBadBytes d start bytes
     ∷ 3 ⇐ hasNoText (d .encoding)
     ∷ 8 ⇐ leb (d .count) k
     ∷ 9 ⇐ hasBadMark (d .encoding) v
     ∷ 10 ⇐ hasBadCode (d .encoding) v
-    ∷ 7 ⇐ ltb (length out) (widthOf (d .encoding))
-    ∷ [])
-    (given (overlay out 0 (textIn (d .encoding) v))))
+    ∷ []
+
+-- "7: the lent text slice is shorter than the width. .. bytes past the width unaltered"
+unfoldable pub readText : Description → List ℕ → ℕ → ℕ → List ℕ → Outcome (List ℕ)
+readText d bytes start k out =
+    outcome out
+    (tried (unreadable d bytes start k ++ (7 ⇐ ltb (length out) (widthOf (d .encoding)) ∷ []))
+    (given (overlay out 0 (textIn (d .encoding) (entryAt (d .encoding) start bytes k)))))

@@ -1,4 +1,4 @@
--- Digits that stand in the low bits of a word's bytes, pushed together: neighbours are joined, three times.
+-- Digits that stand in the low bits of a word's lanes, pushed together: neighbours are joined, and then those, until one lane is left.
 -- Assumes nothing.
 use mathlib.Core.Path.{_≡_, refl, sym, ap, ap₂, _∙_}
 use mathlib.Core.Bool.{true}
@@ -113,34 +113,27 @@ module _ (L b : ℕ) (room : 2 * b ≤ L) where
       (ap (digits (2 ^ (2 * L)) n) two ∙ digits-number (2 ^ (2 * L)) (pow-pos (2 * L)) n (pairs (2 ^ L) ds) pn ps)
       ∙ ap (number (2 ^ (2 * L))) (joined n ds l h)
 
--- ---- three steps
+-- ---- steps until one lane is left
 
--- digits of b bits in the bytes of a word
-abbrev pub squeeze : ℕ → ℕ → ℕ
-squeeze b x = push 32 (2 * (2 * b)) 1 (push 16 (2 * b) 2 (push 8 b 4 x))
+-- k steps, from 2 ^ k lanes of L bits on
+abbrev pub pushes : ℕ → ℕ → ℕ → ℕ → ℕ
+pushes zero L b x = x
+pushes (suc k) L b x = pushes k (2 * L) (2 * b) (push L b (2 ^ k) x)
 
-squeezed-digits : (b : ℕ) (ds : List ℕ) → b ≤ 4 → length ds ≡ 8 → Below (2 ^ b) ds → squeeze b (number 256 ds) ≡ number (2 ^ b) ds
-squeezed-digits b ds h l k =
-    let d₁ = pairs (2 ^ b) ds in
-    let d₂ = pairs (2 ^ (2 * b)) d₁ in
-    let l₁ : length d₁ ≡ 4 = pairs-length (2 ^ b) 4 ds l in
-    let l₂ : length d₂ ≡ 2 = pairs-length (2 ^ (2 * b)) 2 d₁ l₁ in
-    let k₁ : Below (2 ^ (2 * b)) d₁ = pairs-below b 4 ds l k in
-    let k₂ : Below (2 ^ (2 * (2 * b))) d₂ = pairs-below (2 * b) 2 d₁ l₁ k₁ in
-    ap (λ (x : ℕ). push 32 (2 * (2 * b)) 1 (push 16 (2 * b) 2 x)) (pushed 8 b (omega arith) 4 ds l k)
-    ∙ ap (push 32 (2 * (2 * b)) 1) (pushed 16 (2 * b) (omega arith) 2 d₁ l₁ k₁)
-    ∙ pushed 32 (2 * (2 * b)) (omega arith) 1 d₂ l₂ k₂
-    ∙ one (2 ^ 64) ((2 ^ (2 * (2 * b))) ^ 2) (pairs (2 ^ (2 * (2 * b))) d₂) (pairs-length (2 ^ (2 * (2 * b))) 1 d₂ l₂)
-    ∙ pairs-number (2 ^ (2 * (2 * b))) 1 d₂ l₂
-    ∙ ap (λ (B : ℕ). number B d₂) (sym (pow-pow 2 (2 * b) 2))
-    ∙ pairs-number (2 ^ (2 * b)) 2 d₁ l₁
-    ∙ ap (λ (B : ℕ). number B d₁) (sym (pow-pow 2 b 2))
-    ∙ pairs-number (2 ^ b) 4 ds l
+pushed-all : (k L b : ℕ) (ds : List ℕ) → 2 * b ≤ L → length ds ≡ 2 ^ k → Below (2 ^ b) ds → pushes k L b (number (2 ^ L) ds) ≡ number (2 ^ b) ds
+pushed-all zero L b ds r l h = one (2 ^ L) (2 ^ b) ds (rw pow-zero at l)
+pushed-all (suc k) L b ds r l h =
+    let m : length ds ≡ 2 ^ k * 2 = l ∙ pow-suc 2 k in
+    ap (pushes k (2 * L) (2 * b)) (pushed L b r (2 ^ k) ds m h)
+    ∙ pushed-all k (2 * L) (2 * b) (pairs (2 ^ b) ds) (omega arith) (pairs-length (2 ^ b) (2 ^ k) ds m) (pairs-below b (2 ^ k) ds m h)
+    ∙ ap (λ (B : ℕ). number B (pairs (2 ^ b) ds)) (sym (pow-pow 2 b 2))
+    ∙ pairs-number (2 ^ b) (2 ^ k) ds m
 
-pub squeezed : (b x : ℕ) → b ≤ 4 → x < 2 ^ 64 → Below (2 ^ b) (digits 256 8 x) → squeeze b x ≡ number (2 ^ b) (digits 256 8 x)
-squeezed b x h m k =
-    ap (squeeze b) (number-back 256 8 x (zero-lt-suc 255) m)
-    ∙ squeezed-digits b (digits 256 8 x) h (digits-length 256 8 x) k
+-- of a number of 2 ^ k lanes
+pub squeezed : (k L b x : ℕ) → 2 * b ≤ L → x < (2 ^ L) ^ (2 ^ k) → Below (2 ^ b) (digits (2 ^ L) (2 ^ k) x) → pushes k L b x ≡ number (2 ^ b) (digits (2 ^ L) (2 ^ k) x)
+squeezed k L b x r m h =
+    let ds = digits (2 ^ L) (2 ^ k) x in
+    ap (pushes k L b) (number-back (2 ^ L) (2 ^ k) x (pow-pos L) m) ∙ pushed-all k L b ds r (digits-length (2 ^ L) (2 ^ k) x) h
 
 -- ---- digits of one bit need no masks, computed at each byte
 

@@ -58,7 +58,7 @@ fn byte_by_low_bits(states: States, codes: &[u8; 32], value: &[u8]) -> u8
 }
 
 // Eight bytes as one number, the first one highest. Each has its own shift, so that it is compiled to one load.
-fn word(value: &[u8]) -> u64
+pub fn word(value: &[u8]) -> u64
     requires { ⌜ length (now value) ≡ 8 ⌝ }
     ensures { λ r. ⌜ r ≡ number 256 (now (value .entry)) ⌝ }
 {

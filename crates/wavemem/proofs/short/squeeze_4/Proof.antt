@@ -8,7 +8,7 @@ use Rattle.wavemem.proofs.short.squeeze_4.Tie as tie
 
 returns : tie.Need-returns
 unfolding number
-returns c = squeezed 4 (c .args .x) (omega arith) (omega arith) (c .pre)
+returns c = squeezed 3 8 4 (c .args .x) (omega arith) (omega arith) (c .pre)
 
 pub squeeze-4-spec : {M : Type 1} → statement M
 squeeze-4-spec = tie.close (tie.spec returns)
