@@ -5,7 +5,7 @@ use Prim.Native.Nat.{ℕ, zero, suc, _<_}
 use native.Mathlib.Omega.{arith}
 use mathlib.Core.Bool.{Bool, true, false, true≢false, _&&_}
 use mathlib.Core.Logic.{inl, inr}
-use mathlib.Core.List.{List, [], _∷_}
+use mathlib.Core.List.{List, [], _∷_, _++_}
 use lib.Dec.{T, ltb, ltb→lt}
 use denote.Enum.Declared.{Choice}
 use denote.Struct.Field.{Field}
@@ -68,6 +68,27 @@ module _ {A : Type 0} (r : Reply A) where
   passes [] p = refl
   passes ((n ⇐ true) ∷ l) p = absurd (true≢false (p .0))
   passes ((n ⇐ false) ∷ l) p = passes l (p .1)
+
+-- tests behind tests
+pub tried-append : {A : Type 0} (xs ys : List Test) (r : Reply A) → tried (xs ++ ys) r ≡ tried xs (tried ys r)
+unfolding tried
+tried-append [] ys r = refl
+tried-append ((n ⇐ true) ∷ xs) ys r = refl
+tried-append ((n ⇐ false) ∷ xs) ys r = tried-append xs ys r
+
+-- what is behind the tests is given where each passes
+pub tried-given : {A : Type 0} (l : List Test) (a : A) {x : A} → tried l (given a) ≡ given x → Passed l × (x ≡ a)
+unfolding tried
+tried-given [] a e = (tt, cc)
+tried-given ((n ⇐ true) ∷ l) a e = let z : _≡_ {A = ℕ} 0 1 = cc in absurd (omega arith)
+tried-given ((n ⇐ false) ∷ l) a e = let t = tried-given l a e in ((refl, t .0), t .1)
+
+-- a refusal does not depend on it
+pub tried-refused : {A B : Type 0} (l : List Test) (a : A) (r : Reply B) {n : ℕ} → tried l (given a) ≡ refused n → tried l r ≡ refused n
+unfolding tried
+tried-refused [] a r e = let z : _≡_ {A = ℕ} 0 1 = cc in absurd (omega arith)
+tried-refused ((m ⇐ true) ∷ l) a r {n} e = let z : m ≡ n = cc in rw z
+tried-refused ((m ⇐ false) ∷ l) a r e = tried-refused l a r e
 
 -- "On every refusal .. recorder, derivation and slices are unchanged"
 pub refused-old : {A : Type 0} (l : List Test) → FromOne l → (old new : A) (n : ℕ)

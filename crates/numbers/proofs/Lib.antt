@@ -1,1 +1,3 @@
 pub mod Words
+pub mod Forms
+pub mod Replies

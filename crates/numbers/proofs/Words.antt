@@ -18,6 +18,7 @@ use Rattle.value.specs.Digits.{number, digits, Below}
 use Rattle.value.specs.Slice.{any, part}
 use Rattle.value.specs.Level.{bitsOf, lenOf}
 use Rattle.value.proofs.Digits.{pow-pow, number-lt, number-append, number-digits, digits-length, digits-below, digits-high, digits-append, digits-zeros, base-pos, below-take}
+use Rattle.value.proofs.Lists.{none-from, below-none}
 use Rattle.value.proofs.Slices.{any-append, part-add, part-length}
 use Rattle.value.proofs.Backward.{below-part}
 use Rattle.value.proofs.Tests.{by-le, both, both-same, allBelow, at-below, from-T, or-left, or-right, or-both}
@@ -31,26 +32,16 @@ use Rattle.numbers.specs.Parts.{bitsOfLevels, Few}
 
 -- ---- levels that are 0 and 1
 
-pub clear-below : (ds : List ℕ) → hasOther ds ≡ false → Below 2 ds
-unfolding any
-clear-below [] e = tt
-clear-below (d ∷ ds) e = (leb-false 2 d (or-left (leb 2 d) (any (leb 2) ds) e), clear-below ds (or-right (leb 2 d) (any (leb 2) ds) e))
-
-pub below-clear : (ds : List ℕ) → Below 2 ds → hasOther ds ≡ false
-unfolding any
-below-clear [] h = refl
-below-clear (d ∷ ds) h = or-both (leb 2 d) (any (leb 2) ds) (lt-leb 2 d (h .0)) (below-clear ds (h .1))
-
 -- levels of which none is another, and their number
 pub record Known (ds : List ℕ) (n : ℕ) : Type 0 where
   pub clear : hasOther ds ≡ false
   pub is : n ≡ number 2 ds
 
 pub known-below : {ds : List ℕ} {n : ℕ} → Below 2 ds → n ≡ number 2 ds → Known ds n
-known-below {ds} h e = record { clear = below-clear ds h; is = e }
+known-below {ds} h e = record { clear = below-none 2 ds h; is = e }
 
 pub known-lt : {ds : List ℕ} {n : ℕ} → Known ds n → n < 2 ^ length ds
-known-lt {ds} k = rw (k .is) (number-lt 2 ds (clear-below ds (k .clear)))
+known-lt {ds} k = rw (k .is) (number-lt 2 ds (none-from 2 ds (k .clear)))
 
 pub bits-known : {ds : List ℕ} {n : ℕ} → Known ds n → binary.Number n ≡ bitsOfLevels ds
 unfolding bitsOfLevels
@@ -138,7 +129,7 @@ module _ {a : ℕ} (ds : List ℕ) (e : ltb 0 a ≡ hasOther ds) where
   some-other h = let p : 0 < a = omega arith in bits-other ds (sym e ∙ lt-ltb 0 a p)
 
   pub none-other : a ≡ 0 → Below 2 ds
-  none-other h = clear-below ds (sym e ∙ ap (ltb 0) h)
+  none-other h = none-from 2 ds (sym e ∙ ap (ltb 0) h)
 
 -- the digits of a word, for each set
 pub other-four : (x : ℕ) → x < 2 ^ 64 → ltb 0 (bitAnd x 12297829382473034410) ≡ hasOther (digits 4 32 x)

@@ -1,6 +1,6 @@
 -- Inner: the steps by which an entry is read as a number.
 -- Assumes nothing.
-use Prim.Native.Nat.{ℕ, suc, _-_, _*_, _^_, _/_, _≤_}
+use Prim.Native.Nat.{ℕ, suc, _-_, _^_, _≤_}
 use mathlib.Core.Path.{_≡_}
 use mathlib.Core.Bool.{cond}
 use mathlib.Core.List.{List, [], _∷_, _++_}
@@ -53,12 +53,14 @@ readBinary f d bytes start k =
     (unreadable d bytes start k ++ (16 ⇐ isWrongWidth f (widthOf (d .encoding)) ∷ 17 ⇐ hasOther levels ∷ []))
     (given (number 2 levels))
 
--- ---- the other forms by the unsigned number of w levels
+-- ---- the other forms, by the unsigned number
 
+-- of w levels
 abbrev pub signedBy : ℕ → ℕ → ℤ
 signedBy w n = cond (ltb n (2 ^ (w - 1))) (pos n) (negsuc (2 ^ w - suc n))
 
+-- of so many digits
 abbrev pub decimalBy : ℕ → ℕ → Reply ℕ
-decimalBy w n =
-    let ds = digits 16 (w / 4) n in
+decimalBy count n =
+    let ds = digits 16 count n in
     tried (18 ⇐ any (leb 10) ds ∷ []) (given (number 10 ds))

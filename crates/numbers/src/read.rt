@@ -1,6 +1,6 @@
 // The three forms of reading an entry as a number.
 ghost use mathlib.Core.Path.{_≡_};
-ghost use Prim.Native.Nat.{_%_, _<_, _≤_, _^_};
+ghost use Prim.Native.Nat.{_<_, _≤_, _^_};
 ghost use Rattle.fst.specs.declared.Encoding.the-variants.{BitVector};
 ghost use Rattle.signal.specs.Decode.{codesAt};
 ghost use Rattle.signal.specs.Parts.{Levels, Whole};
@@ -138,16 +138,16 @@ pub fn read_signed(
     }
 }
 
-// An unsigned number of so many bits as that of its decimal digits, or 18.
-fn decimal_of(width: u32, number: u64) -> NumberAnswer
-    requires { ⌜ (width ≤ 64) × (width % 4 ≡ 0) ⌝ }
-    ensures { λ r. ⌜ numberReply r ≡ decimalBy width number ⌝ }
+// The decimal number of so many digits of four bits each, or 18.
+fn decimal_of(count: u32, number: u64) -> NumberAnswer
+    requires { ⌜ count ≤ 16 ⌝ }
+    ensures { λ r. ⌜ numberReply r ≡ decimalBy count number ⌝ }
 {
-    let mut left = width;
+    let mut left = count;
     let mut working: u64 = 0;
     while 0 < left {
-        left -= 4;
-        let digit = (number >> left) & 15;
+        left -= 1;
+        let digit = (number >> (4 * left)) & 15;
         if 9 < digit {
             return NumberAnswer::Refused(Refusal::NotDecimal);
         }
@@ -166,7 +166,7 @@ pub fn read_decimal(
 {
     let encoding = description.encoding;
     match read_binary(Form::Decimal, description, bytes, byte_start, entry) {
-        NumberAnswer::Number(number) => decimal_of(encoding.width(), number),
+        NumberAnswer::Number(number) => decimal_of(encoding.width() / 4, number),
         NumberAnswer::Refused(refusal) => NumberAnswer::Refused(refusal),
     }
 }

@@ -19,6 +19,7 @@ use Rattle.value.specs.Slice.{any}
 use Rattle.value.specs.Level.{letters, placeIn, codeOf, letterOf, fold, foldAll, codesOf, textOf, markOf, bitsOf, isNoCode, hasNoCode, setAt, join, setOf, leastOf, lenOf, joinAll}
 use Rattle.value.specs.Answer.{leastStates}
 use Rattle.value.proofs.Tests.{or-left, or-right, or-both, by-le, at-below}
+use Rattle.value.proofs.Lists.{none-from, below-none}
 use Rattle.value.specs.Digits.{Below}
 
 -- ---- marks
@@ -173,14 +174,10 @@ text-inj cs ds b d e = sym (codes-text cs b) ∙ ap (λ (s : List ℕ). codesOf 
 -- ---- foreign bytes
 
 pub all-below : (cs : List ℕ) → hasNoCode cs ≡ false → Below 9 cs
-unfolding any
-all-below [] e = tt
-all-below (c ∷ cs) e = (leb-false 9 c (or-left (isNoCode c) (hasNoCode cs) e), all-below cs (or-right (isNoCode c) (hasNoCode cs) e))
+all-below cs = none-from 9 cs
 
 pub none-foreign : (cs : List ℕ) → Below 9 cs → hasNoCode cs ≡ false
-unfolding any
-none-foreign [] b = refl
-none-foreign (c ∷ cs) b = or-both (isNoCode c) (hasNoCode cs) (lt-leb 9 c (b .0)) (none-foreign cs (b .1))
+none-foreign cs = below-none 9 cs
 
 -- ---- small letters
 

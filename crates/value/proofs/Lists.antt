@@ -6,11 +6,14 @@ use mathlib.Core.List.{List, [], _∷_, map}
 use Prim.Native.Nat.{ℕ, zero, suc, _+_, _≤_, _<_}
 use native.Mathlib.Numerals.{add-one}
 use native.Mathlib.Omega.{arith}
+use borrow.Author.Tests.{leb-false, lt-leb}
+use lib.Dec.{leb}
 use lib.ListN.{length, take, getD}
 use lib.Seq.{take-suc, take-all}
+use Rattle.value.specs.Digits.{Below}
 use Rattle.value.specs.Slice.{any}
 use Rattle.value.proofs.Slices.{any-snoc}
-use Rattle.value.proofs.Tests.{or-both}
+use Rattle.value.proofs.Tests.{or-left, or-right, or-both}
 
 pub any-map : {A B : Type 0} (test : B → Bool) (f : A → B) (l : List A) → any test (map f l) ≡ any (λ x. test (f x)) l
 unfolding any
@@ -22,6 +25,17 @@ pub any-each : {A : Type 0} (test : A → Bool) (l : List A) (d : A) → ((i : �
 unfolding any
 any-each test [] d f = refl
 any-each test (x ∷ l) d f = or-both (test x) (any test l) (f zero (omega arith)) (any-each test l d (λ i h. f (suc i) (omega arith)))
+
+-- no number is B or above: each is below B
+pub none-from : (B : ℕ) (ds : List ℕ) → any (leb B) ds ≡ false → Below B ds
+unfolding any
+none-from B [] e = tt
+none-from B (d ∷ ds) e = (leb-false B d (or-left (leb B d) (any (leb B) ds) e), none-from B ds (or-right (leb B d) (any (leb B) ds) e))
+
+pub below-none : (B : ℕ) (ds : List ℕ) → Below B ds → any (leb B) ds ≡ false
+unfolding any
+below-none B [] b = refl
+below-none B (d ∷ ds) b = or-both (leb B d) (any (leb B) ds) (lt-leb B d (b .0)) (below-none B ds (b .1))
 
 -- an element within a list is there whatever stands for none
 pub at-any : {A : Type 0} (l : List A) (i : ℕ) (d e : A) → i < length l → getD l i d ≡ getD l i e

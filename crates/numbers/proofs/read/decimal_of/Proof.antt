@@ -1,43 +1,55 @@
--- `numbers::read::decimal_of` meets its contract.
+-- `numbers::read::decimal_of` meets its contract: the number is that of the digits so far.
 -- Assumes nothing.
+use Prim.Native.Nat.{_-_, _≤_, _<_}
+use mathlib.Core.Path.{_≡_, subst}
+use native.Mathlib.Omega.{arith}
+use Rattle.value.specs.Digits.{digits}
+use Rattle.numbers.proofs.Forms.{Read, digit-at, digit-high, read-none, read-more, read-fits, read-all}
 use Rattle.numbers.proofs.read.decimal_of.Statement.{statement}
 use Rattle.numbers.proofs.read.decimal_of.Tie as tie
 
 abbrev Inv-loop : tie.InvT-loop
-Inv-loop width number left₀ working₀ left working = ?
+Inv-loop count number left₀ working₀ left working = Read count number left working
 
 abbrev μ-loop : tie.MeasureT-loop
-μ-loop width number left₀ working₀ left working = ?
+μ-loop count number left₀ working₀ left working = left
 
-loop-holds : tie.Need-loop-holds Inv-loop μ-loop
-loop-holds c = ?
+-- how few are left
+few : (c : tie.In-loop Inv-loop μ-loop) → c .before .loop .left ≤ 16
+few c = omega (arith, c .before .loop .inv .within, c .before .before .pre)
 
-sub-left : tie.Need-sub-left Inv-loop μ-loop
-sub-left c = ?
-
-cast-digit : tie.Need-cast-digit Inv-loop μ-loop
-cast-digit c = ?
-
-shr-digit : tie.Need-shr-digit Inv-loop μ-loop
-shr-digit c = ?
+mul-digit : tie.Need-mul-digit Inv-loop μ-loop
+mul-digit c = omega (arith, few c)
 
 returns : tie.Need-returns Inv-loop μ-loop
-returns c = ?
-
-mul-working : tie.Need-mul-working Inv-loop μ-loop
-mul-working c = ?
-
-add-working : tie.Need-add-working Inv-loop μ-loop
-add-working c = ?
-
-loop-less : tie.Need-loop-less Inv-loop μ-loop
-loop-less c = ?
+returns c =
+    let a = c .before .before .before .args in
+    let l = c .before .before .loop in
+    let d = digit-at (a .count) (a .number) (l .left) (c .before .loop-test .taken) (l .inv .within) in
+    digit-high (a .count) (a .number) (a .count - l .left) (omega (arith, l .inv .within, c .before .loop-test .taken)) (subst (λ x. 9 < x) d (c .if1 .taken))
 
 loop-again : tie.Need-loop-again Inv-loop μ-loop
-loop-again c = ?
+loop-again c =
+    let a = c .before .before .before .args in
+    let l = c .before .before .loop in
+    read-more (l .inv) (c .before .loop-test .taken) (digit-at (a .count) (a .number) (l .left) (c .before .loop-test .taken) (l .inv .within)) (c .if1 .left)
+
+add-working : tie.Need-add-working Inv-loop μ-loop
+add-working c =
+    let a = c .before .before .before .args in
+    let l = c .before .before .loop in
+    omega (arith, read-fits (l .inv) (c .before .loop-test .taken) (digit-at (a .count) (a .number) (l .left) (c .before .loop-test .taken) (l .inv .within)) (c .if1 .left) (c .before .before .before .pre))
+
+mul-working : tie.Need-mul-working Inv-loop μ-loop
+mul-working c =
+    let a = c .before .before .before .args in
+    let l = c .before .before .loop in
+    omega (arith, read-fits (l .inv) (c .before .loop-test .taken) (digit-at (a .count) (a .number) (l .left) (c .before .loop-test .taken) (l .inv .within)) (c .if1 .left) (c .before .before .before .pre))
 
 returns-2 : tie.Need-returns-2 Inv-loop μ-loop
-returns-2 c = ?
+returns-2 c =
+    let z : c .before .loop .left ≡ 0 = omega (arith, c .loop-test .left) in
+    read-all (rw z at (c .before .loop .inv))
 
 pub decimal-of-spec : {M : Type 1} → statement M
 decimal-of-spec =
@@ -45,13 +57,14 @@ decimal-of-spec =
     (tie.spec
     Inv-loop
     μ-loop
-    loop-holds
-    sub-left
-    cast-digit
-    shr-digit
+    (λ c. read-none)
+    (λ c. c .loop-test .taken)
+    mul-digit
+    (λ c. omega (arith, few c))
+    (λ c. omega (arith, few c, c .loop-test .taken))
     returns
     mul-working
     add-working
-    loop-less
+    (λ c. omega (arith, c .before .loop-test .taken))
     loop-again
     returns-2)

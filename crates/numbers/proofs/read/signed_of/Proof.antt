@@ -1,50 +1,45 @@
 -- `numbers::read::signed_of` meets its contract.
 -- Assumes nothing.
+use mathlib.Core.Path.{_≡_, sym, ap, _∙_}
+use Prim.Native.Nat.{ℕ, suc, _-_, _^_, _<_}
+use native.Mathlib.Omega.{arith}
 use borrow.Author.Needs.{needs}
+use lib.IntN.{negsuc}
+use mir.Syntax.{w64}
+use mir.Facts.{toZ-pos}
+use Rattle.numbers.proofs.Forms.{low-half, high-half, low-fits, high-fits, signed-pos, signed-neg, below-fits, below-read}
 use Rattle.numbers.proofs.read.signed_of.Statement.{statement}
 use Rattle.numbers.proofs.read.signed_of.Tie as tie
 
-sub-if1 : tie.Need-sub-if1
-sub-if1 c = search needs
-
-cast-if1 : tie.Need-cast-if1
-cast-if1 c = search needs
-
-shr-if1 : tie.Need-shr-if1
-shr-if1 c = search needs
-
-cast-result : tie.Need-cast-result
-cast-result c = ?
-
 returns : tie.Need-returns
-returns c = ?
+returns c =
+    let a = c .before .args in
+    let p = c .before .pre in
+    toZ-pos w64 (low-fits (a .width) (a .number) (p .0) (p .1) (c .if1 .taken)) ∙ sym (signed-pos (a .width) (a .number) (low-half (a .width) (a .number) (c .if1 .taken)))
 
-ones-requires : tie.Need-ones-requires
-ones-requires c κs = search needs
+-- what is taken off -1
+off : (c : tie.After-ones) → c .ones .result - c .before .before .args .number ≡ 2 ^ c .before .before .args .width - suc (c .before .before .args .number)
+off c = rw (c .ones .ensures) (omega arith)
 
-sub-result : tie.Need-sub-result
-sub-result c = search needs
-
-cast-result-2 : tie.Need-cast-result-2
-cast-result-2 c = ?
-
-sub-result-2 : tie.Need-sub-result-2
-sub-result-2 c = ?
+off-fits : (c : tie.After-ones) → c .ones .result - c .before .before .args .number < 2 ^ 63
+off-fits c = let a = c .before .before in rw (off c) (high-fits (a .args .width) (a .args .number) (a .pre .0) (a .pre .1) (c .before .if1 .left))
 
 returns-2 : tie.Need-returns-2
-returns-2 c = ?
+returns-2 c =
+    let a = c .before .before .args in
+    below-read _ (off-fits c) ∙ ap negsuc (off c) ∙ sym (signed-neg (a .width) (a .number) (high-half (a .width) (a .number) (c .before .if1 .left)))
 
 pub signed-of-spec : {M : Type 1} → statement M
 signed-of-spec =
     tie.close
     (tie.spec
-    sub-if1
-    cast-if1
-    shr-if1
-    cast-result
+    (λ c. search needs)
+    (λ c. search needs)
+    (λ c. search needs)
+    (λ c. let a = c .before in record { sfits = low-fits (a .args .width) (a .args .number) (a .pre .0) (a .pre .1) (c .if1 .taken) })
     returns
-    ones-requires
-    sub-result
-    cast-result-2
-    sub-result-2
+    (λ c κs. search needs)
+    (λ c. search needs)
+    (λ c. record { sfits = off-fits c })
+    (λ c. below-fits _ (off-fits c))
     returns-2)
