@@ -31,7 +31,7 @@ pub fn number(
     let (_, codes) = codes_of(d, bytes, byte_start, entry)?;
     let text = letters(&codes)?;
     refuse_if(text.len() > 64, 16)?;
-    refuse_if(form == Form::Decimal && text.len() % 4 != 0, 16)?;
+    refuse_if(form == Form::Decimal && !text.len().is_multiple_of(4), 16)?;
     let bits = text.iter().map(bit).collect::<Result<Vec<i128>, _>>()?;
     match form {
         Form::Unsigned => Ok(binary(&bits)),

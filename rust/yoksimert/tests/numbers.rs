@@ -1,7 +1,7 @@
 //! Numbers that are no description are refused with 2, and everything comes back as it was.
 #![cfg(archive)]
 
-use yoksimert::raw::{self, FlatDescription, FlatNumber, FlatRecord};
+use yoksimert::raw::{self, FlatDescription, FlatRecord};
 
 const KINDS: [u32; 6] = [0, 1, 2, 3, 258, u32::MAX];
 const WIDTHS: [u32; 5] = [0, 1, 3, 4_096, u32::MAX];
@@ -28,6 +28,15 @@ fn each(mut take: impl FnMut(FlatDescription)) {
     }
 }
 
+/// The three calls of Numbers refuse with 2, and their value is 0.
+fn assert_no_number(flat: FlatDescription, bytes: &[u8]) {
+    let [unsigned, decimal] = [raw::unsigned, raw::decimal].map(|call| call(flat, bytes, 0, 0));
+    assert_eq!((unsigned.number, unsigned.value), (2, 0));
+    assert_eq!((decimal.number, decimal.value), (2, 0));
+    let signed = raw::signed(flat, bytes, 0, 0);
+    assert_eq!((signed.number, signed.value), (2, 0));
+}
+
 #[test]
 fn other_numbers_are_refused() {
     let mut refused = 0;
@@ -46,14 +55,7 @@ fn other_numbers_are_refused() {
         let entry = raw::read(flat, &bytes, 0, 0);
         assert_eq!((entry.number, entry.start, entry.length), (2, 0, 0));
         assert_eq!(raw::text(flat, &bytes, 0, 0, &mut out), 2);
-        let no_value = FlatNumber {
-            number: 2,
-            value: 0,
-        };
-        assert_eq!(raw::unsigned(flat, &bytes, 0, 0), no_value);
-        assert_eq!(raw::decimal(flat, &bytes, 0, 0), no_value);
-        let signed = raw::signed(flat, &bytes, 0, 0);
-        assert_eq!((signed.number, signed.value), (2, 0));
+        assert_no_number(flat, &bytes);
         let record = |description| FlatRecord {
             description,
             bytes: &bytes,
