@@ -280,24 +280,26 @@ impl Generator {
         entry
     }
 
-    /// Digits 0 to 9, digits 0 to 15, or an end: one level other than the rest.
+    /// An end, where all levels but the first are alike, or digits: up to 15, up to 9, or up to 9 but for one near 9.
     fn bits_of_a_number(&mut self, width: usize) -> Vec<u8> {
-        let most = match self.random.below(4) {
-            0 => {
-                let bit = self.random.pick(&[0, 1]);
-                let mut bits = vec![bit; width];
-                bits[0] = self.random.pick(&[0, 1]);
-                return bits;
-            }
-            1 => 15,
-            _ => 9,
-        };
-        let digits = width.div_ceil(4);
-        let bits = (0..digits).flat_map(|_| {
-            let digit = self.random.from_to(0, most) as u8;
-            [digit >> 3, digit >> 2 & 1, digit >> 1 & 1, digit & 1]
-        });
-        bits.skip(digits * 4 - width).collect()
+        let kind = self.random.below(4);
+        if kind == 0 {
+            let mut bits = vec![self.random.pick(&[0, 1]); width];
+            bits[0] = self.random.pick(&[0, 1]);
+            return bits;
+        }
+        let most = if kind == 1 { 15 } else { 9 };
+        let mut digits: Vec<u8> = (0..width.div_ceil(4))
+            .map(|_| self.random.from_to(0, most) as u8)
+            .collect();
+        if kind == 2 {
+            let place = self.random.below(digits.len());
+            digits[place] = self.random.from_to(8, 11) as u8;
+        }
+        let bits = digits
+            .iter()
+            .flat_map(|digit| [3, 2, 1, 0].map(|place| digit >> place & 1));
+        bits.skip(digits.len() * 4 - width).collect()
     }
 
     /// The codes in the last bits of an entry. What stands above them is zero, or now and then not.
