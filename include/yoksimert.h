@@ -1,11 +1,11 @@
-/* The operations of libyoksimert.a, proved against document 01 ("Line records").
+/* The operations of libyoksimert.a, proved against document 01 ("Line records") and document 02.
  *
  * Every function takes any numbers and ends. It reads and writes nothing but what it is lent, and keeps no pointer. A lent slice is a
  * pointer and a number of elements; the pointer is valid for so many elements, and not null even where there are none. A slice that is
  * lent to be altered overlaps no other slice of the call. Starts count elements from the slice's beginning.
  *
- * An answer's number is 0 where the call is accepted, and else the number of the refusal in document 01. On a refusal the slices are as
- * they were.
+ * An answer's number is 0 where the call is accepted, and else the number of the refusal in documents 01 and 02. On a refusal the slices
+ * are as they were.
  *
  *  1 width above 4,096
  *  2 not a record, or not within a slice
@@ -22,6 +22,9 @@
  * 13 a ninth input, a 65th piece, or a sum of widths above 4,096
  * 14 not a derivation, or not one of these inputs
  * 15 an input is empty, or doesn't start at index 0
+ * 16 a width above 64, or, for packed decimal, not a multiple of 4
+ * 17 a level that is neither 0 nor 1
+ * 18 a digit of packed decimal is above 9
  */
 #ifndef YOKSIMERT_H
 #define YOKSIMERT_H
@@ -59,6 +62,18 @@ typedef struct yoksimert_entry {
     size_t start;
     size_t length;
 } yoksimert_entry;
+
+/* The number that an entry's levels stand for. On a refusal the value is 0. */
+typedef struct yoksimert_number {
+    uint32_t number;
+    uint64_t value;
+} yoksimert_number;
+
+/* The same with a sign. On a refusal the value is 0. */
+typedef struct yoksimert_signed_number {
+    uint32_t number;
+    int64_t value;
+} yoksimert_signed_number;
 
 /* On a refusal they are not equal. */
 typedef struct yoksimert_equal {
@@ -163,6 +178,31 @@ uint32_t yoksimert_text(
     uint32_t entry,
     uint8_t *out,
     size_t out_len);
+
+/* Numbers: the levels of an entry of width 1 to 64 as a binary number without a sign, the first the highest. Refused: 2, 3, 8, 9, 10, 16,
+ * 17. */
+yoksimert_number yoksimert_unsigned(
+    yoksimert_description description,
+    const uint8_t *bytes,
+    size_t bytes_len,
+    size_t byte_start,
+    uint32_t entry);
+
+/* The same in two's complement: the first level says whether the number is below 0. Refused: 2, 3, 8, 9, 10, 16, 17. */
+yoksimert_signed_number yoksimert_signed(
+    yoksimert_description description,
+    const uint8_t *bytes,
+    size_t bytes_len,
+    size_t byte_start,
+    uint32_t entry);
+
+/* The same in packed decimal: each four levels are a digit, the first the highest. Refused: 2, 3, 8, 9, 10, 16, 17, 18. */
+yoksimert_number yoksimert_decimal(
+    yoksimert_description description,
+    const uint8_t *bytes,
+    size_t bytes_len,
+    size_t byte_start,
+    uint32_t entry);
 
 /* Compare: whether two records have equal time indices and values. Refused: 2, 9, 10. */
 yoksimert_equal yoksimert_compare(

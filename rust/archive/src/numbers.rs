@@ -52,7 +52,7 @@ pub fn accepted(number: u32) -> Result<(), Refusal> {
     }
     match yoksimert::Refusal::from_number(number) {
         Some(refusal) => Err(Refusal(refusal.number())),
-        None => panic!("{number} is no number of document 01"),
+        None => panic!("{number} is no number of documents 01 and 02"),
     }
 }
 

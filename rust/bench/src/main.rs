@@ -9,6 +9,8 @@ mod inner;
 #[cfg(all(wellen, archive, inner))]
 mod layout;
 #[cfg(all(wellen, archive, inner))]
+mod numbers;
+#[cfg(all(wellen, archive, inner))]
 mod records;
 #[cfg(all(wellen, archive, inner))]
 mod strings;
@@ -41,6 +43,7 @@ fn main() {
     if wanted("records") {
         records::raise();
         records::read();
+        numbers::numbers();
         records::compare();
         records::look_up();
     }

@@ -245,7 +245,7 @@ fn read_at(states: States, width: usize) {
 }
 
 /// ns of a call, of one for each of so many entries.
-fn each_entry<T>(count: u32, mut call: impl FnMut(u32) -> T) -> f64 {
+pub fn each_entry<T>(count: u32, mut call: impl FnMut(u32) -> T) -> f64 {
     let time = best(
         || (),
         || {

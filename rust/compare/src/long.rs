@@ -2,12 +2,13 @@
 
 use crate::generate::Receiver;
 use crate::operations::look_up::LookUp;
+use crate::operations::number::in_every_form;
 use crate::operations::read::read_and_text;
 use crate::random::Random;
 use crate::record::{LentRecord, SETS, entry_size};
 use oracle::{Description, Encoding, MAXIMUM};
 
-/// Every entry of two bytes at most at widths 1 to 3, read and as text: marks, levels and stray bits of every kind.
+/// Every entry of two bytes at most at widths 1 to 3, read, as text and as numbers: marks, levels and stray bits of every kind.
 pub fn every_first_byte(to: &mut dyn Receiver) {
     for width in 1..=3 {
         for max_states in SETS {
@@ -29,6 +30,7 @@ fn look_at(encoding: Encoding, entry: &[u8], to: &mut dyn Receiver) {
         byte_start: 1,
         ..LentRecord::new(Description::counting(encoding, 1), &bytes, &[])
     };
+    in_every_form(&record, 0, to);
     read_and_text(record, 0, vec![0x5a; 4], to);
 }
 

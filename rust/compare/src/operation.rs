@@ -20,6 +20,9 @@ pub trait Operation: Clone + PartialEq + Debug + 'static {
     const NUMBERS: &'static [u8];
     /// The modules with the definitions that no operation listed before goes through.
     const DEFINITIONS: &'static [Module];
+    /// The document that asks for it. Stored answers stand in this order, so that those of a later document leave the
+    /// earlier ones at their lines.
+    const DOCUMENT: u8 = 1;
 
     fn name(&self) -> &'static str {
         Self::NAMES[0]
@@ -138,6 +141,7 @@ impl<O: Operation> Asked<O> {
 /// A call of whatever operation, with the oracle's outcome.
 pub trait Case {
     fn name(&self) -> &'static str;
+    fn document(&self) -> u8;
     fn number(&self) -> u8;
     /// The line of the stored answers without its judge and its end.
     fn line(&self) -> String;
@@ -158,6 +162,10 @@ pub trait Case {
 impl<O: Operation> Case for Asked<O> {
     fn name(&self) -> &'static str {
         self.call.name()
+    }
+
+    fn document(&self) -> u8 {
+        O::DOCUMENT
     }
 
     fn number(&self) -> u8 {

@@ -1,4 +1,4 @@
-//! Document 01's twelve rows and its edges, as calls.
+//! Document 01's twelve rows and its edges, and document 02's edges, as calls.
 
 use crate::generate::Receiver;
 use crate::operations::add_change::{AddChange, record_left};
@@ -6,6 +6,7 @@ use crate::operations::add_piece::AddPiece;
 use crate::operations::derive::Derive;
 use crate::operations::fresh::Fresh;
 use crate::operations::look_up::LookUp;
+use crate::operations::number::in_every_form;
 use crate::record::{LentRecord, cut};
 use oracle::{Change, Derivation, Description, Encoding, Input, MAX_WIDTH, MAXIMUM, Side, States};
 use reference::Used;
@@ -23,6 +24,7 @@ pub fn rows_and_edges(to: &mut dyn Receiver) {
     }
     derive_bit_0(to);
     edges(to);
+    numbers(to);
 }
 
 /// Rows 1 to 8: a width, and strings with their indices.
@@ -110,6 +112,38 @@ fn edges(to: &mut dyn Receiver) {
         );
     }
     add(lent(Encoding::Event, MAXIMUM + 1, &[], &[]), text(""), to);
+}
+
+/// "width 1: `1` is -1; width 64 reaches both ends", "a derived entry marked Four but holding only 0 and 1 is a number",
+/// and the refusals 16, 17 and 18 "in that order", after a bad mark and a bad code at a width above 64.
+fn numbers(to: &mut dyn Receiver) {
+    let wide = |mark: u8, last: u8| [&[mark], &[0; 2047][..], &[last]].concat();
+    let entries: [(u32, States, &[u8]); 16] = [
+        (1, States::Two, &[0x01]),
+        (64, States::Two, &[0xff; 8]),
+        (64, States::Two, &[0x80, 0, 0, 0, 0, 0, 0, 0]),
+        (
+            64,
+            States::Two,
+            &[0x7f, 0xff, 0xff, 0xff, 0xff, 0xff, 0xff, 0xff],
+        ),
+        (64, States::Two, &[0x99; 8]),
+        (1, States::Four, &[0x41]),
+        (4, States::Nine, &[0x80, 0x01, 0x01]),
+        (65, States::Two, &[1, 0, 0, 0, 0, 0, 0, 0, 0]),
+        (68, States::Two, &[0; 9]),
+        (5, States::Two, &[0x15]),
+        (4, States::Four, &[0x40, 0x02]),
+        (8, States::Four, &[0x40, 0x55, 0x02]),
+        (8, States::Two, &[0x1a]),
+        (4_096, States::Nine, &wide(0xc0, 0x09)),
+        (4_096, States::Nine, &wide(0x80, 0x09)),
+        (4_096, States::Nine, &wide(0x80, 0x02)),
+    ];
+    for (width, max_states, bytes) in entries {
+        let encoding = Encoding::BitVector { width, max_states };
+        in_every_form(&lent(encoding, 1, bytes, &[]), 0, to);
+    }
 }
 
 /// The maximum of 1,048,576 entries, one below and one above it: too long for stored answers.

@@ -7,6 +7,7 @@ use compare::operations::add_change::AddChange;
 use compare::operations::compare::Compare;
 use compare::operations::derive::Derive;
 use compare::operations::look_up::LookUp;
+use compare::operations::number::{Decimal, Form, Number, Signed, Unsigned};
 use compare::record::SETS;
 use oracle::{Encoding, States};
 use std::collections::BTreeSet;
@@ -22,6 +23,10 @@ struct Coverage {
     longest_list: usize,
     /// Of comparisons: whether wellen is a reference, the answer, and whether the used bytes are equal.
     comparisons: BTreeSet<(bool, bool, bool)>,
+    /// Of accepted numbers: the form, the width, and the entry's own set.
+    counted: BTreeSet<(&'static str, u32, States)>,
+    /// Whether a signed number is below zero, with its width.
+    signs: BTreeSet<(bool, u32)>,
 }
 
 /// The call and its answer, if it is an accepted one of this operation.
@@ -48,6 +53,11 @@ impl Receiver for Coverage {
         } else if let Some((call, _)) = accepted::<LookUp>(case) {
             self.longest_list = self.longest_list.max(call.indices.len());
         }
+        self.count::<Unsigned>(case);
+        self.count::<Decimal>(case);
+        if let Some((width, value)) = self.count::<Signed>(case) {
+            self.signs.insert((value < 0, width));
+        }
     }
 }
 
@@ -63,6 +73,24 @@ impl Coverage {
             self.widths.insert(width);
             self.raises.insert((max_states, larger, width % 8));
         }
+    }
+
+    /// The width and the value, if it is an accepted call of this form.
+    fn count<F: Form>(&mut self, case: &dyn Case) -> Option<(u32, i128)> {
+        let (call, value) = accepted::<Number<F>>(case)?;
+        let record = &call.record;
+        let Encoding::BitVector { width, .. } = record.description.encoding else {
+            return None;
+        };
+        let read = oracle::read(
+            record.description,
+            &record.bytes,
+            record.byte_start,
+            call.entry,
+        );
+        let states = read.expect("a number is read").states;
+        self.counted.insert((case.name(), width, states));
+        Some((width, *value))
     }
 
     fn of(size: Size, scenarios: usize) -> Self {
@@ -112,6 +140,25 @@ fn everything_is_reached() {
         "{}",
         coverage.longest_list
     );
+}
+
+/// Every width of each form with entries of every set, and numbers below zero and not.
+#[test]
+fn every_number_is_reached() {
+    let coverage = Coverage::of(Size::Full, 20_000);
+    let forms: [(&str, usize); 3] = [("unsigned", 1), ("signed", 1), ("decimal", 4)];
+    let widths = forms.into_iter().flat_map(|(name, step)| {
+        let widths = (step as u32..=64).step_by(step);
+        widths.map(move |width| (name, width))
+    });
+    let counted: BTreeSet<_> = widths
+        .flat_map(|(name, width)| SETS.map(|states| (name, width, states)))
+        .collect();
+    assert_eq!(coverage.counted, counted);
+    let signs = [false, true]
+        .into_iter()
+        .flat_map(|below| (1..=64).map(move |width| (below, width)));
+    assert_eq!(coverage.signs, signs.collect());
 }
 
 #[test]

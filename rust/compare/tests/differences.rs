@@ -1,4 +1,4 @@
-//! Every known difference between wellen and document 01, at a smallest input: what document 01 says, what wellen
+//! Every known difference between wellen and documents 01 and 02, at a smallest input: what the document says, what wellen
 //! does, and that the call is outside the domain of the comparison.
 #![cfg(wellen)]
 
@@ -10,6 +10,7 @@ use compare::operations::compare::Compare;
 use compare::operations::derive::Derive;
 use compare::operations::fresh::Fresh;
 use compare::operations::look_up::LookUp;
+use compare::operations::number::{Number, Unsigned};
 use compare::operations::read::Read;
 use compare::operations::text::Text;
 use compare::record::{LentRecord, cut};
@@ -37,6 +38,17 @@ fn accepted<Answer>(verdict: Verdict<Answer>) -> Option<Outcome<Answer>> {
 fn vector(width: u32, max_states: States, bytes: &[u8], indices: &[u32]) -> LentRecord {
     let encoding = Encoding::BitVector { width, max_states };
     LentRecord::new(Description::of(encoding, indices), bytes, indices)
+}
+
+#[test]
+fn bits_above_the_64th_are_dropped() {
+    let record = vector(65, States::Two, &[1, 0, 0, 0, 0, 0, 0, 0, 0], &[0]);
+    let call = Number {
+        record: record.without_indices(),
+        entry: 0,
+        form: Unsigned,
+    };
+    assert_eq!(differing(&call, Err(16)), Some(0));
 }
 
 #[test]

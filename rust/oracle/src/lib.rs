@@ -1,7 +1,7 @@
-//! The oracle: every operation of document 01 on plain lists, written from the
-//! document, its readings in docs/DECISIONS.md, and the letters of IEEE 1364 and IEEE 1164.
+//! The oracle: every operation of documents 01 and 02 on plain lists, written from the
+//! documents, their readings in docs/DECISIONS.md, and the letters of IEEE 1364 and IEEE 1164.
 //!
-//! It is meant to be checked line by line against the document, so it takes the
+//! It is meant to be checked line by line against the documents, so it takes the
 //! plainest form of each sentence: an entry is a list of bits, a string is a list of
 //! codes, and each operation tries its refusals in the order written.
 
@@ -15,6 +15,7 @@ mod fresh;
 mod history;
 mod level;
 mod look_up;
+mod number;
 mod read;
 mod record;
 mod text;
@@ -28,6 +29,7 @@ pub use fresh::{fresh, fresh_real};
 pub use history::{Fed, history, history_laid_out};
 pub use level::States;
 pub use look_up::{Offset, look_up};
+pub use number::{Form, number};
 pub use read::{Entry, Kind, read};
 pub use record::{Description, Encoding};
 pub use text::text;
@@ -37,7 +39,7 @@ pub const MAXIMUM: u32 = 1_048_576;
 /// The greatest width of a bit vector (document 01, Fresh).
 pub const MAX_WIDTH: u32 = 4_096;
 
-/// A refusal's number in document 01.
+/// A refusal's number in documents 01 and 02.
 #[derive(Clone, Copy, PartialEq, Eq, Debug, PartialOrd, Ord)]
 pub struct Refusal(pub u8);
 

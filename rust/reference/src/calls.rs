@@ -153,6 +153,11 @@ impl Record {
         refusing(|| self.value(entry).to_bit_string())
     }
 
+    /// wellen's `u64` of a bit vector; none where it is an error, and for a real or an event.
+    pub fn unsigned(&self, entry: u32) -> Result<Option<u64>, Refused> {
+        refusing(|| self.unsigned_unguarded(entry))
+    }
+
     pub fn read(&self, entry: u32) -> Result<Value, Refused> {
         refusing(|| match self.value(entry) {
             SignalValueRef::Event => Value::Event,
@@ -187,6 +192,14 @@ impl Record {
     /// The text of an entry in the same way.
     pub fn text_unguarded(&self, entry: u32) -> Option<String> {
         self.value(entry).to_bit_string()
+    }
+
+    /// The number of an entry in the same way.
+    pub fn unsigned_unguarded(&self, entry: u32) -> Option<u64> {
+        match self.value(entry) {
+            SignalValueRef::BitVec(vector) => vector.try_into().ok(),
+            _ => None,
+        }
     }
 
     /// A look-up in the same way.

@@ -99,6 +99,21 @@ fn a_part_is_placed_within_the_used_bytes() {
 }
 
 #[test]
+fn a_number_is_wellens_own() {
+    let mut writer = Writer::fresh(4);
+    for (index, string) in ["1010", "10x0"].into_iter().enumerate() {
+        let added = writer.add_change(index as u32, &text(string));
+        added.expect("a valid change");
+    }
+    let record = writer.finish().expect("a record");
+    assert_eq!(record.unsigned(0), Ok(Some(10)));
+    assert_eq!(record.unsigned(1), Ok(None));
+    assert_eq!(record.unsigned(2), Err(Refused));
+    let reals = Record::new(Description::counting(Encoding::Real, 1), &[0; 8], &[0]);
+    assert_eq!(reals.expect("a record").unsigned(0), Ok(None));
+}
+
+#[test]
 fn wellen_has_no_name_0() {
     let empty = oracle::empty_derivation();
     assert_eq!(add_piece(&empty, Side::Left, 0, 0, 0), Err(Refused));

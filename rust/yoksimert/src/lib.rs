@@ -35,6 +35,8 @@ assert_eq!(low.get_entry(1)?.to_string(), "01");
 #[cfg(archive)]
 mod derived;
 #[cfg(archive)]
+mod number;
+#[cfg(archive)]
 #[allow(unsafe_code, reason = "the calls through C's interface")]
 pub mod raw;
 #[cfg(archive)]

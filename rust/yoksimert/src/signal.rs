@@ -189,8 +189,7 @@ impl Signal {
     /// [`Refusal::NoSuchEntry`]. [`Refusal::BadRecord`] and [`Refusal::BadMark`] for a record that no writer made.
     #[inline]
     pub fn get_entry(&self, entry: usize) -> Result<SignalValueRef<'_>, Refusal> {
-        // A record has fewer entries than `u32::MAX`.
-        let entry = u32::try_from(entry).unwrap_or(u32::MAX);
+        let entry = entry_number(entry);
         let answer = raw::read(self.description(), &self.bytes, 0, entry);
         accepted(answer.number)?;
         // An accepted Read gives a part of the bytes it was lent, and 8 bytes for a real.
@@ -276,6 +275,12 @@ pub(crate) fn cut(
 /// The bytes of an entry under the set Nine, the most under any: a byte for each two levels, and one for the mark or the odd level.
 pub(crate) fn entry_bound(width: u32) -> usize {
     width as usize / 2 + 1
+}
+
+/// An entry's number for the archive; one too great is above every entry's, as a record has fewer entries than `u32::MAX`.
+#[inline]
+pub(crate) fn entry_number(entry: usize) -> u32 {
+    u32::try_from(entry).unwrap_or(u32::MAX)
 }
 
 /// Where the changes of a time index are in a record.

@@ -202,14 +202,25 @@ impl PartialEq for BitVecRef<'_> {
     }
 }
 
-/// The number that the levels `0` and `1` stand for, the first the highest; an error if there are other levels, or it takes more than 64
-/// bits.
+/// As [`Signal::get_unsigned`]: an error if there are more than 64 levels, or others than `0` and `1`.
 impl TryFrom<BitVecRef<'_>> for u64 {
     type Error = ();
 
+    #[inline]
     fn try_from(value: BitVecRef<'_>) -> Result<Self, ()> {
-        let text = value.bit_string().map_err(|_| ())?;
-        u64::from_str_radix(&text, 2).map_err(|_| ())
+        let number = value.signal.get_unsigned(value.entry as usize);
+        number.map_err(|_| ())
+    }
+}
+
+/// As [`Signal::get_signed`]: an error if there are more than 64 levels, or others than `0` and `1`.
+impl TryFrom<BitVecRef<'_>> for i64 {
+    type Error = ();
+
+    #[inline]
+    fn try_from(value: BitVecRef<'_>) -> Result<Self, ()> {
+        let number = value.signal.get_signed(value.entry as usize);
+        number.map_err(|_| ())
     }
 }
 
@@ -223,6 +234,26 @@ impl TryFrom<SignalValueRef<'_>> for u64 {
             SignalValueRef::BitVec(levels) => levels.try_into(),
             SignalValueRef::Real(real) => {
                 let number = u64::try_from(real as u128).map_err(|_| ())?;
+                if number as f64 == real {
+                    Ok(number)
+                } else {
+                    Err(())
+                }
+            }
+        }
+    }
+}
+
+/// An error for an event, for a real that is no whole number of 64 bits with a sign, and where the levels are no number.
+impl TryFrom<SignalValueRef<'_>> for i64 {
+    type Error = ();
+
+    fn try_from(value: SignalValueRef<'_>) -> Result<Self, ()> {
+        match value {
+            SignalValueRef::Event => Err(()),
+            SignalValueRef::BitVec(levels) => levels.try_into(),
+            SignalValueRef::Real(real) => {
+                let number = i64::try_from(real as i128).map_err(|_| ())?;
                 if number as f64 == real {
                     Ok(number)
                 } else {

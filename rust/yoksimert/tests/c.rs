@@ -11,6 +11,16 @@ const EXPECTED: &str = "\
 9: start 1, 2, unequal, next 9
 12: 41 01
 text: 0 1, compared: 0 equal
+w1: unsigned 0 1, signed 0 -1, decimal 16 0
+w12: unsigned 0 837, signed 0 837, decimal 0 345
+w64: unsigned 0 18446744073709551615, signed 0 -1, decimal 18 0
+w64: unsigned 0 9223372036854775808, signed 0 -9223372036854775808, decimal 0 8000000000000000
+w64: unsigned 0 9223372036854775807, signed 0 9223372036854775807, decimal 18 0
+w64: unsigned 0 11068046444225730969, signed 0 -7378697629483820647, decimal 0 9999999999999999
+w65: unsigned 16 0, signed 16 0, decimal 16 0
+w2: unsigned 17 0, signed 17 0, decimal 16 0
+w4: unsigned 17 0, signed 17 0, decimal 17 0
+w4: unsigned 0 10, signed 0 -6, decimal 18 0
 ";
 
 #[test]

@@ -126,17 +126,19 @@ fn c_type(kind: &str) -> String {
         "uint16_t" => "u16".to_string(),
         "uint32_t" => "u32".to_string(),
         "uint64_t" => "u64".to_string(),
+        "int64_t" => "i64".to_string(),
         "size_t" => "usize".to_string(),
         "bool" => "bool".to_string(),
         _ => c_struct(kind),
     }
 }
 
-/// `yoksimert_made` is `FlatMade`.
+/// `yoksimert_made` is `FlatMade`; `yoksimert_signed_number` is `FlatSigned`, as C has a function by the shorter name.
 fn c_struct(name: &str) -> String {
     let name = name
         .strip_prefix("yoksimert_")
         .unwrap_or_else(|| panic!("{name} is no type"));
+    let name = name.strip_suffix("_number").unwrap_or(name);
     format!("Flat{}{}", name[..1].to_uppercase(), &name[1..])
 }
 
@@ -227,7 +229,7 @@ fn of_header() -> Items {
 #[test]
 fn the_three_texts_agree() {
     let rattle = of_rattle();
-    assert!(rattle.len() >= 9 + 15, "{rattle:#?}");
+    assert!(rattle.len() >= 11 + 18, "{rattle:#?}");
     assert_eq!(of_rust(&folder("rust/yoksimert/src/raw")), rattle);
     assert_eq!(of_header(), rattle);
 }
@@ -275,7 +277,7 @@ fn the_numbers_of_refusals_agree() {
         .iter()
         .map(|(number, rest)| (*number, rest.split(' ').next().unwrap_or_default().into()))
         .collect();
-    assert!(named.len() >= 15, "{named:?}");
+    assert!(named.len() >= 18, "{named:?}");
     assert_eq!(refusals_of_rattle(), named);
     let header = file("include/yoksimert.h");
     let head = header.split("*/").next().unwrap_or_default();

@@ -32,6 +32,8 @@ fn the_last_change_of_an_index_holds() {
     let at = at.expect("the flag goes down at index 0");
     assert_eq!(lines[at + 2], "  flag    1     since 0");
     assert_eq!(lines[at + 3], "  lamp    z     since 0");
+    let told = "  the tariff is no decimal number: the width is above 64";
+    assert!(lines[at + 5].starts_with(told), "{}", lines[at + 5]);
     let drawn = format!("  lamp    {}", "╌".repeat(70));
     assert!(lines.contains(&drawn), "{lines:#?}");
 }

@@ -28,6 +28,15 @@ fn each(mut take: impl FnMut(FlatDescription)) {
     }
 }
 
+/// The three calls of Numbers refuse with 2, and their value is 0.
+fn assert_no_number(flat: FlatDescription, bytes: &[u8]) {
+    let [unsigned, decimal] = [raw::unsigned, raw::decimal].map(|call| call(flat, bytes, 0, 0));
+    assert_eq!((unsigned.number, unsigned.value), (2, 0));
+    assert_eq!((decimal.number, decimal.value), (2, 0));
+    let signed = raw::signed(flat, bytes, 0, 0);
+    assert_eq!((signed.number, signed.value), (2, 0));
+}
+
 #[test]
 fn other_numbers_are_refused() {
     let mut refused = 0;
@@ -46,6 +55,7 @@ fn other_numbers_are_refused() {
         let entry = raw::read(flat, &bytes, 0, 0);
         assert_eq!((entry.number, entry.start, entry.length), (2, 0, 0));
         assert_eq!(raw::text(flat, &bytes, 0, 0, &mut out), 2);
+        assert_no_number(flat, &bytes);
         let record = |description| FlatRecord {
             description,
             bytes: &bytes,

@@ -1,6 +1,7 @@
 /* Some of document 01's rows through the header, from C. */
 #include "yoksimert.h"
 
+#include <inttypes.h>
 #include <stdio.h>
 #include <string.h>
 
@@ -10,6 +11,20 @@ static void show(const char *row, const uint8_t *bytes, size_t count) {
     printf("%s:", row);
     for (size_t at = 0; at < count; at++) printf(" %02X", bytes[at]);
     printf("\n");
+}
+
+/* An entry of these levels read in the three ways: of each answer the number and the value. */
+static void show_numbers(const char *levels) {
+    uint8_t bytes[64] = {0};
+    uint32_t index = 0;
+    size_t width = strlen(levels);
+    yoksimert_description recorder = yoksimert_fresh((uint32_t)width).description;
+    yoksimert_recorder_add_change(&recorder, bytes, 64, 0, &index, 1, 0, 0, text(levels), width);
+    yoksimert_number unsigned_number = yoksimert_unsigned(recorder, bytes, 64, 0, 0);
+    yoksimert_signed_number signed_number = yoksimert_signed(recorder, bytes, 64, 0, 0);
+    yoksimert_number decimal_number = yoksimert_decimal(recorder, bytes, 64, 0, 0);
+    printf("w%zu: unsigned %" PRIu32 " %" PRIu64 ", signed %" PRIu32 " %" PRId64 ", decimal %" PRIu32 " %" PRIu64 "\n", width, unsigned_number.number,
+           unsigned_number.value, signed_number.number, signed_number.value, decimal_number.number, decimal_number.value);
 }
 
 int main(void) {
@@ -59,5 +74,17 @@ int main(void) {
     uint32_t number = yoksimert_text(made.description, out, 2, 0, 0, string, 2);
     yoksimert_equal equal = yoksimert_compare(made.description, out, 2, 0, out_indices, 2, 0, made.description, out, 2, 0, out_indices, 2, 0);
     printf("text: %u %s, compared: %u %s\n", number, (const char *)string, equal.number, equal.equal ? "equal" : "unequal");
+
+    /* Document 02: both ends at width 64, -1 at width 1, a fare, and the three refusals. */
+    show_numbers("1");
+    show_numbers("001101000101");
+    show_numbers("1111111111111111111111111111111111111111111111111111111111111111");
+    show_numbers("1000000000000000000000000000000000000000000000000000000000000000");
+    show_numbers("0111111111111111111111111111111111111111111111111111111111111111");
+    show_numbers("1001100110011001100110011001100110011001100110011001100110011001");
+    show_numbers("10000000000000000000000000000000000000000000000000000000000000000");
+    show_numbers("1x");
+    show_numbers("000x");
+    show_numbers("1010");
     return 0;
 }

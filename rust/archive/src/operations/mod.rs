@@ -6,6 +6,7 @@ mod compare;
 mod derive;
 mod fresh;
 mod look_up;
+mod number;
 mod read;
 mod text;
 
@@ -15,5 +16,6 @@ pub use compare::compare;
 pub use derive::derive;
 pub use fresh::{fresh, fresh_real, recorder_fresh};
 pub use look_up::look_up;
+pub use number::number;
 pub use read::read;
 pub use text::text;

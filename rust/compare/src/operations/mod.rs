@@ -8,6 +8,7 @@ pub mod compare;
 pub mod derive;
 pub mod fresh;
 pub mod look_up;
+pub mod number;
 pub mod read;
 pub mod text;
 
@@ -23,7 +24,13 @@ pub const OPERATIONS: &[Listed] = &[
     Listed::of::<compare::Compare>(),
     Listed::of::<add_piece::AddPiece>(),
     Listed::of::<derive::Derive>(),
+    Listed::of::<number::Number<number::Unsigned>>(),
+    Listed::of::<number::Number<number::Signed>>(),
+    Listed::of::<number::Number<number::Decimal>>(),
 ];
+
+/// The documents that ask for them, in the order of the stored answers.
+pub const DOCUMENTS: &[u8] = &[1, 2];
 
 /// Every number that an operation refuses with, once each, rising.
 pub fn numbers() -> Vec<u8> {

@@ -12,17 +12,14 @@ const LONG: usize = 3_000;
 const LONGEST: usize = 24_000;
 const LONG_LINES: usize = 6;
 
-/// About `count` lines: document 01's rows and edges, then generated calls.
+/// About `count` lines: of each document its rows and edges, then generated calls.
 pub fn lines(seed: u64, count: usize) -> Result<Vec<String>, String> {
     let mut keeper = Keeper {
         count,
         ..Keeper::default()
     };
-    rows::rows_and_edges(&mut keeper);
-    let mut generator = Generator::new(seed, Size::Small);
-    while keeper.idle < IDLE {
-        keeper.idle += 1;
-        generator.scenario(&mut keeper);
+    for document in operations::DOCUMENTS {
+        keeper.choose(*document, seed);
     }
     keeper.finish()
 }
@@ -31,6 +28,8 @@ pub fn lines(seed: u64, count: usize) -> Result<Vec<String>, String> {
 #[derive(Default)]
 struct Keeper {
     count: usize,
+    /// Calls of other documents are passed over.
+    document: u8,
     lines: Vec<String>,
     seen: HashSet<String>,
     kept: BTreeMap<(&'static str, u8, char), usize>,
@@ -40,6 +39,16 @@ struct Keeper {
 }
 
 impl Keeper {
+    fn choose(&mut self, document: u8, seed: u64) {
+        (self.document, self.idle) = (document, 0);
+        rows::rows_and_edges(self);
+        let mut generator = Generator::new(seed, Size::Small);
+        while self.idle < IDLE {
+            self.idle += 1;
+            generator.scenario(self);
+        }
+    }
+
     fn keep(&mut self, case: &dyn Case, judge: char) {
         let (operation, line) = (case.name(), case.line());
         let (kept, share) = if line.len() > LONG {
@@ -72,6 +81,9 @@ impl Keeper {
 
 impl Receiver for Keeper {
     fn take(&mut self, case: &dyn Case) {
+        if case.document() != self.document {
+            return;
+        }
         match case.judge() {
             Some(judge) => self.keep(case, judge),
             None => self.disagreement = Some(case.line()),

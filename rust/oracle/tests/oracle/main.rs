@@ -1,8 +1,9 @@
 //! Document 01's rows, edges, readings and refusals through the public operations,
-//! and its laws over generated runs.
+//! its laws over generated runs, and document 02's numbers.
 
 mod derivations;
 mod generated;
+mod numbers;
 mod refusals;
 mod rows;
 mod support;

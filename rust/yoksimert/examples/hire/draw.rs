@@ -23,10 +23,15 @@ pub fn ruler(columns: usize) -> [String; 2] {
     [numbers.collect(), tens.map(|_| "|         ").collect()]
 }
 
-/// The value that holds from an offset on: of several changes at one index that of the last.
-pub fn held<'a>(signal: &'a Signal, offset: &DataOffset) -> Result<SignalValueRef<'a>, Refusal> {
+/// The entry that holds from an offset on: of several changes at one index the last.
+pub fn last(offset: &DataOffset) -> usize {
     // 0 elements are 65,536.
-    signal.get_value_at(offset, offset.elements.wrapping_sub(1))
+    offset.start + usize::from(offset.elements.wrapping_sub(1))
+}
+
+/// The value of that entry.
+pub fn held<'a>(signal: &'a Signal, offset: &DataOffset) -> Result<SignalValueRef<'a>, Refusal> {
+    signal.get_entry(last(offset))
 }
 
 /// A wire as a line at the height of its level, a bus as its levels behind a bar at each change.

@@ -25,6 +25,7 @@ pub fn hire(text: &str) -> Result<Vec<String>, Box<dyn Error>> {
     for lead in &capture.leads {
         lines.push(moment(lead, start)?);
     }
+    lines.extend(decimal(tariff, start)?);
     lines.push(
         "\nDerived: flag, lamp and tariff side by side, and the two lower wires of the tariff"
             .into(),
@@ -111,6 +112,18 @@ fn moment(lead: &Lead, index: u32) -> Result<String, Refusal> {
         Some(next) => format!("  {name:<8}{value:<6}since {since}, until {next}"),
         None => format!("  {name:<8}{value:<6}since {since}"),
     })
+}
+
+/// What a bus of decimal digits says at a time index, or why that is no number.
+fn decimal(lead: &Lead, index: u32) -> Result<Option<String>, Refusal> {
+    let Lead { name, signal, .. } = lead;
+    let Some(offset) = signal.get_offset(index)? else {
+        return Ok(None);
+    };
+    Ok(Some(match signal.get_decimal(draw::last(&offset)) {
+        Ok(number) => format!("  the {name} in packed decimal: {number}"),
+        Err(refusal) => format!("  the {name} is no decimal number: {refusal}"),
+    }))
 }
 
 /// Flag, lamp and tariff side by side.

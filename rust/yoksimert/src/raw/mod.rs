@@ -33,6 +33,7 @@ mod compare;
 mod derive;
 mod fresh;
 mod look_up;
+mod number;
 mod read;
 mod text;
 
@@ -44,6 +45,7 @@ pub use compare::{FlatEqual, FlatRecord, compare};
 pub use derive::{FlatInput, FlatInputs, derive};
 pub use fresh::{FlatMade, fresh, fresh_real, recorder_fresh, recorder_fresh_real};
 pub use look_up::{FlatOffset, look_up};
+pub use number::{FlatNumber, FlatSigned, decimal, signed, unsigned};
 pub use read::{FlatEntry, read};
 pub use text::text;
 

@@ -48,6 +48,7 @@ fn replay_of(table: &Table) -> Option<Box<dyn Replay>> {
         "call, number, largest set, indices, bytes" => Box::new(runs::Run::new()),
         "call, number, history" => Box::new(runs::Histories(runs::Run::new())),
         "record, entry, read, own set, part, lent, text, characters" => Box::new(reading::Reading),
+        "record, entry, form, number, value" => Box::new(reading::Counting),
         "first, second, answer" => Box::new(reading::Comparing),
         "indices, sought, answer, start, entries, equal, next" => Box::new(reading::Lookups),
         "call, number, width, names, pieces, packed" => Box::new(derivations::Pieces::new()),

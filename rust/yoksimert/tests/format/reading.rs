@@ -1,4 +1,4 @@
-//! Read, Text, Compare and Look up.
+//! Read, Text, Numbers, Compare and Look up.
 
 use yoksimert::raw;
 
@@ -34,6 +34,22 @@ impl Replay for Reading {
         row[7] = quoted((text == 0).then_some(string));
         let shown = vec![("Read an entry", read), ("Text of an entry", text)];
         (row, shown)
+    }
+}
+
+/// record, entry, form, number, value
+pub struct Counting;
+
+impl Replay for Counting {
+    fn row(&mut self, cells: &[String]) -> (Vec<String>, Shown) {
+        let (number, value) = record(span(&cells[0])).number(number(&cells[1]), &cells[2]);
+        let mut row = cells[..3].to_vec();
+        row.push(number.to_string());
+        row.push(match number {
+            0 => value.to_string(),
+            _ => NOTHING.to_string(),
+        });
+        (row, vec![("Numbers", number)])
     }
 }
 

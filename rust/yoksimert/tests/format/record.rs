@@ -124,6 +124,22 @@ impl Record {
         text
     }
 
+    /// The number of a call of Numbers, and the value.
+    pub fn number(&self, entry: u32, form: &str) -> (u32, i128) {
+        let (slices, flat) = (self.alone(), self.description);
+        let (bytes, start) = (&slices.bytes, slices.start);
+        let plain = |answer: raw::FlatNumber| (answer.number, i128::from(answer.value));
+        match form {
+            "unsigned" => plain(raw::unsigned(flat, bytes, start, entry)),
+            "signed" => {
+                let answer = raw::signed(flat, bytes, start, entry);
+                (answer.number, answer.value.into())
+            }
+            "decimal" => plain(raw::decimal(flat, bytes, start, entry)),
+            _ => panic!("no form: {form}"),
+        }
+    }
+
     pub fn equals(&self, other: &Record) -> raw::FlatEqual {
         let (a, b) = (self.alone(), other.alone());
         raw::compare(flat(self.description, &a), flat(other.description, &b))

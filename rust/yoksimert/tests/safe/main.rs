@@ -5,6 +5,7 @@ mod derived;
 mod flat;
 mod growth;
 mod judged;
+mod numbers;
 mod random;
 mod records;
 mod rows;
