@@ -19,6 +19,8 @@ use Rattle.signal.specs.declared.EntryAnswer.{EntryAnswer}
 use Rattle.signal.specs.declared.EntryAnswer.the-variants as answer
 use Rattle.signal.specs.Read.{Entry, readEntry, replyOf, partOf, readText}
 use Rattle.equality.specs.Compare.{compareRecords}
+use Rattle.numbers.specs.declared.Form.{Form}
+use Rattle.numbers.specs.Number.{Value, readNumber}
 use Rattle.yoksimert.specs.declared.FlatDescription.{FlatDescription}
 use Rattle.yoksimert.specs.declared.FlatAdded.{FlatAdded}
 use Rattle.yoksimert.specs.declared.FlatEntry.{FlatEntry}
@@ -26,7 +28,7 @@ use Rattle.yoksimert.specs.declared.FlatEqual.{FlatEqual}
 use Rattle.yoksimert.specs.declared.Decoded.{Decoded}
 use Rattle.yoksimert.specs.declared.Decoded.the-variants.{Known, Unknown}
 use Rattle.yoksimert.specs.Flat.{decoded, encoded, kindNumber, noEntry, flatEntry, flatEqual}
-use Rattle.yoksimert.specs.Exports.{FlatRecorder, flatLeft, addTo, flatAdd, leftByFlat, flatRead, flatText, flatCompare}
+use Rattle.yoksimert.specs.Exports.{FlatRecorder, flatLeft, addTo, flatAdd, leftByFlat, flatRead, flatText, flatReadNumber, flatCompare}
 use Rattle.yoksimert.proofs.Numbers.{forth}
 
 -- ---- Add a change
@@ -70,6 +72,17 @@ module _ (f : FlatDescription) (bytes : List ℕ) (start k : ℕ) (out : List �
       → _≡_ {A = Outcome (List ℕ)} (record { refused = n; left = left }) (flatText f bytes start k out)
   unfolding flatText
   text-known d h n m left q e = rw h (ap (λ (x : ℕ). record { refused = x; left = left }) q ∙ e)
+
+-- ---- Numbers
+
+module _ (f : Form) (d : FlatDescription) (bytes : List ℕ) (start k : ℕ) where
+  pub number-unknown : decoded d ≡ Unknown → refused 2 ≡ flatReadNumber f d bytes start k
+  unfolding flatReadNumber
+  number-unknown h = rw h
+
+  pub number-known : {e : Description} → decoded d ≡ Known e → {r : Reply (Value f)} → r ≡ readNumber f e bytes start k → r ≡ flatReadNumber f d bytes start k
+  unfolding flatReadNumber
+  number-known h q = rw h q
 
 -- ---- Compare
 

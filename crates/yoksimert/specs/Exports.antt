@@ -3,11 +3,13 @@
 use Prim.Native.Nat.{ℕ, _+_, _*_}
 use mathlib.Core.List.{List}
 use Rattle.fst.specs.declared.Description.{Description}
-use Rattle.fst.specs.Refusal.{Outcome, refused}
+use Rattle.fst.specs.Refusal.{Reply, Outcome, refused}
 use Rattle.fst.specs.Record.{Lent, Recorder, sizeOf}
 use Rattle.fst.specs.Change.{Change, addChange}
 use Rattle.signal.specs.Read.{readEntry, readText}
 use Rattle.equality.specs.Compare.{compareRecords}
+use Rattle.numbers.specs.declared.Form.{Form}
+use Rattle.numbers.specs.Number.{Value, readNumber}
 use Rattle.yoksimert.specs.declared.FlatDescription.{FlatDescription}
 use Rattle.yoksimert.specs.declared.Decoded.{Decoded}
 use Rattle.yoksimert.specs.declared.Decoded.the-variants.{Known, Unknown}
@@ -39,7 +41,7 @@ addTo Unknown f l i c = leftByFlat 2 f (l .bytes) (l .indices)
 unfoldable pub flatAdd : FlatDescription → Lent → ℕ → Change → Outcome FlatRecorder
 flatAdd f l i c = addTo (decoded f) f l i c
 
--- ---- Read an entry, Text of an entry, Compare
+-- ---- Read an entry, Text of an entry, Numbers, Compare
 
 abbrev pub readIn : Decoded → List ℕ → ℕ → ℕ → FlatEntry
 readIn (Known d) bytes start k = flatEntry (start + (k * sizeOf (d .encoding) + sizeOf (d .encoding))) (readEntry d bytes start k)
@@ -54,6 +56,13 @@ readTextIn Unknown bytes start k out = record { refused = 2; left = out }
 
 unfoldable pub flatText : FlatDescription → List ℕ → ℕ → ℕ → List ℕ → Outcome (List ℕ)
 flatText f bytes start k out = readTextIn (decoded f) bytes start k out
+
+abbrev pub readNumberIn : (f : Form) → Decoded → List ℕ → ℕ → ℕ → Reply (Value f)
+readNumberIn f (Known d) bytes start k = readNumber f d bytes start k
+readNumberIn f Unknown bytes start k = refused 2
+
+unfoldable pub flatReadNumber : (f : Form) → FlatDescription → List ℕ → ℕ → ℕ → Reply (Value f)
+flatReadNumber f d bytes start k = readNumberIn f (decoded d) bytes start k
 
 abbrev pub comparedIn : Decoded → Lent → Decoded → Lent → FlatEqual
 comparedIn (Known d) l (Known e) m = flatEqual (compareRecords d l e m)

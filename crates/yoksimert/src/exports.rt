@@ -5,19 +5,24 @@ ghost use Prim.Native.Nat.{ℕ};
 ghost use Rattle.fst.specs.Refusal.{Outcome};
 ghost use Rattle.fst.specs.Record.{lent, fresh, freshReal};
 ghost use Rattle.offset.specs.Offset.{lookUp};
-ghost use Rattle.yoksimert.specs.Flat.{encoded, flatMade, flatOffset};
-ghost use Rattle.yoksimert.specs.Exports.{flatRead, flatText, flatCompare};
+ghost use Rattle.numbers.specs.declared.Form.the-variants.{Unsigned, Signed, Decimal};
+ghost use Rattle.yoksimert.specs.Flat.{encoded, flatMade, flatOffset, flatNumber, flatSigned};
+ghost use Rattle.yoksimert.specs.Exports.{flatRead, flatText, flatReadNumber, flatCompare};
 use crate::Decoded;
 use crate::FlatDescription;
 use crate::FlatEntry;
 use crate::FlatEqual;
 use crate::FlatMade;
+use crate::FlatNumber;
 use crate::FlatOffset;
+use crate::FlatSigned;
 use crate::flat::decode;
 use crate::flat::encode;
 use crate::flat::flat_equal;
 use crate::flat::flat_made;
+use crate::flat::flat_number;
 use crate::flat::flat_offset;
+use crate::flat::flat_signed;
 use crate::flat::kind_number;
 use crate::flat::level_length;
 use crate::flat::no_entry;
@@ -27,6 +32,9 @@ use crate::flat::verdict_number;
 use equality::compare_records;
 use fst::record::fresh;
 use fst::record::fresh_real;
+use numbers::read::read_decimal;
+use numbers::read::read_signed;
+use numbers::read::read_unsigned;
 use offset::get_offset;
 use signal::EntryAnswer;
 use signal::read::read_entry;
@@ -94,6 +102,63 @@ pub extern "C" fn yoksimert_text(
         return 2;
     };
     verdict_number(read_text(known, bytes, byte_start, entry, out))
+}
+
+// An entry as an unsigned number.
+#[no_mangle]
+pub extern "C" fn yoksimert_unsigned(
+    description: FlatDescription,
+    bytes: &[u8],
+    byte_start: usize,
+    entry: u32,
+) -> FlatNumber
+    ensures { λ r. ⌜ r ≡ flatNumber (flatReadNumber Unsigned description (now (bytes .entry)) «byte_start» entry) ⌝ }
+{
+    let Decoded::Known(known) = decode(description) else {
+        return FlatNumber {
+            number: 2,
+            value: 0,
+        };
+    };
+    flat_number(read_unsigned(known, bytes, byte_start, entry))
+}
+
+// An entry as a two's complement number.
+#[no_mangle]
+pub extern "C" fn yoksimert_signed(
+    description: FlatDescription,
+    bytes: &[u8],
+    byte_start: usize,
+    entry: u32,
+) -> FlatSigned
+    ensures { λ r. ⌜ r ≡ flatSigned (flatReadNumber Signed description (now (bytes .entry)) «byte_start» entry) ⌝ }
+{
+    let Decoded::Known(known) = decode(description) else {
+        return FlatSigned {
+            number: 2,
+            value: 0,
+        };
+    };
+    flat_signed(read_signed(known, bytes, byte_start, entry))
+}
+
+// An entry as a packed decimal number.
+#[no_mangle]
+pub extern "C" fn yoksimert_decimal(
+    description: FlatDescription,
+    bytes: &[u8],
+    byte_start: usize,
+    entry: u32,
+) -> FlatNumber
+    ensures { λ r. ⌜ r ≡ flatNumber (flatReadNumber Decimal description (now (bytes .entry)) «byte_start» entry) ⌝ }
+{
+    let Decoded::Known(known) = decode(description) else {
+        return FlatNumber {
+            number: 2,
+            value: 0,
+        };
+    };
+    flat_number(read_decimal(known, bytes, byte_start, entry))
 }
 
 // Compare.

@@ -1,4 +1,4 @@
-// The operations of document 01 for C and Rust: flat structs of numbers in and out, and lent slices. A caller can pass any numbers.
+// The operations of documents 01 and 02 for C and Rust: flat structs of numbers in and out, and lent slices. A caller can pass any numbers.
 use fst::Description;
 
 pub mod derivations;
@@ -64,6 +64,20 @@ pub struct FlatOffset {
     pub time_match: bool,
     pub has_next: bool,
     pub next_index: u32,
+}
+
+// An entry's number, unsigned or packed decimal. On a refusal the value is 0.
+#[repr(C)]
+pub struct FlatNumber {
+    pub number: u32,
+    pub value: u64,
+}
+
+// An entry's signed number.
+#[repr(C)]
+pub struct FlatSigned {
+    pub number: u32,
+    pub value: i64,
 }
 
 // A derivation without its eight names and 64 pieces, which are lent beside it.
