@@ -8,7 +8,7 @@ use lines::has_word;
 // A longer line counts as one that came out otherwise, so that every list fits its buffer.
 const LONGEST: usize = 32768;
 
-// The place of a line's operation among the nine, and 9 for any other.
+// The place of a line's operation among the twelve, and 12 for any other.
 fn operation(line: &[u8]) -> usize {
     if has_word(line, 1, b"fresh") {
         return 0;
@@ -37,7 +37,16 @@ fn operation(line: &[u8]) -> usize {
     if has_word(line, 1, b"derive") {
         return 8;
     }
-    9
+    if has_word(line, 1, b"unsigned") {
+        return 9;
+    }
+    if has_word(line, 1, b"signed") {
+        return 10;
+    }
+    if has_word(line, 1, b"decimal") {
+        return 11;
+    }
+    12
 }
 
 // Whether the call of a line comes out as stored.
@@ -55,6 +64,9 @@ fn agrees(operation: usize, line: &[u8]) -> bool {
         6 => derivations::left(line),
         7 => derivations::right(line),
         8 => derivations::derive(line),
+        9 => calls::unsigned(line),
+        10 => calls::signed(line),
+        11 => calls::decimal(line),
         _ => false,
     }
 }
@@ -143,12 +155,15 @@ fn report_all(agreed: &[u64], first: &[u64]) {
     report(b"left", agreed, first, 6);
     report(b"right", agreed, first, 7);
     report(b"derive", agreed, first, 8);
-    report(b"other", agreed, first, 9);
+    report(b"unsigned", agreed, first, 9);
+    report(b"signed", agreed, first, 10);
+    report(b"decimal", agreed, first, 11);
+    report(b"other", agreed, first, 12);
 }
 
 fn main() {
-    let mut agreed = [0u64; 10];
-    let mut first = [0u64; 10];
+    let mut agreed = [0u64; 13];
+    let mut first = [0u64; 13];
     replay(&mut agreed, &mut first);
     report_all(&agreed, &first);
 }

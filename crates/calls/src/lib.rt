@@ -19,6 +19,9 @@ use lines::number_32;
 use lines::place;
 use lines::read_bytes;
 use lines::read_indices;
+use numbers::NumberAnswer;
+use numbers::SignedAnswer;
+use numbers::read::below_zero;
 use offset::DataOffset;
 use offset::OffsetAnswer;
 use signal::EntryAnswer;
@@ -237,6 +240,76 @@ pub fn text(line: &[u8]) -> bool {
     let count = read_bytes(line, 6, &mut bytes);
     let out_count = read_bytes(line, 9, &mut out);
     is_framed(line, 10, 13) && is_text(line, &bytes[..count], &mut out[..out_count])
+}
+
+// Whether a number has a sign, which is 1 below zero, and is so far from zero.
+fn is_at(value: i64, sign: u64, distance: u64) -> bool {
+    if sign == 0 {
+        return distance < 9223372036854775808 && value == distance as i64;
+    }
+    if distance == 0 {
+        return false;
+    }
+    let beyond = distance - 1;
+    beyond < 9223372036854775808 && value == below_zero(beyond)
+}
+
+fn has_signed(line: &[u8], number: u8, value: i64) -> bool {
+    let sign = lines::number(line, 11);
+    has_pair(line, 10, number as u64, sign % 2) && is_at(value, sign, lines::number(line, 12))
+}
+
+fn is_signed(line: &[u8], bytes: &[u8]) -> bool {
+    let record = description(line, 2);
+    match numbers::read::read_signed(record, bytes, place(line, 7), number_32(line, 8)) {
+        SignedAnswer::Number(value) => has_signed(line, 0, value),
+        SignedAnswer::Refused(refusal) => has_signed(line, refusal.number(), 0),
+    }
+}
+
+pub fn signed(line: &[u8]) -> bool {
+    let mut bytes = io::large_buffer();
+    let count = read_bytes(line, 6, &mut bytes);
+    is_framed(line, 9, 13) && is_signed(line, &bytes[..count])
+}
+
+fn has_value(line: &[u8], answer: NumberAnswer) -> bool {
+    match answer {
+        NumberAnswer::Number(value) => has_pair(line, 10, 0, value),
+        NumberAnswer::Refused(refusal) => has_pair(line, 10, refusal.number() as u64, 0),
+    }
+}
+
+fn is_unsigned(line: &[u8], bytes: &[u8]) -> bool {
+    let record = description(line, 2);
+    let byte_start = place(line, 7);
+    let entry = number_32(line, 8);
+    has_value(
+        line,
+        numbers::read::read_unsigned(record, bytes, byte_start, entry),
+    )
+}
+
+pub fn unsigned(line: &[u8]) -> bool {
+    let mut bytes = io::large_buffer();
+    let count = read_bytes(line, 6, &mut bytes);
+    is_framed(line, 9, 12) && is_unsigned(line, &bytes[..count])
+}
+
+fn is_decimal(line: &[u8], bytes: &[u8]) -> bool {
+    let record = description(line, 2);
+    let byte_start = place(line, 7);
+    let entry = number_32(line, 8);
+    has_value(
+        line,
+        numbers::read::read_decimal(record, bytes, byte_start, entry),
+    )
+}
+
+pub fn decimal(line: &[u8]) -> bool {
+    let mut bytes = io::large_buffer();
+    let count = read_bytes(line, 6, &mut bytes);
+    is_framed(line, 9, 12) && is_decimal(line, &bytes[..count])
 }
 
 fn has_equal(line: &[u8], answer: EqualAnswer) -> bool {

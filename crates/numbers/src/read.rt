@@ -1,6 +1,7 @@
 // The three forms of reading an entry as a number.
 ghost use mathlib.Core.Path.{_≡_};
 ghost use Prim.Native.Nat.{_<_, _≤_, _^_};
+ghost use lib.IntN.{negsuc};
 ghost use Rattle.fst.specs.declared.Encoding.the-variants.{BitVector};
 ghost use Rattle.signal.specs.Decode.{codesAt};
 ghost use Rattle.signal.specs.Parts.{Levels, Whole};
@@ -112,6 +113,14 @@ pub fn read_unsigned(
     read_binary(Form::Unsigned, description, bytes, byte_start, entry)
 }
 
+// -1 - m.
+pub fn below_zero(m: u64) -> i64
+    requires { ⌜ m < 2 ^ 63 ⌝ }
+    ensures { λ r. ⌜ r ≡ negsuc m ⌝ }
+{
+    -1 - (m as i64)
+}
+
 // An unsigned number of so many bits as the signed one of the same bits.
 fn signed_of(width: u32, number: u64) -> i64
     requires { ⌜ (1 ≤ width) × (width ≤ 64) × (number < 2 ^ width) ⌝ }
@@ -120,7 +129,7 @@ fn signed_of(width: u32, number: u64) -> i64
     if number >> (width - 1) == 0 {
         return number as i64;
     }
-    -1 - ((ones(width) - number) as i64)
+    below_zero(ones(width) - number)
 }
 
 pub fn read_signed(

@@ -6,8 +6,8 @@ use native.Mathlib.Omega.{arith}
 use borrow.Author.Needs.{needs}
 use lib.IntN.{negsuc}
 use mir.Syntax.{w64}
-use mir.Facts.{toZ-pos}
-use Rattle.numbers.proofs.Forms.{low-half, high-half, low-fits, high-fits, signed-pos, signed-neg, below-fits, below-read}
+use mir.Facts.{toZ-pos, toZ-ofZ}
+use Rattle.numbers.proofs.Forms.{low-half, high-half, low-fits, high-fits, signed-fits, signed-pos, signed-neg}
 use Rattle.numbers.proofs.read.signed_of.Statement.{statement}
 use Rattle.numbers.proofs.read.signed_of.Tie as tie
 
@@ -17,7 +17,7 @@ returns c =
     let p = c .before .pre in
     toZ-pos w64 (low-fits (a .width) (a .number) (p .0) (p .1) (c .if1 .taken)) ∙ sym (signed-pos (a .width) (a .number) (low-half (a .width) (a .number) (c .if1 .taken)))
 
--- what is taken off -1
+-- how far below -1
 off : (c : tie.After-ones) → c .ones .result - c .before .before .args .number ≡ 2 ^ c .before .before .args .width - suc (c .before .before .args .number)
 off c = rw (c .ones .ensures) (omega arith)
 
@@ -26,8 +26,11 @@ off-fits c = let a = c .before .before in rw (off c) (high-fits (a .args .width)
 
 returns-2 : tie.Need-returns-2
 returns-2 c =
-    let a = c .before .before .args in
-    below-read _ (off-fits c) ∙ ap negsuc (off c) ∙ sym (signed-neg (a .width) (a .number) (high-half (a .width) (a .number) (c .before .if1 .left)))
+    let o = c .before in
+    let a = o .before .before in
+    let n = a .args .number in
+    let e = c .below-zero .ensures ∙ ap negsuc (off o) ∙ sym (signed-neg (a .args .width) n (high-half (a .args .width) n (o .before .if1 .left))) in
+    toZ-ofZ (rw e (signed-fits (a .args .width) n (a .pre .0) (a .pre .1))) ∙ e
 
 pub signed-of-spec : {M : Type 1} → statement M
 signed-of-spec =
@@ -40,6 +43,5 @@ signed-of-spec =
     returns
     (λ c κs. search needs)
     (λ c. search needs)
-    (λ c. record { sfits = off-fits c })
-    (λ c. below-fits _ (off-fits c))
+    (λ c κs. off-fits c)
     returns-2)
