@@ -1,6 +1,6 @@
 -- What counts is the characters: the reply by the text alone. And the signed number by the unsigned one.
 -- Assumes nothing.
-use mathlib.Core.Path.{_≡_, refl, sym, ap, _∙_}
+use mathlib.Core.Path.{_≡_, sym, ap, _∙_}
 use mathlib.Core.List.{List, [], _∷_}
 use Prim.Native.Nat.{ℕ}
 use lib.ListN.{length}
@@ -11,11 +11,9 @@ use Rattle.fst.specs.Record.{widthOf}
 use Rattle.fst.proofs.Refusals.{Passed, passes, tried-append}
 use Rattle.signal.specs.Decode.{entryAt, levelsIn, textIn}
 use Rattle.signal.specs.Read.{unreadable}
-use Rattle.numbers.specs.declared.Form.{Form}
-use Rattle.numbers.specs.declared.Form.the-variants.{Unsigned, Signed}
-use Rattle.numbers.specs.Number.{Value, valueOf, isWrongWidth, hasOther, hasHighDigit, readNumber}
-use Rattle.numbers.specs.Parts.{signedBy, readBinary}
-use Rattle.numbers.proofs.Replies.{levels-long, number-refused, signed-is, unsigned-is}
+use Rattle.numbers.specs.Number.{Form, unsigned, signed, Value, valueOf, isWrongWidth, hasOther, hasHighDigit, readNumber}
+use Rattle.numbers.specs.Parts.{signedFrom}
+use Rattle.numbers.proofs.Replies.{levels-long, signed-from}
 
 -- an entry of a record, as it is asked for
 pub record Asked : Type 0 where
@@ -50,7 +48,7 @@ by-levels f a p =
     let v = entryAt e (a .start) (a .bytes) (a .entry) in
     tried-append (unreadable (a .description) (a .bytes) (a .start) (a .entry)) _ _
     ∙ passes _ (unreadable (a .description) (a .bytes) (a .start) (a .entry)) p
-    ∙ ap (λ (w : ℕ). tried (16 ⇐ isWrongWidth f w ∷ 17 ⇐ hasOther (levelsOf a) ∷ 18 ⇐ hasHighDigit f (levelsOf a) ∷ []) (given (valueOf f (levelsOf a)))) (sym (levels-long e v (p .1 .0)))
+    ∙ ap (λ (w : ℕ). tried (16 ⇐ isWrongWidth f w ∷ 17 ⇐ hasOther (levelsOf a) ∷ 18 ⇐ hasHighDigit f (levelsOf a) ∷ []) (given (valueOf f (levelsOf a)))) (sym (levels-long e v))
 
 -- "What counts is the characters"
 pub by-text : (f : Form) (a b : Asked) → Sound a → Sound b → textOf a ≡ textOf b → numberOf f a ≡ numberOf f b
@@ -61,20 +59,6 @@ by-text f a b p q e =
 
 -- ---- the signed number by the unsigned one
 
--- a reply with its value altered
-abbrev pub withValue : {A B : Type 0} → (A → B) → Reply A → Reply B
-withValue f (refused n) = refused n
-withValue f (given a) = given (f a)
-
--- what is tried first is the same for both
-one-binary : (a : Asked) → readBinary Signed (a .description) (a .bytes) (a .start) (a .entry) ≡ numberOf Unsigned a
-unfolding readBinary
-one-binary a = unsigned-is (a .description) (a .bytes) (a .start) (a .entry)
-
 -- both are refused alike, and where they are not, the signed number is the unsigned one or that less 2 ^ w
-pub signed-by-unsigned : (a : Asked) → numberOf Signed a ≡ withValue (signedBy (widthOf (a .description .encoding))) (numberOf Unsigned a)
-signed-by-unsigned a = go (numberOf Unsigned a) refl
-  where
-    go : (r : Reply ℕ) → numberOf Unsigned a ≡ r → numberOf Signed a ≡ withValue (signedBy (widthOf (a .description .encoding))) r
-    go (refused n) e = sym (number-refused Signed (a .description) (a .bytes) (a .start) (a .entry) (one-binary a ∙ e))
-    go (given n) e = sym (signed-is (a .description) (a .bytes) (a .start) (a .entry) (one-binary a ∙ e))
+pub signed-by-unsigned : (a : Asked) → numberOf signed a ≡ signedFrom (widthOf (a .description .encoding)) (numberOf unsigned a)
+signed-by-unsigned a = sym (signed-from (a .description) (a .bytes) (a .start) (a .entry))

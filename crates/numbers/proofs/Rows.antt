@@ -14,9 +14,7 @@ use Rattle.layout.specs.Entry.{entrySize}
 use Rattle.fst.specs.Record.{Kept, hasNoText, widthStands, fitsBytes, isBadBytes}
 use Rattle.fst.proofs.Rows.{around, heldBy, kept}
 use Rattle.signal.specs.Decode.{entryAt, markIn, setIn, levelPart, levelsIn, hasBadMark}
-use Rattle.numbers.specs.declared.Form.{Form}
-use Rattle.numbers.specs.declared.Form.the-variants.{Unsigned, Signed, Decimal}
-use Rattle.numbers.specs.Number.{signedOf, readNumber}
+use Rattle.numbers.specs.Number.{unsigned, signed, decimal, signedOf, readNumber}
 
 -- entry 0 of a record in slices with filler around it, in the three forms
 pub record Counts : Type 0 where
@@ -28,9 +26,9 @@ pub record Counts : Type 0 where
 Read : Counts → Type 0
 Read c =
     let r = around 9 9 (heldBy (c .of)) in
-    (readNumber Unsigned (r .description) (r .bytes) 2 0 ≡ c .unsigned)
-    × (readNumber Signed (r .description) (r .bytes) 2 0 ≡ c .signed)
-    × (readNumber Decimal (r .description) (r .bytes) 2 0 ≡ c .decimal)
+    (readNumber unsigned (r .description) (r .bytes) 2 0 ≡ c .unsigned)
+    × (readNumber signed (r .description) (r .bytes) 2 0 ≡ c .signed)
+    × (readNumber decimal (r .description) (r .bytes) 2 0 ≡ c .decimal)
 
 AllRead : List Counts → Type 0
 AllRead [] = Unit

@@ -9,18 +9,20 @@ use lib.ListN.{length}
 use Rattle.value.specs.Digits.{number, digits}
 use Rattle.value.specs.Slice.{any}
 use Rattle.fst.specs.declared.Description.{Description}
-use Rattle.fst.specs.Refusal.{Reply, refused, given, _⇐_, tried, refusalNumber}
+use Rattle.fst.specs.Refusal.{Reply, refused, given, _⇐_, tried}
 use Rattle.fst.specs.Record.{widthOf}
 use Rattle.signal.specs.Decode.{entryAt, levelsIn}
 use Rattle.signal.specs.Read.{unreadable}
-use Rattle.numbers.specs.declared.Form.{Form}
-use Rattle.numbers.specs.declared.Form.the-variants.{Unsigned, Signed, Decimal}
-use Rattle.numbers.specs.declared.NumberAnswer.{NumberAnswer}
-use Rattle.numbers.specs.declared.NumberAnswer.the-variants as answer
-use Rattle.numbers.specs.declared.SignedAnswer.{SignedAnswer}
-use Rattle.numbers.specs.declared.SignedAnswer.the-variants as signed
+use Rattle.numbers.specs.declared.FlatNumber.{FlatNumber}
+use Rattle.numbers.specs.declared.FlatSigned.{FlatSigned}
 
 -- ---- the number of levels 0 and 1
+
+-- how levels are read
+pub data Form : Type 0 where
+  unsigned : Form
+  signed : Form
+  decimal : Form
 
 -- "two's complement signed": the first level weighs below zero what it weighs above in the unsigned number; `subℕ a b` is a - b
 unfoldable pub signedOf : List ℕ → ℤ
@@ -31,23 +33,23 @@ signedOf (b ∷ levels) = subℕ (number 2 levels) (b * 2 ^ length levels)
 abbrev pub digitsOf : List ℕ → List ℕ
 digitsOf levels = digits 16 (length levels / 4) (number 2 levels)
 
--- by the form that an entry is read in
+-- by the form
 abbrev pub Value : Form → Type 0
-Value Unsigned = ℕ
-Value Signed = ℤ
-Value Decimal = ℕ
+Value unsigned = ℕ
+Value signed = ℤ
+Value decimal = ℕ
 
 abbrev pub valueOf : (f : Form) → List ℕ → Value f
-valueOf Unsigned levels = number 2 levels
-valueOf Signed levels = signedOf levels
-valueOf Decimal levels = number 10 (digitsOf levels)
+valueOf unsigned levels = number 2 levels
+valueOf signed levels = signedOf levels
+valueOf decimal levels = number 10 (digitsOf levels)
 
 -- ---- what is no number
 
 abbrev pub isDecimal : Form → Bool
-isDecimal Unsigned = false
-isDecimal Signed = false
-isDecimal Decimal = true
+isDecimal unsigned = false
+isDecimal signed = false
+isDecimal decimal = true
 
 -- "a width above 64, or not a multiple of 4 for packed decimal, is 16"
 abbrev pub isWrongWidth : Form → ℕ → Bool
@@ -72,11 +74,11 @@ readNumber f d bytes start k =
     ++ (16 ⇐ isWrongWidth f (widthOf (d .encoding)) ∷ 17 ⇐ hasOther levels ∷ 18 ⇐ hasHighDigit f levels ∷ []))
     (given (valueOf f levels))
 
--- the answers, by number and value
-abbrev pub numberReply : NumberAnswer → Reply ℕ
-numberReply (answer.Number n) = given n
-numberReply (answer.Refused r) = refused (refusalNumber r)
+-- the answers; "On every refusal the number comes back", and the value is 0
+abbrev pub flatNumber : Reply ℕ → FlatNumber
+flatNumber (refused n) = record { number = n; value = 0 }
+flatNumber (given v) = record { number = 0; value = v }
 
-abbrev pub signedReply : SignedAnswer → Reply ℤ
-signedReply (signed.Number z) = given z
-signedReply (signed.Refused r) = refused (refusalNumber r)
+abbrev pub flatSigned : Reply ℤ → FlatSigned
+flatSigned (refused n) = record { number = n; value = pos 0 }
+flatSigned (given v) = record { number = 0; value = v }

@@ -108,14 +108,13 @@ fn bits_of(states: States, width: u32, levels: &[u8]) -> Binary
     Binary::Number(working)
 }
 
-// `bits_of` for each set apart, so that each is compiled for its own number of bits.
+// `bits_of`, in one step where one word holds the levels.
 pub fn bits_in(states: States, width: u32, levels: &[u8]) -> Binary
     requires { ⌜ Few width states (now levels) ⌝ }
     ensures { λ r. ⌜ r ≡ bitsOfLevels (codesAt width states (now (levels .entry))) ⌝ }
 {
-    match states {
-        States::Two => bits_of(States::Two, width, levels),
-        States::Four => bits_of(States::Four, width, levels),
-        States::Nine => bits_of(States::Nine, width, levels),
+    if levels.len() <= 8 {
+        return bits_of_word(states, first_word(states, width, levels));
     }
+    bits_of(states, width, levels)
 }

@@ -1,24 +1,18 @@
-// Entries of bit vectors read as numbers, as wellen's `u64` of a value, and in two more forms.
-use fst::Refusal;
-
+// Entries of bit vectors read as numbers: unsigned, as wellen's `u64` of a value, two's complement signed, and packed decimal.
 pub mod bits;
 pub mod read;
 
-// How the levels of an entry are read.
-pub enum Form {
-    Unsigned,
-    Signed,
-    Decimal,
+// An answer: 0 and the value, or the number of a refusal and 0. It crosses to C as it is.
+#[repr(C)]
+pub struct FlatNumber {
+    pub number: u32,
+    pub value: u64,
 }
 
-pub enum NumberAnswer {
-    Number(u64),
-    Refused(Refusal),
-}
-
-pub enum SignedAnswer {
-    Number(i64),
-    Refused(Refusal),
+#[repr(C)]
+pub struct FlatSigned {
+    pub number: u32,
+    pub value: i64,
 }
 
 // Levels as bits, unless one is other than 0 and 1.

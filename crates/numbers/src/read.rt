@@ -1,17 +1,17 @@
-// The three forms of reading an entry as a number.
+// An entry read as a number: the unsigned one first, and by that the two other forms.
 ghost use mathlib.Core.Path.{_≡_};
 ghost use Prim.Native.Nat.{_<_, _≤_, _^_};
 ghost use lib.IntN.{negsuc};
 ghost use Rattle.fst.specs.declared.Encoding.the-variants.{BitVector};
+ghost use mathlib.Core.List.{[], _∷_};
+ghost use Rattle.fst.specs.Refusal.{refused, given, _⇐_, tried, refusalNumber};
 ghost use Rattle.signal.specs.Decode.{codesAt};
 ghost use Rattle.signal.specs.Parts.{Levels, Whole};
-ghost use Rattle.numbers.specs.declared.Form.the-variants.{Unsigned, Signed, Decimal};
-ghost use Rattle.numbers.specs.Number.{isWrongWidth, readNumber, numberReply, signedReply};
-ghost use Rattle.numbers.specs.Parts.{refusedLevels, binaryOf, binaryIn, readBinary, signedBy, decimalBy};
+ghost use Rattle.numbers.specs.Number.{unsigned, signed, decimal, readNumber, flatNumber, flatSigned};
+ghost use Rattle.numbers.specs.Parts.{refusedLevels, binaryOf, binaryIn, signedBy, signedFrom, decimalBy, decimalFrom, hasPartDigit, replyIn, Sized};
 use crate::Binary;
-use crate::Form;
-use crate::NumberAnswer;
-use crate::SignedAnswer;
+use crate::FlatNumber;
+use crate::FlatSigned;
 use crate::bits::bits_in;
 use crate::bits::ones;
 use fst::Description;
@@ -25,81 +25,51 @@ use signal::decode::own_states;
 use signal::read::entry_at;
 use value::States;
 
-fn is_wrong_width(form: Form, width: u32) -> bool
-    ensures { λ r. ⌜ r ≡ isWrongWidth form width ⌝ }
+fn refused(refusal: Refusal) -> FlatNumber
+    ensures { λ r. ⌜ r ≡ flatNumber (refused (refusalNumber refusal)) ⌝ }
 {
-    if 64 < width {
-        return true;
-    }
-    match form {
-        Form::Unsigned => false,
-        Form::Signed => false,
-        Form::Decimal => width % 4 != 0,
+    FlatNumber {
+        number: refusal.number() as u32,
+        value: 0,
     }
 }
 
-// The number of a refusal that 10 comes before.
-fn refused_levels(states: States, width: u32, levels: &[u8], refusal: Refusal) -> NumberAnswer
+// ---- unsigned
+
+// A refusal that 10 comes before.
+fn refused_levels(states: States, width: u32, levels: &[u8], refusal: Refusal) -> FlatNumber
     requires { ⌜ Levels width states (now levels) ⌝ }
-    ensures { λ r. ⌜ numberReply r ≡ refusedLevels (codesAt width states (now (levels .entry))) refusal ⌝ }
+    ensures { λ r. ⌜ r ≡ flatNumber (refusedLevels (codesAt width states (now (levels .entry))) refusal) ⌝ }
 {
     if has_bad_code(width, states, levels) {
-        return NumberAnswer::Refused(Refusal::BadCode);
+        return refused(Refusal::BadCode);
     }
-    NumberAnswer::Refused(refusal)
+    refused(refusal)
 }
 
-// The unsigned number of levels, or 10, 16 or 17. Levels that are all 0 and 1 have no bad code.
-fn binary_of(form: Form, states: States, width: u32, levels: &[u8]) -> NumberAnswer
+// The number of levels, or 10, 16 or 17. Levels that are all 0 and 1 have no bad code.
+fn binary_of(states: States, width: u32, levels: &[u8]) -> FlatNumber
     requires { ⌜ Levels width states (now levels) × (1 ≤ width) ⌝ }
-    ensures { λ r. ⌜ numberReply r ≡ binaryOf form width (codesAt width states (now (levels .entry))) ⌝ }
+    ensures { λ r. ⌜ r ≡ flatNumber (binaryOf width (codesAt width states (now (levels .entry)))) ⌝ }
 {
-    if is_wrong_width(form, width) {
+    if 64 < width {
         return refused_levels(states, width, levels, Refusal::WrongWidth);
     }
     match bits_in(states, width, levels) {
-        Binary::Number(number) => NumberAnswer::Number(number),
+        Binary::Number(value) => FlatNumber { number: 0, value },
         Binary::Other => refused_levels(states, width, levels, Refusal::NotBinary),
     }
 }
 
 // That of an entry, or 9.
-fn binary_in(form: Form, width: u32, max_states: States, entry: &[u8]) -> NumberAnswer
+fn binary_in(width: u32, max_states: States, entry: &[u8]) -> FlatNumber
     requires { ⌜ Whole (BitVector width «max_states») (now entry) ⌝ }
-    ensures { λ r. ⌜ numberReply r ≡ binaryIn form (BitVector width «max_states») (now (entry .entry)) ⌝ }
+    ensures { λ r. ⌜ r ≡ flatNumber (binaryIn (BitVector width «max_states») (now (entry .entry))) ⌝ }
 {
     let OwnStates::Own(states) = own_states(max_states, entry) else {
-        return NumberAnswer::Refused(Refusal::BadMark);
+        return refused(Refusal::BadMark);
     };
-    binary_of(form, states, width, level_part(width, states, entry))
-}
-
-// That of an entry of a record, or 2, 3 or 8.
-fn read_binary(
-    form: Form,
-    description: Description,
-    bytes: &[u8],
-    byte_start: usize,
-    entry: u32,
-) -> NumberAnswer
-    ensures { λ r. ⌜ numberReply r ≡ readBinary form description (now (bytes .entry)) «byte_start» entry ⌝ }
-{
-    if is_bad_bytes(description, bytes, byte_start) {
-        return NumberAnswer::Refused(Refusal::BadRecord);
-    }
-    let encoding = description.encoding;
-    let Encoding::BitVector { width, max_states } = encoding else {
-        return NumberAnswer::Refused(Refusal::WrongKind);
-    };
-    if description.count <= entry {
-        return NumberAnswer::Refused(Refusal::NoSuchEntry);
-    }
-    binary_in(
-        form,
-        width,
-        max_states,
-        entry_at(description, bytes, byte_start, entry),
-    )
+    binary_of(states, width, level_part(width, states, entry))
 }
 
 pub fn read_unsigned(
@@ -107,11 +77,27 @@ pub fn read_unsigned(
     bytes: &[u8],
     byte_start: usize,
     entry: u32,
-) -> NumberAnswer
-    ensures { λ r. ⌜ numberReply r ≡ readNumber Unsigned description (now (bytes .entry)) «byte_start» entry ⌝ }
+) -> FlatNumber
+    ensures { λ r. ⌜ r ≡ flatNumber (readNumber unsigned description (now (bytes .entry)) «byte_start» entry) ⌝ }
 {
-    read_binary(Form::Unsigned, description, bytes, byte_start, entry)
+    if is_bad_bytes(description, bytes, byte_start) {
+        return refused(Refusal::BadRecord);
+    }
+    let encoding = description.encoding;
+    let Encoding::BitVector { width, max_states } = encoding else {
+        return refused(Refusal::WrongKind);
+    };
+    if description.count <= entry {
+        return refused(Refusal::NoSuchEntry);
+    }
+    binary_in(
+        width,
+        max_states,
+        entry_at(description, bytes, byte_start, entry),
+    )
 }
+
+// ---- signed
 
 // -1 - m.
 pub fn below_zero(m: u64) -> i64
@@ -132,25 +118,44 @@ fn signed_of(width: u32, number: u64) -> i64
     below_zero(ones(width) - number)
 }
 
+// The signed answer by the unsigned one.
+pub fn as_signed(width: u32, answer: FlatNumber) -> FlatSigned
+    requires { ⌜ Sized width answer ⌝ }
+    ensures { λ r. ⌜ r ≡ flatSigned (signedFrom width (replyIn answer)) ⌝ }
+{
+    if answer.number != 0 {
+        return FlatSigned {
+            number: answer.number,
+            value: 0,
+        };
+    }
+    FlatSigned {
+        number: 0,
+        value: signed_of(width, answer.value),
+    }
+}
+
 pub fn read_signed(
     description: Description,
     bytes: &[u8],
     byte_start: usize,
     entry: u32,
-) -> SignedAnswer
-    ensures { λ r. ⌜ signedReply r ≡ readNumber Signed description (now (bytes .entry)) «byte_start» entry ⌝ }
+) -> FlatSigned
+    ensures { λ r. ⌜ r ≡ flatSigned (readNumber signed description (now (bytes .entry)) «byte_start» entry) ⌝ }
 {
     let encoding = description.encoding;
-    match read_binary(Form::Signed, description, bytes, byte_start, entry) {
-        NumberAnswer::Number(number) => SignedAnswer::Number(signed_of(encoding.width(), number)),
-        NumberAnswer::Refused(refusal) => SignedAnswer::Refused(refusal),
-    }
+    as_signed(
+        encoding.width(),
+        read_unsigned(description, bytes, byte_start, entry),
+    )
 }
 
-// The decimal number of so many digits of four bits each, or 18.
-fn decimal_of(count: u32, number: u64) -> NumberAnswer
+// ---- packed decimal
+
+// The number of so many digits of four bits each, or 18.
+fn decimal_of(count: u32, number: u64) -> FlatNumber
     requires { ⌜ count ≤ 16 ⌝ }
-    ensures { λ r. ⌜ numberReply r ≡ decimalBy count number ⌝ }
+    ensures { λ r. ⌜ r ≡ flatNumber (decimalBy count number) ⌝ }
 {
     let mut left = count;
     let mut working: u64 = 0;
@@ -158,11 +163,48 @@ fn decimal_of(count: u32, number: u64) -> NumberAnswer
         left -= 1;
         let digit = (number >> (4 * left)) & 15;
         if 9 < digit {
-            return NumberAnswer::Refused(Refusal::NotDecimal);
+            return refused(Refusal::NotDecimal);
         }
         working = 10 * working + digit;
     }
-    NumberAnswer::Number(working)
+    FlatNumber {
+        number: 0,
+        value: working,
+    }
+}
+
+// 16, or else another refusal.
+fn part_digit_or(width: u32, refusal: Refusal) -> FlatNumber
+    ensures { λ r. ⌜ r ≡ flatNumber (tried (16 ⇐ hasPartDigit width ∷ []) (refused (refusalNumber refusal))) ⌝ }
+{
+    if width % 4 != 0 {
+        return refused(Refusal::WrongWidth);
+    }
+    refused(refusal)
+}
+
+// 16, or else the number of the digits.
+fn decimal_in(width: u32, number: u64) -> FlatNumber
+    requires { ⌜ width ≤ 64 ⌝ }
+    ensures { λ r. ⌜ r ≡ flatNumber (decimalFrom width (given number)) ⌝ }
+{
+    if width % 4 != 0 {
+        return refused(Refusal::WrongWidth);
+    }
+    decimal_of(width / 4, number)
+}
+
+// The decimal answer by the unsigned one: 17 comes behind a width that is no multiple of 4, and every other refusal before it.
+pub fn as_decimal(width: u32, answer: FlatNumber) -> FlatNumber
+    requires { ⌜ Sized width answer ⌝ }
+    ensures { λ r. ⌜ r ≡ flatNumber (decimalFrom width (replyIn answer)) ⌝ }
+{
+    let number = answer.number;
+    match number {
+        0 => decimal_in(width, answer.value),
+        17 => part_digit_or(width, Refusal::NotBinary),
+        _ => FlatNumber { number, value: 0 },
+    }
 }
 
 pub fn read_decimal(
@@ -170,12 +212,12 @@ pub fn read_decimal(
     bytes: &[u8],
     byte_start: usize,
     entry: u32,
-) -> NumberAnswer
-    ensures { λ r. ⌜ numberReply r ≡ readNumber Decimal description (now (bytes .entry)) «byte_start» entry ⌝ }
+) -> FlatNumber
+    ensures { λ r. ⌜ r ≡ flatNumber (readNumber decimal description (now (bytes .entry)) «byte_start» entry) ⌝ }
 {
     let encoding = description.encoding;
-    match read_binary(Form::Decimal, description, bytes, byte_start, entry) {
-        NumberAnswer::Number(number) => decimal_of(encoding.width() / 4, number),
-        NumberAnswer::Refused(refusal) => NumberAnswer::Refused(refusal),
-    }
+    as_decimal(
+        encoding.width(),
+        read_unsigned(description, bytes, byte_start, entry),
+    )
 }

@@ -9,6 +9,7 @@ use Rattle.fst.proofs.Adding.{width-known}
 use Rattle.signal.specs.Decode.{codesAt}
 use Rattle.signal.specs.Parts.{Levels}
 use Rattle.signal.proofs.Reading.{some, Owned, owned, bad-told}
+use Rattle.numbers.specs.Number.{flatNumber}
 use Rattle.numbers.specs.Parts.{binaryOf}
 use Rattle.numbers.proofs.Replies.{entry-bad, entry-else}
 use Rattle.numbers.proofs.read.binary_in.Statement.{statement}
@@ -33,9 +34,10 @@ returns-2 c =
     let o = own-part (l .before) in
     let a = c .before .before .before .before .before .before .before .args in
     c .binary-of .ensures
-    ∙ ap (λ (v : List ℕ). binaryOf (a .form) (a .width) (codesAt (a .width) (l .before .before .states .given .0 .0) v)) (l .level-part .ensures ∙ o .part)
-    ∙ ap (binaryOf (a .form) (a .width)) (o .codes)
-    ∙ entry-else _ _ _ (o .sound)
+    ∙ ap flatNumber
+    (ap (λ (v : List ℕ). binaryOf (a .width) (codesAt (a .width) (l .before .before .states .given .0 .0) v)) (l .level-part .ensures ∙ o .part)
+    ∙ ap (binaryOf (a .width)) (o .codes)
+    ∙ entry-else _ _ (o .sound))
 
 pub binary-in-spec : {M : Type 1} → statement M
 binary-in-spec =
@@ -44,7 +46,8 @@ binary-in-spec =
     (λ c κs. some (c .before .pre))
     (λ c. search needs)
     (λ c. search needs)
-    (λ c. entry-bad _ _ _ (bad-told _ _ _ (sym (c .before .before .own-states .ensures) ∙ c .enum-told .given .1)))
+    (λ c κs. search needs)
+    (λ c. let e = c .before in c .refused .ensures ∙ ap flatNumber (entry-bad _ _ (bad-told _ _ _ (sym (e .before .before .own-states .ensures) ∙ e .enum-told .given .1))))
     (λ c κs. own-part c .within)
     binary-of-requires
     returns-2)

@@ -1,9 +1,10 @@
 -- `numbers::read::decimal_of` meets its contract: the number is that of the digits so far.
 -- Assumes nothing.
 use Prim.Native.Nat.{_-_, _≤_, _<_}
-use mathlib.Core.Path.{_≡_, subst}
+use mathlib.Core.Path.{_≡_, ap, _∙_, subst}
 use native.Mathlib.Omega.{arith}
-use Rattle.value.specs.Digits.{digits}
+use borrow.Author.Needs.{needs}
+use Rattle.numbers.specs.Number.{flatNumber}
 use Rattle.numbers.proofs.Forms.{Read, digit-at, digit-high, read-none, read-more, read-fits, read-all}
 use Rattle.numbers.proofs.read.decimal_of.Statement.{statement}
 use Rattle.numbers.proofs.read.decimal_of.Tie as tie
@@ -23,10 +24,12 @@ mul-digit c = omega (arith, few c)
 
 returns : tie.Need-returns Inv-loop μ-loop
 returns c =
-    let a = c .before .before .before .args in
-    let l = c .before .before .loop in
-    let d = digit-at (a .count) (a .number) (l .left) (c .before .loop-test .taken) (l .inv .within) in
-    digit-high (a .count) (a .number) (a .count - l .left) (omega (arith, l .inv .within, c .before .loop-test .taken)) (subst (λ x. 9 < x) d (c .if1 .taken))
+    let i = c .before in
+    let a = i .before .before .before .args in
+    let l = i .before .before .loop in
+    let d = digit-at (a .count) (a .number) (l .left) (i .before .loop-test .taken) (l .inv .within) in
+    c .refused .ensures
+    ∙ ap flatNumber (digit-high (a .count) (a .number) (a .count - l .left) (omega (arith, l .inv .within, i .before .loop-test .taken)) (subst (λ x. 9 < x) d (i .if1 .taken)))
 
 loop-again : tie.Need-loop-again Inv-loop μ-loop
 loop-again c =
@@ -49,7 +52,7 @@ mul-working c =
 returns-2 : tie.Need-returns-2 Inv-loop μ-loop
 returns-2 c =
     let z : c .before .loop .left ≡ 0 = omega (arith, c .loop-test .left) in
-    read-all (rw z at (c .before .loop .inv))
+    ap flatNumber (read-all (rw z at (c .before .loop .inv)))
 
 pub decimal-of-spec : {M : Type 1} → statement M
 decimal-of-spec =
@@ -62,6 +65,7 @@ decimal-of-spec =
     mul-digit
     (λ c. omega (arith, few c))
     (λ c. omega (arith, few c, c .loop-test .taken))
+    (λ c κs. search needs)
     returns
     mul-working
     add-working
