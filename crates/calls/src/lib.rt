@@ -19,8 +19,8 @@ use lines::number_32;
 use lines::place;
 use lines::read_bytes;
 use lines::read_indices;
-use numbers::NumberAnswer;
-use numbers::SignedAnswer;
+use numbers::FlatNumber;
+use numbers::FlatSigned;
 use numbers::read::below_zero;
 use offset::DataOffset;
 use offset::OffsetAnswer;
@@ -254,17 +254,20 @@ fn is_at(value: i64, sign: u64, distance: u64) -> bool {
     beyond < 9223372036854775808 && value == below_zero(beyond)
 }
 
-fn has_signed(line: &[u8], number: u8, value: i64) -> bool {
-    let sign = lines::number(line, 11);
-    has_pair(line, 10, number as u64, sign % 2) && is_at(value, sign, lines::number(line, 12))
+fn has_signed(line: &[u8], answer: FlatSigned) -> bool {
+    let sign = number(line, 11);
+    has_pair(line, 10, answer.number as u64, sign % 2)
+        && is_at(answer.value, sign, number(line, 12))
 }
 
 fn is_signed(line: &[u8], bytes: &[u8]) -> bool {
     let record = description(line, 2);
-    match numbers::read::read_signed(record, bytes, place(line, 7), number_32(line, 8)) {
-        SignedAnswer::Number(value) => has_signed(line, 0, value),
-        SignedAnswer::Refused(refusal) => has_signed(line, refusal.number(), 0),
-    }
+    let byte_start = place(line, 7);
+    let entry = number_32(line, 8);
+    has_signed(
+        line,
+        numbers::read::read_signed(record, bytes, byte_start, entry),
+    )
 }
 
 pub fn signed(line: &[u8]) -> bool {
@@ -273,11 +276,8 @@ pub fn signed(line: &[u8]) -> bool {
     is_framed(line, 9, 13) && is_signed(line, &bytes[..count])
 }
 
-fn has_value(line: &[u8], answer: NumberAnswer) -> bool {
-    match answer {
-        NumberAnswer::Number(value) => has_pair(line, 10, 0, value),
-        NumberAnswer::Refused(refusal) => has_pair(line, 10, refusal.number() as u64, 0),
-    }
+fn has_value(line: &[u8], answer: FlatNumber) -> bool {
+    has_pair(line, 10, answer.number as u64, answer.value)
 }
 
 fn is_unsigned(line: &[u8], bytes: &[u8]) -> bool {

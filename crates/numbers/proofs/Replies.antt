@@ -30,9 +30,11 @@ use Rattle.signal.specs.Read.{unreadable}
 use Rattle.signal.proofs.Reading.{HasEntry}
 use Rattle.numbers.specs.Number.{Form, unsigned, signed, decimal, signedOf, digitsOf, isWrongWidth, hasOther, hasHighDigit, readNumber, flatNumber, flatSigned}
 use Rattle.numbers.specs.declared.FlatNumber.{FlatNumber}
-use Rattle.numbers.specs.Parts.{refusedLevels, binaryOf, binaryIn, signedBy, signedFrom, decimalBy, decimalFrom, hasPartDigit, replyIn, Sized}
+use Rattle.numbers.specs.declared.Binary.{Binary}
+use Rattle.numbers.specs.declared.Binary.the-variants as binary
+use Rattle.numbers.specs.Parts.{refusedLevels, binaryOf, binaryIn, signedBy, signedFrom, decimalBy, decimalFrom, hasPartDigit, replyIn, Sized, Quick, bitsOfLevels}
 use Rattle.numbers.proofs.Forms.{signed-unsigned}
-use Rattle.numbers.proofs.Words.{Known, known-lt}
+use Rattle.numbers.proofs.Words.{Known, known-lt, known-bits}
 
 -- ---- levels
 
@@ -304,3 +306,12 @@ module _ (w : ℕ) (r : Reply ℕ) where
   pub whole-digits : w % 4 ≡ 0 → r ≡ tried (16 ⇐ hasPartDigit w ∷ []) r
   unfolding tried
   whole-digits h = rw (eq-eqb (w % 4) 0 h)
+
+-- ---- a number that is told where nothing is refused
+
+pub quick-none : {r : Reply ℕ} → Quick binary.Other r
+quick-none = record { is = λ n e. let z : _≡_ {A = ℕ} 0 1 = cc in absurd (omega arith) }
+
+pub quick-entry : (e : Encoding) (v : List ℕ) {b : Binary} → hasBadMark e v ≡ false → widthOf e ≤ 64 → b ≡ bitsOfLevels (levelsIn e v) → Quick b (binaryIn e v)
+quick-entry e v m h q =
+    record { is = λ n f. sym (binary-known (widthOf e) (levelsIn e v) h (known-bits (levelsIn e v) (sym q ∙ f)) ∙ entry-else e v m) }

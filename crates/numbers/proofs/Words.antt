@@ -202,10 +202,9 @@ first-told S levels {i} h e f g =
     ∙ sym g
 
 -- levels that are no more than one word holds
-pub one-word : {w : ℕ} {S : States} {levels : List ℕ} → Few w S levels → w * bitsOf S ≤ 64 → {x : ℕ} → x ≡ number 256 (take (lenOf w S) levels) % 2 ^ (w * bitsOf S)
-    → {b : Binary} → b ≡ bitsOfLevels (digits (2 ^ bitsOf S) (perWord S) x) → b ≡ bitsOfLevels (codesAt w S levels)
-one-word {w} {S} {levels} h r e f =
-    sym (first-told S levels (go S r) (h .long) e f) ∙ ap (λ (v : List ℕ). bitsOfLevels (digits (2 ^ bitsOf S) w (number 256 v))) (take-all (length levels) levels (le-refl (length levels)))
+pub one-word : {w : ℕ} {S : States} {levels : List ℕ} → Few w S levels → w * bitsOf S ≤ 64 → {b : Binary}
+    → b ≡ bitsOfLevels (digits (2 ^ bitsOf S) (perWord S) (number 256 levels % 2 ^ (w * bitsOf S))) → b ≡ bitsOfLevels (codesAt w S levels)
+one-word {w} {S} {levels} h r e = e ∙ first-bits S w (number 256 levels) (go S r)
   where
     go : (S : States) → w * bitsOf S ≤ 64 → w ≤ perWord S
     go Two r = omega arith

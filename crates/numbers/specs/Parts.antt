@@ -78,3 +78,7 @@ pub record Sized (w : ℕ) (a : FlatNumber) : Type 0 where
   pub some : a .number ≡ 0 → 1 ≤ w
   pub few : a .number ≡ 0 → w ≤ 64
   pub small : a .number ≡ 0 → a .value < 2 ^ w
+
+-- a number that is told is the reply's
+pub record Quick (b : Binary) (r : Reply ℕ) : Type 0 where
+  pub is : (n : ℕ) → b ≡ binary.Number n → r ≡ given n

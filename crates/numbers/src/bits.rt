@@ -114,7 +114,7 @@ pub fn bits_in(states: States, width: u32, levels: &[u8]) -> Binary
     ensures { λ r. ⌜ r ≡ bitsOfLevels (codesAt width states (now (levels .entry))) ⌝ }
 {
     if levels.len() <= 8 {
-        return bits_of_word(states, first_word(states, width, levels));
+        return bits_of_word(states, number_of(levels) & ones(width * states.bits()));
     }
     bits_of(states, width, levels)
 }

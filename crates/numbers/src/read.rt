@@ -8,7 +8,7 @@ ghost use Rattle.fst.specs.Refusal.{refused, given, _⇐_, tried, refusalNumber
 ghost use Rattle.signal.specs.Decode.{codesAt};
 ghost use Rattle.signal.specs.Parts.{Levels, Whole};
 ghost use Rattle.numbers.specs.Number.{unsigned, signed, decimal, readNumber, flatNumber, flatSigned};
-ghost use Rattle.numbers.specs.Parts.{refusedLevels, binaryOf, binaryIn, signedBy, signedFrom, decimalBy, decimalFrom, hasPartDigit, replyIn, Sized};
+ghost use Rattle.numbers.specs.Parts.{refusedLevels, binaryOf, binaryIn, signedBy, signedFrom, decimalBy, decimalFrom, hasPartDigit, replyIn, Sized, Quick};
 use crate::Binary;
 use crate::FlatNumber;
 use crate::FlatSigned;
@@ -72,12 +72,8 @@ fn binary_in(width: u32, max_states: States, entry: &[u8]) -> FlatNumber
     binary_of(states, width, level_part(width, states, entry))
 }
 
-pub fn read_unsigned(
-    description: Description,
-    bytes: &[u8],
-    byte_start: usize,
-    entry: u32,
-) -> FlatNumber
+// That of an entry of a record, or 2, 3 or 8.
+fn read_binary(description: Description, bytes: &[u8], byte_start: usize, entry: u32) -> FlatNumber
     ensures { λ r. ⌜ r ≡ flatNumber (readNumber unsigned description (now (bytes .entry)) «byte_start» entry) ⌝ }
 {
     if is_bad_bytes(description, bytes, byte_start) {
@@ -95,6 +91,55 @@ pub fn read_unsigned(
         max_states,
         entry_at(description, bytes, byte_start, entry),
     )
+}
+
+// The number of an entry where nothing is refused, and else Other.
+fn quick_in(width: u32, max_states: States, entry: &[u8]) -> Binary
+    requires { ⌜ Whole (BitVector width «max_states») (now entry) ⌝ }
+    ensures { λ r. ⌜ Quick r (binaryIn (BitVector width «max_states») (now (entry .entry))) ⌝ }
+{
+    if 64 < width {
+        return Binary::Other;
+    }
+    let OwnStates::Own(states) = own_states(max_states, entry) else {
+        return Binary::Other;
+    };
+    bits_in(states, width, level_part(width, states, entry))
+}
+
+// That of an entry of a record. `read_unsigned` alone calls it, so that it is compiled into that, which `read_binary` is too long for.
+fn quick_binary(description: Description, bytes: &[u8], byte_start: usize, entry: u32) -> Binary
+    ensures { λ r. ⌜ Quick r (readNumber unsigned description (now (bytes .entry)) «byte_start» entry) ⌝ }
+{
+    if is_bad_bytes(description, bytes, byte_start) {
+        return Binary::Other;
+    }
+    let encoding = description.encoding;
+    let Encoding::BitVector { width, max_states } = encoding else {
+        return Binary::Other;
+    };
+    if description.count <= entry {
+        return Binary::Other;
+    }
+    quick_in(
+        width,
+        max_states,
+        entry_at(description, bytes, byte_start, entry),
+    )
+}
+
+pub fn read_unsigned(
+    description: Description,
+    bytes: &[u8],
+    byte_start: usize,
+    entry: u32,
+) -> FlatNumber
+    ensures { λ r. ⌜ r ≡ flatNumber (readNumber unsigned description (now (bytes .entry)) «byte_start» entry) ⌝ }
+{
+    let Binary::Number(value) = quick_binary(description, bytes, byte_start, entry) else {
+        return read_binary(description, bytes, byte_start, entry);
+    };
+    FlatNumber { number: 0, value }
 }
 
 // ---- signed
@@ -119,7 +164,7 @@ fn signed_of(width: u32, number: u64) -> i64
 }
 
 // The signed answer by the unsigned one.
-pub fn as_signed(width: u32, answer: FlatNumber) -> FlatSigned
+fn as_signed(width: u32, answer: FlatNumber) -> FlatSigned
     requires { ⌜ Sized width answer ⌝ }
     ensures { λ r. ⌜ r ≡ flatSigned (signedFrom width (replyIn answer)) ⌝ }
 {
@@ -146,7 +191,7 @@ pub fn read_signed(
     let encoding = description.encoding;
     as_signed(
         encoding.width(),
-        read_unsigned(description, bytes, byte_start, entry),
+        read_binary(description, bytes, byte_start, entry),
     )
 }
 
@@ -195,7 +240,7 @@ fn decimal_in(width: u32, number: u64) -> FlatNumber
 }
 
 // The decimal answer by the unsigned one: 17 comes behind a width that is no multiple of 4, and every other refusal before it.
-pub fn as_decimal(width: u32, answer: FlatNumber) -> FlatNumber
+fn as_decimal(width: u32, answer: FlatNumber) -> FlatNumber
     requires { ⌜ Sized width answer ⌝ }
     ensures { λ r. ⌜ r ≡ flatNumber (decimalFrom width (replyIn answer)) ⌝ }
 {
@@ -218,6 +263,6 @@ pub fn read_decimal(
     let encoding = description.encoding;
     as_decimal(
         encoding.width(),
-        read_unsigned(description, bytes, byte_start, entry),
+        read_binary(description, bytes, byte_start, entry),
     )
 }

@@ -19,8 +19,7 @@ use Rattle.signal.specs.declared.EntryAnswer.{EntryAnswer}
 use Rattle.signal.specs.declared.EntryAnswer.the-variants as answer
 use Rattle.signal.specs.Read.{Entry, readEntry, replyOf, partOf, readText}
 use Rattle.equality.specs.Compare.{compareRecords}
-use Rattle.numbers.specs.declared.Form.{Form}
-use Rattle.numbers.specs.Number.{Value, readNumber}
+use Rattle.numbers.specs.Number.{Form, readNumber}
 use Rattle.yoksimert.specs.declared.FlatDescription.{FlatDescription}
 use Rattle.yoksimert.specs.declared.FlatAdded.{FlatAdded}
 use Rattle.yoksimert.specs.declared.FlatEntry.{FlatEntry}
@@ -80,9 +79,9 @@ module _ (f : Form) (d : FlatDescription) (bytes : List ℕ) (start k : ℕ) whe
   unfolding flatReadNumber
   number-unknown h = rw h
 
-  pub number-known : {e : Description} → decoded d ≡ Known e → {r : Reply (Value f)} → r ≡ readNumber f e bytes start k → r ≡ flatReadNumber f d bytes start k
+  pub number-known : {e : Description} → decoded d ≡ Known e → readNumber f e bytes start k ≡ flatReadNumber f d bytes start k
   unfolding flatReadNumber
-  number-known h q = rw h q
+  number-known h = rw h
 
 -- ---- Compare
 

@@ -8,8 +8,7 @@ use Rattle.fst.specs.Record.{Lent, Recorder, sizeOf}
 use Rattle.fst.specs.Change.{Change, addChange}
 use Rattle.signal.specs.Read.{readEntry, readText}
 use Rattle.equality.specs.Compare.{compareRecords}
-use Rattle.numbers.specs.declared.Form.{Form}
-use Rattle.numbers.specs.Number.{Value, readNumber}
+use Rattle.numbers.specs.Number.{Form, Value, readNumber}
 use Rattle.yoksimert.specs.declared.FlatDescription.{FlatDescription}
 use Rattle.yoksimert.specs.declared.Decoded.{Decoded}
 use Rattle.yoksimert.specs.declared.Decoded.the-variants.{Known, Unknown}

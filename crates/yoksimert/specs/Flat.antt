@@ -3,7 +3,6 @@
 use Prim.Native.Nat.{ℕ, _-_}
 use mathlib.Core.Bool.{Bool, true, false, cond, _&&_}
 use lib.Dec.{eqb, leb}
-use lib.IntN.{ℤ, pos}
 use lib.ListN.{length}
 use Rattle.value.specs.declared.States.{States}
 use Rattle.value.specs.declared.States.the-variants.{Two}
@@ -27,8 +26,6 @@ use Rattle.yoksimert.specs.declared.FlatMade.{FlatMade}
 use Rattle.yoksimert.specs.declared.FlatEntry.{FlatEntry}
 use Rattle.yoksimert.specs.declared.FlatEqual.{FlatEqual}
 use Rattle.yoksimert.specs.declared.FlatOffset.{FlatOffset}
-use Rattle.yoksimert.specs.declared.FlatNumber.{FlatNumber}
-use Rattle.yoksimert.specs.declared.FlatSigned.{FlatSigned}
 
 -- ---- descriptions
 
@@ -125,11 +122,3 @@ abbrev pub flatOffset : Reply Place → FlatOffset
 flatOffset (refused n) = nowhere n
 flatOffset (given none) = nowhere 0
 flatOffset (given (at o)) = placed o
-
-abbrev pub flatNumber : Reply ℕ → FlatNumber
-flatNumber (refused n) = record { number = n; value = 0 }
-flatNumber (given v) = record { number = 0; value = v }
-
-abbrev pub flatSigned : Reply ℤ → FlatSigned
-flatSigned (refused n) = record { number = n; value = pos 0 }
-flatSigned (given v) = record { number = 0; value = v }

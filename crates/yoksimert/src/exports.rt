@@ -5,24 +5,20 @@ ghost use Prim.Native.Nat.{ℕ};
 ghost use Rattle.fst.specs.Refusal.{Outcome};
 ghost use Rattle.fst.specs.Record.{lent, fresh, freshReal};
 ghost use Rattle.offset.specs.Offset.{lookUp};
-ghost use Rattle.numbers.specs.declared.Form.the-variants.{Unsigned, Signed, Decimal};
-ghost use Rattle.yoksimert.specs.Flat.{encoded, flatMade, flatOffset, flatNumber, flatSigned};
+ghost use Rattle.numbers.specs.Number.{unsigned, signed, decimal, flatNumber, flatSigned};
+ghost use Rattle.yoksimert.specs.Flat.{encoded, flatMade, flatOffset};
 ghost use Rattle.yoksimert.specs.Exports.{flatRead, flatText, flatReadNumber, flatCompare};
 use crate::Decoded;
 use crate::FlatDescription;
 use crate::FlatEntry;
 use crate::FlatEqual;
 use crate::FlatMade;
-use crate::FlatNumber;
 use crate::FlatOffset;
-use crate::FlatSigned;
 use crate::flat::decode;
 use crate::flat::encode;
 use crate::flat::flat_equal;
 use crate::flat::flat_made;
-use crate::flat::flat_number;
 use crate::flat::flat_offset;
-use crate::flat::flat_signed;
 use crate::flat::kind_number;
 use crate::flat::level_length;
 use crate::flat::no_entry;
@@ -32,6 +28,8 @@ use crate::flat::verdict_number;
 use equality::compare_records;
 use fst::record::fresh;
 use fst::record::fresh_real;
+use numbers::FlatNumber;
+use numbers::FlatSigned;
 use numbers::read::read_decimal;
 use numbers::read::read_signed;
 use numbers::read::read_unsigned;
@@ -112,7 +110,7 @@ pub extern "C" fn yoksimert_unsigned(
     byte_start: usize,
     entry: u32,
 ) -> FlatNumber
-    ensures { λ r. ⌜ r ≡ flatNumber (flatReadNumber Unsigned description (now (bytes .entry)) «byte_start» entry) ⌝ }
+    ensures { λ r. ⌜ r ≡ flatNumber (flatReadNumber unsigned description (now (bytes .entry)) «byte_start» entry) ⌝ }
 {
     let Decoded::Known(known) = decode(description) else {
         return FlatNumber {
@@ -120,7 +118,7 @@ pub extern "C" fn yoksimert_unsigned(
             value: 0,
         };
     };
-    flat_number(read_unsigned(known, bytes, byte_start, entry))
+    read_unsigned(known, bytes, byte_start, entry)
 }
 
 // An entry as a two's complement number.
@@ -131,7 +129,7 @@ pub extern "C" fn yoksimert_signed(
     byte_start: usize,
     entry: u32,
 ) -> FlatSigned
-    ensures { λ r. ⌜ r ≡ flatSigned (flatReadNumber Signed description (now (bytes .entry)) «byte_start» entry) ⌝ }
+    ensures { λ r. ⌜ r ≡ flatSigned (flatReadNumber signed description (now (bytes .entry)) «byte_start» entry) ⌝ }
 {
     let Decoded::Known(known) = decode(description) else {
         return FlatSigned {
@@ -139,7 +137,7 @@ pub extern "C" fn yoksimert_signed(
             value: 0,
         };
     };
-    flat_signed(read_signed(known, bytes, byte_start, entry))
+    read_signed(known, bytes, byte_start, entry)
 }
 
 // An entry as a packed decimal number.
@@ -150,7 +148,7 @@ pub extern "C" fn yoksimert_decimal(
     byte_start: usize,
     entry: u32,
 ) -> FlatNumber
-    ensures { λ r. ⌜ r ≡ flatNumber (flatReadNumber Decimal description (now (bytes .entry)) «byte_start» entry) ⌝ }
+    ensures { λ r. ⌜ r ≡ flatNumber (flatReadNumber decimal description (now (bytes .entry)) «byte_start» entry) ⌝ }
 {
     let Decoded::Known(known) = decode(description) else {
         return FlatNumber {
@@ -158,7 +156,7 @@ pub extern "C" fn yoksimert_decimal(
             value: 0,
         };
     };
-    flat_number(read_decimal(known, bytes, byte_start, entry))
+    read_decimal(known, bytes, byte_start, entry)
 }
 
 // Compare.

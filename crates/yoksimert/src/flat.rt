@@ -6,16 +6,13 @@ ghost use Rattle.fst.specs.declared.Encoding.the-variants.{BitVector};
 ghost use Rattle.signal.specs.Read.{kindOf};
 ghost use Rattle.equality.specs.Compare.{equalOf};
 ghost use Rattle.offset.specs.Offset.{offsetOf};
-ghost use Rattle.numbers.specs.Number.{numberReply, signedReply};
-ghost use Rattle.yoksimert.specs.Flat.{known, decoded, encoded, noDescription, kindNumber, noEntry, levelLength, flatMade, flatEqual, nowhere, placed, flatOffset, flatNumber, flatSigned};
+ghost use Rattle.yoksimert.specs.Flat.{known, decoded, encoded, noDescription, kindNumber, noEntry, levelLength, flatMade, flatEqual, nowhere, placed, flatOffset};
 use crate::Decoded;
 use crate::FlatDescription;
 use crate::FlatEntry;
 use crate::FlatEqual;
 use crate::FlatMade;
-use crate::FlatNumber;
 use crate::FlatOffset;
-use crate::FlatSigned;
 use equality::EqualAnswer;
 use fst::Description;
 use fst::Encoding;
@@ -23,8 +20,6 @@ use fst::Made;
 use fst::NextIndex;
 use fst::Refusal;
 use fst::Verdict;
-use numbers::NumberAnswer;
-use numbers::SignedAnswer;
 use offset::DataOffset;
 use offset::OffsetAnswer;
 use signal::Kind;
@@ -249,29 +244,5 @@ pub fn flat_offset(answer: OffsetAnswer) -> FlatOffset
         OffsetAnswer::Nothing => flat_nowhere(0),
         OffsetAnswer::At(offset) => flat_placed(offset),
         OffsetAnswer::Refused(refusal) => flat_nowhere(refusal_number(refusal)),
-    }
-}
-
-pub fn flat_number(answer: NumberAnswer) -> FlatNumber
-    ensures { λ r. ⌜ r ≡ flatNumber (numberReply answer) ⌝ }
-{
-    match answer {
-        NumberAnswer::Number(value) => FlatNumber { number: 0, value },
-        NumberAnswer::Refused(refusal) => FlatNumber {
-            number: refusal_number(refusal),
-            value: 0,
-        },
-    }
-}
-
-pub fn flat_signed(answer: SignedAnswer) -> FlatSigned
-    ensures { λ r. ⌜ r ≡ flatSigned (signedReply answer) ⌝ }
-{
-    match answer {
-        SignedAnswer::Number(value) => FlatSigned { number: 0, value },
-        SignedAnswer::Refused(refusal) => FlatSigned {
-            number: refusal_number(refusal),
-            value: 0,
-        },
     }
 }

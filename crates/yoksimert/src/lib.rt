@@ -66,20 +66,6 @@ pub struct FlatOffset {
     pub next_index: u32,
 }
 
-// An entry's number, unsigned or packed decimal. On a refusal the value is 0.
-#[repr(C)]
-pub struct FlatNumber {
-    pub number: u32,
-    pub value: u64,
-}
-
-// An entry's signed number.
-#[repr(C)]
-pub struct FlatSigned {
-    pub number: u32,
-    pub value: i64,
-}
-
 // A derivation without its eight names and 64 pieces, which are lent beside it.
 #[repr(C)]
 pub struct FlatDerivation {

@@ -184,6 +184,7 @@ fn functions(text: &str, before: &str, after: &[&str]) -> Items {
 fn of_rattle() -> Items {
     let text = flattened(&folder("crates/yoksimert/src"));
     let mut items = structs(&text);
+    items.extend(structs(&flattened(&folder("crates/numbers/src"))));
     let exported = functions(&text, EXPORTED, &[" ensures"]);
     assert_eq!(
         exported.len(),

@@ -46,15 +46,11 @@ impl Form for Unsigned {
     const NAMES: &'static [&'static str] = &["unsigned"];
     const NUMBERS: &'static [u8] = &[2, 3, 8, 9, 10, 16, 17];
     const DEFINITIONS: &'static [Module] = &[
-        Module::new(
-            "Rattle.numbers.specs.declared.Form.the-variants",
-            "Unsigned Signed Decimal",
-        ),
         Module::library("lib.IntN", "pos negsuc", ""),
-        Module::new("Rattle.numbers.specs.Number", ""),
+        Module::new("Rattle.numbers.specs.Number", "unsigned signed decimal"),
     ];
     const FORM: oracle::Form = oracle::Form::Unsigned;
-    const TERM: &'static str = "Unsigned";
+    const TERM: &'static str = "unsigned";
 }
 
 impl Form for Signed {
@@ -62,7 +58,7 @@ impl Form for Signed {
     const NUMBERS: &'static [u8] = Unsigned::NUMBERS;
     const DEFINITIONS: &'static [Module] = &[];
     const FORM: oracle::Form = oracle::Form::Signed;
-    const TERM: &'static str = "Signed";
+    const TERM: &'static str = "signed";
 
     /// Whether it is below zero, and how far it is from zero.
     fn put(value: i128, out: &mut Fields) {
@@ -83,7 +79,7 @@ impl Form for Decimal {
     const NUMBERS: &'static [u8] = &[2, 3, 8, 9, 10, 16, 17, 18];
     const DEFINITIONS: &'static [Module] = &[];
     const FORM: oracle::Form = oracle::Form::Decimal;
-    const TERM: &'static str = "Decimal";
+    const TERM: &'static str = "decimal";
 }
 
 #[derive(Clone, PartialEq, Debug)]

@@ -2,20 +2,18 @@
 -- Assumes nothing.
 use mathlib.Core.Path.{sym, ap, _∙_}
 use borrow.Author.Needs.{needs}
-use Rattle.numbers.specs.declared.Form.the-variants.{Signed}
-use Rattle.yoksimert.specs.Flat.{flatSigned}
+use Rattle.numbers.specs.Number.{signed, flatSigned}
 use Rattle.yoksimert.proofs.Flattened.{number-unknown, number-known}
 use Rattle.yoksimert.proofs.exports.yoksimert_signed.Statement.{statement}
 use Rattle.yoksimert.proofs.exports.yoksimert_signed.Tie as tie
 
 returns : tie.Need-returns
-returns c = ap flatSigned (number-unknown Signed _ _ _ _ (sym (c .before .before .decode .ensures) ∙ c .enum-told .given .1))
+returns c = ap flatSigned (number-unknown signed _ _ _ _ (sym (c .before .before .decode .ensures) ∙ c .enum-told .given .1))
 
 returns-2 : tie.Need-returns-2
 returns-2 c =
-    let r = c .before in
-    let k = r .before .before in
-    c .flat-signed .ensures ∙ ap flatSigned (number-known Signed _ _ _ _ (sym (k .before .before .decode .ensures) ∙ k .known .given .1) (r .read-signed .ensures))
+    let k = c .before .before in
+    c .read-signed .ensures ∙ ap flatSigned (number-known signed _ _ _ _ (sym (k .before .before .decode .ensures) ∙ k .known .given .1))
 
 pub yoksimert-signed-spec : {M : Type 1} → statement M
 yoksimert-signed-spec =
@@ -25,6 +23,5 @@ yoksimert-signed-spec =
     (λ c. search needs)
     (λ c. search needs)
     returns
-    (λ c κs. search needs)
     (λ c κs. search needs)
     returns-2)
