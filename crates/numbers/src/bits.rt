@@ -84,7 +84,7 @@ fn first_word(states: States, count: u32, levels: &[u8]) -> u64
 }
 
 // Levels as bits: the first ones, and then a word at a time.
-fn bits_of(states: States, width: u32, levels: &[u8]) -> Binary
+pub fn bits_of(states: States, width: u32, levels: &[u8]) -> Binary
     requires { ⌜ Few width states (now levels) ⌝ }
     ensures { λ r. ⌜ r ≡ bitsOfLevels (codesAt width states (now (levels .entry))) ⌝ }
 {
@@ -108,7 +108,7 @@ fn bits_of(states: States, width: u32, levels: &[u8]) -> Binary
     Binary::Number(working)
 }
 
-// `bits_of`, in one step where one word holds the levels.
+// `bits_of`, in one step where one word holds the levels. It has one caller, so that it is compiled into that.
 pub fn bits_in(states: States, width: u32, levels: &[u8]) -> Binary
     requires { ⌜ Few width states (now levels) ⌝ }
     ensures { λ r. ⌜ r ≡ bitsOfLevels (codesAt width states (now (levels .entry))) ⌝ }

@@ -13,6 +13,7 @@ use crate::Binary;
 use crate::FlatNumber;
 use crate::FlatSigned;
 use crate::bits::bits_in;
+use crate::bits::bits_of;
 use crate::bits::ones;
 use fst::Description;
 use fst::Encoding;
@@ -55,7 +56,7 @@ fn binary_of(states: States, width: u32, levels: &[u8]) -> FlatNumber
     if 64 < width {
         return refused_levels(states, width, levels, Refusal::WrongWidth);
     }
-    match bits_in(states, width, levels) {
+    match bits_of(states, width, levels) {
         Binary::Number(value) => FlatNumber { number: 0, value },
         Binary::Other => refused_levels(states, width, levels, Refusal::NotBinary),
     }

@@ -11,18 +11,18 @@ use Rattle.numbers.proofs.read.binary_of.Tie as tie
 returns : tie.Need-returns
 returns c = c .refused-levels .ensures ∙ ap flatNumber (binary-wide _ _ (c .before .if1 .taken))
 
-bits-in-requires : tie.Need-bits-in-requires
-bits-in-requires c κs = let p = c .before .before .pre in record { some = p .1; few = c .if1 .left; long = p .0 .long }
+bits-of-requires : tie.Need-bits-of-requires
+bits-of-requires c κs = let p = c .before .before .pre in record { some = p .1; few = c .if1 .left; long = p .0 .long }
 
 returns-2 : tie.Need-returns-2
 returns-2 c =
     let b = c .before .before .before in
-    ap flatNumber (binary-known _ _ (b .before .if1 .left) (known-bits _ (sym (b .bits-in .ensures) ∙ c .before .value .given .1)))
+    ap flatNumber (binary-known _ _ (b .before .if1 .left) (known-bits _ (sym (b .bits-of .ensures) ∙ c .before .value .given .1)))
 
 returns-3 : tie.Need-returns-3
 returns-3 c =
     let b = c .before .before .before in
-    c .refused-levels2 .ensures ∙ ap flatNumber (binary-other _ _ (b .before .if1 .left) (other-bits _ (sym (b .bits-in .ensures) ∙ c .before .enum-told .given .1)))
+    c .refused-levels2 .ensures ∙ ap flatNumber (binary-other _ _ (b .before .if1 .left) (other-bits _ (sym (b .bits-of .ensures) ∙ c .before .enum-told .given .1)))
 
 pub binary-of-spec : {M : Type 1} → statement M
 binary-of-spec =
@@ -30,7 +30,7 @@ binary-of-spec =
     (tie.spec
     (λ c κs. c .before .before .pre .0)
     returns
-    bits-in-requires
+    bits-of-requires
     (λ c. search needs)
     (λ c. search needs)
     (λ c κs. c .before .before .before .before .before .pre .0)
