@@ -63,13 +63,16 @@ fn bits_of_word(states: States, x: u64) -> Binary
     }
 }
 
-// The number of at most eight bytes.
+// The number of at most eight bytes; eight, and the two of eight wires of Four, are one load.
 fn number_of(bytes: &[u8]) -> u64
     requires { ⌜ length (now bytes) ≤ 8 ⌝ }
     ensures { λ r. ⌜ r ≡ number 256 (now (bytes .entry)) ⌝ }
 {
     if bytes.len() == 8 {
         return word(bytes);
+    }
+    if bytes.len() == 2 {
+        return number_at(bytes, 0, 2);
     }
     number_at(bytes, 0, bytes.len())
 }
