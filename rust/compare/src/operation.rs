@@ -151,7 +151,7 @@ pub trait Case {
     fn has_reference(&self) -> bool;
     /// Whether it is compared with the archive.
     fn is_exported(&self) -> bool;
-    /// Who decides it in the stored answers: `w` where wellen answered, `d` where document 01 alone does; none if they
+    /// Who decides it in the stored answers: `w` where wellen answered, `d` where the documents alone do; none if they
     /// disagree.
     fn judge(&self) -> Option<char>;
     /// What wellen, the archive and the laws have against the outcome.

@@ -66,7 +66,7 @@ fn write(arguments: &[String]) -> Result<String, String> {
 fn header(seed: u64, count: u64) -> String {
     format!(
         "# Made by: answers write --seed {seed} --count {count} FILE\n\
-         # One call a line: who answered (w wellen, d document 01 alone), operation, what goes in, =, what comes out.\n\
+         # One call a line: who answered (w wellen, d the documents alone), operation, what goes in, =, what comes out.\n\
          # Numbers decimal, bytes hexadecimal, indices 8 and pieces 16 hexadecimal digits each, . for an empty list.\n\
          # README.md beside this file has the fields of each operation.\n"
     )
