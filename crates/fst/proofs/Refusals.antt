@@ -76,13 +76,6 @@ tried-append [] ys r = refl
 tried-append ((n ⇐ true) ∷ xs) ys r = refl
 tried-append ((n ⇐ false) ∷ xs) ys r = tried-append xs ys r
 
--- what is behind the tests is given where each passes
-pub tried-given : {A : Type 0} (l : List Test) (a : A) {x : A} → tried l (given a) ≡ given x → Passed l × (x ≡ a)
-unfolding tried
-tried-given [] a e = (tt, cc)
-tried-given ((n ⇐ true) ∷ l) a e = let z : _≡_ {A = ℕ} 0 1 = cc in absurd (omega arith)
-tried-given ((n ⇐ false) ∷ l) a e = let t = tried-given l a e in ((refl, t .0), t .1)
-
 -- a refusal does not depend on it
 pub tried-refused : {A B : Type 0} (l : List Test) (a : A) (r : Reply B) {n : ℕ} → tried l (given a) ≡ refused n → tried l r ≡ refused n
 unfolding tried

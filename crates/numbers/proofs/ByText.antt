@@ -6,7 +6,7 @@ use Prim.Native.Nat.{ℕ}
 use lib.ListN.{length}
 use Rattle.value.proofs.Levels.{all-below, text-inj}
 use Rattle.fst.specs.declared.Description.{Description}
-use Rattle.fst.specs.Refusal.{Reply, refused, given, Test, _⇐_, tried}
+use Rattle.fst.specs.Refusal.{Reply, refused, given, _⇐_, tried}
 use Rattle.fst.specs.Record.{widthOf}
 use Rattle.fst.proofs.Refusals.{Passed, passes, tried-append}
 use Rattle.signal.specs.Decode.{entryAt, levelsIn, textIn}

@@ -1,29 +1,28 @@
 -- The signed number and the decimal one, by the unsigned number of the same levels.
 -- Assumes nothing.
-use mathlib.Core.Path.{_≡_, refl, sym, ap, ap₂, _∙_, subst}
+use mathlib.Core.Path.{_≡_, refl, sym, ap, _∙_, subst}
 use mathlib.Core.Bool.{Bool, true, false, cond}
 use mathlib.Core.List.{List, [], _∷_}
 use Prim.Native.Nat.{ℕ, zero, suc, _+_, _-_, _*_, _/_, _%_, _^_, _≤_, _<_}
 use native.Mathlib.Nat.{pow-suc, zero-mul, zero-add, one-mul, mul-comm, pow-le-pow-right, le-refl, mod-lt, div-eq-of-lt, lt-of-lt-of-le}
-use native.Mathlib.Numerals.{add-one}
 use native.Mathlib.Omega.{arith}
-use borrow.Author.Tests.{lt-ltb, le-ltb, lt-leb, le-leb, leb-false}
+use borrow.Author.Tests.{lt-ltb, le-ltb, lt-leb, le-leb}
 use mir.Syntax.{w64}
 use mir.Val.{SFits, toZ, ofZ}
 use mir.Facts.{toZ-pos, toZ-ofZ}
 use lib.Bits.{bitAnd, and-mask}
-use lib.Dec.{leb, ltb}
+use lib.Dec.{leb}
 use lib.IntN.{ℤ, pos, negsuc, subℕ, _-ℤ_}
 use lib.ListN.{length, take, getD}
 use lib.Pow.{pow-pos, pow-mono, split}
 use lib.Seq.{take-all, length-take-le}
 use Rattle.value.specs.Digits.{number, digits, Below}
 use Rattle.value.specs.Slice.{any}
-use Rattle.value.proofs.Digits.{pow-pow, number-lt, number-more, digits-length, digits-at, below-all}
-use Rattle.value.proofs.Slices.{any-at, any-none}
+use Rattle.value.proofs.Digits.{pow-pow, number-lt, number-more, digits-length, digits-at}
+use Rattle.value.proofs.Slices.{any-at}
 use Rattle.value.proofs.Tests.{by-eq, by-le}
 use Rattle.value.proofs.Lists.{none-from, Clear, clear-none, clear-more, clear-all}
-use Rattle.fst.specs.Refusal.{Reply, refused, given, _⇐_, tried}
+use Rattle.fst.specs.Refusal.{refused, given, tried}
 use Rattle.numbers.specs.Number.{signedOf}
 use Rattle.numbers.specs.Parts.{signedBy, decimalBy}
 

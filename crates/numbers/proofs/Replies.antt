@@ -6,13 +6,12 @@ use mathlib.Core.List.{List, [], _∷_, _++_}
 use Prim.Native.Nat.{ℕ, suc, _/_, _%_, _^_, _≤_, _<_}
 use native.Mathlib.Omega.{arith}
 use borrow.Author.Tests.{lt-ltb, le-ltb, ltb-false, lt-leb, le-leb, eq-eqb, ne-eqb}
-use lib.Dec.{leb, ltb}
+use lib.Dec.{ltb}
 use lib.ListN.{length}
 use Rattle.value.specs.declared.States.{States}
-use Rattle.value.specs.Digits.{number, Below}
+use Rattle.value.specs.Digits.{number}
 use Rattle.value.specs.Level.{bitsOf, hasNoCode}
 use Rattle.value.proofs.Digits.{below-mono, digits-length}
-use Rattle.value.proofs.Tests.{or-left}
 use Rattle.value.proofs.Levels.{none-foreign}
 use Rattle.value.proofs.Lists.{none-from}
 use Rattle.fst.specs.declared.Encoding.{Encoding}
@@ -24,11 +23,11 @@ use Rattle.fst.specs.Refusal.{Reply, refused, given, Test, _⇐_, tried, refusa
 use Rattle.fst.specs.Record.{widthOf, widthStands, hasNoText, isBadBytes}
 use Rattle.fst.proofs.Adding.{width-known}
 use Rattle.fst.proofs.Rooms.{stands}
-use Rattle.fst.proofs.Refusals.{Passed, passes, Result, through, stopped, result, tried-append, tried-given, tried-refused}
+use Rattle.fst.proofs.Refusals.{Passed, passes, Result, through, stopped, result, tried-append, tried-refused}
 use Rattle.signal.specs.Decode.{entryAt, setIn, levelPart, levelsIn, hasBadMark}
 use Rattle.signal.specs.Read.{unreadable}
 use Rattle.signal.proofs.Reading.{HasEntry}
-use Rattle.numbers.specs.Number.{Form, unsigned, signed, decimal, signedOf, digitsOf, isWrongWidth, hasOther, hasHighDigit, readNumber, flatNumber, flatSigned}
+use Rattle.numbers.specs.Number.{unsigned, signed, decimal, signedOf, digitsOf, isWrongWidth, hasOther, hasHighDigit, readNumber, flatNumber}
 use Rattle.numbers.specs.declared.FlatNumber.{FlatNumber}
 use Rattle.numbers.specs.declared.Binary.{Binary}
 use Rattle.numbers.specs.declared.Binary.the-variants as binary

@@ -6,22 +6,22 @@ use mathlib.Core.List.{List, [], _∷_, _++_, map}
 use Prim.Native.Nat.{ℕ, zero, suc, _+_, _-_, _*_, _/_, _%_, _^_, _≤_, _<_}
 use native.Mathlib.Nat.{le-refl, mod-lt, mod-eq-of-lt, div-add-mod', add-comm, zero-add, zero-mul, suc-mul}
 use native.Mathlib.Omega.{arith}
-use borrow.Author.Tests.{lt-leb, leb-false, lt-ltb}
+use borrow.Author.Tests.{lt-ltb}
 use lib.Bits.{bitAnd, bitOr, or-shifted}
-use lib.Dec.{T, eqb, leb, ltb}
-use lib.ListN.{length, take, drop, replicate, take-append-drop}
-use lib.Pow.{pow-pos, pow-add, high, ones-lt, ones-split, split, shl-exact}
+use lib.Dec.{T, leb, ltb}
+use lib.ListN.{length, take, drop, replicate}
+use lib.Pow.{pow-pos, high, ones-lt, ones-split, shl-exact}
 use lib.Seq.{take-all}
 use Rattle.value.specs.declared.States.{States}
 use Rattle.value.specs.declared.States.the-variants.{Two, Four, Nine}
 use Rattle.value.specs.Digits.{number, digits, Below}
 use Rattle.value.specs.Slice.{any, part}
 use Rattle.value.specs.Level.{bitsOf, lenOf}
-use Rattle.value.proofs.Digits.{pow-pow, number-lt, number-append, number-digits, digits-length, digits-below, digits-high, digits-append, digits-zeros, base-pos, below-take}
+use Rattle.value.proofs.Digits.{pow-pow, number-lt, number-append, number-digits, digits-length, digits-below, digits-high, digits-append, digits-zeros, base-pos}
 use Rattle.value.proofs.Lists.{none-from, below-none}
 use Rattle.value.proofs.Slices.{any-append, part-add, part-length}
 use Rattle.value.proofs.Backward.{below-part}
-use Rattle.value.proofs.Tests.{by-le, both, both-same, allBelow, at-below, from-T, or-left, or-right, or-both}
+use Rattle.value.proofs.Tests.{both, both-same, allBelow, at-below, from-T, or-both}
 use Rattle.wavemem.proofs.Lanes.{itself, kept, in-lanes}
 use Rattle.signal.specs.Decode.{codesAt}
 use Rattle.signal.proofs.CodesOfBytes.{perByte, codes-split}

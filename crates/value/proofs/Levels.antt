@@ -7,7 +7,7 @@ use Prim.Native.Nat.{ℕ, zero, suc, _+_, _*_, _/_, _^_, _≤_, _<_, max}
 use native.Mathlib.Nat.{suc-ne-zero, suc-inj, le-of-suc-le-suc, not-suc-le-zero, lt-of-lt-of-le}
 use native.Mathlib.Numerals.{add-one}
 use native.Mathlib.Omega.{arith}
-use borrow.Author.Tests.{eqb-true, leb-false, lt-ltb, le-ltb, le-leb, lt-leb}
+use borrow.Author.Tests.{eqb-true, lt-ltb, le-ltb, le-leb, lt-leb}
 use lib.Dec.{eqb, eqb→eq}
 use lib.Pow.{pow-mono}
 use lib.ListN.{length, getD, take}
@@ -15,10 +15,9 @@ use lib.Seq.{take-suc}
 use Rattle.value.specs.declared.States.{States}
 use Rattle.value.specs.declared.States.the-variants.{Two, Four, Nine}
 use Rattle.value.specs.declared.StatesAnswer.the-variants as answer
-use Rattle.value.specs.Slice.{any}
-use Rattle.value.specs.Level.{letters, placeIn, codeOf, letterOf, fold, foldAll, codesOf, textOf, markOf, bitsOf, isNoCode, hasNoCode, setAt, join, setOf, leastOf, lenOf, joinAll}
+use Rattle.value.specs.Level.{letters, placeIn, codeOf, letterOf, fold, foldAll, codesOf, textOf, markOf, bitsOf, hasNoCode, setAt, join, setOf, leastOf, lenOf, joinAll}
 use Rattle.value.specs.Answer.{leastStates}
-use Rattle.value.proofs.Tests.{or-left, or-right, or-both, by-le, at-below}
+use Rattle.value.proofs.Tests.{by-le, at-below}
 use Rattle.value.proofs.Lists.{none-from, below-none}
 use Rattle.value.specs.Digits.{Below}
 

@@ -1,12 +1,11 @@
 -- `numbers::bits::bits_in` meets its contract.
 -- Assumes nothing.
-use mathlib.Core.Path.{_≡_, ap, _∙_}
+use mathlib.Core.Path.{ap, _∙_}
 use Prim.Native.Nat.{ℕ, _-_, _*_, _%_, _^_, _≤_}
 use native.Mathlib.Omega.{arith}
 use borrow.Author.Needs.{needs}
-use denote.Ref.{now}
 use lib.Bits.{bitAnd, and-mask}
-use Rattle.value.specs.Digits.{number, digits}
+use Rattle.value.specs.Digits.{digits}
 use Rattle.value.specs.Level.{bitsOf}
 use Rattle.value.proofs.Levels.{len-room}
 use Rattle.numbers.specs.Parts.{bitsOfLevels}

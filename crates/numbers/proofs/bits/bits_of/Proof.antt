@@ -1,7 +1,7 @@
 -- `numbers::bits::bits_of` meets its contract: the bits are those of the levels so far.
 -- Assumes nothing.
 use mathlib.Core.Path.{_≡_, refl, sym, ap, _∙_}
-use Prim.Native.Nat.{ℕ, _+_, _-_, _*_, _/_, _%_, _^_, _≤_, _<_}
+use Prim.Native.Nat.{ℕ, _+_, _-_, _/_, _%_, _^_, _≤_, _<_}
 use native.Mathlib.Omega.{arith}
 use borrow.Author.Needs.{needs}
 use denote.Ref.{now}
@@ -9,10 +9,9 @@ use lib.ListN.{length, take, drop, length-drop}
 use lib.Seq.{length-take-le}
 use Rattle.value.specs.Digits.{number, digits, Below}
 use Rattle.value.specs.Slice.{part}
-use Rattle.value.specs.Level.{bitsOf, lenOf}
+use Rattle.value.specs.Level.{bitsOf}
 use Rattle.value.proofs.Digits.{below-all}
 use Rattle.value.proofs.Levels.{bits-pos}
-use Rattle.value.proofs.Slices.{part-length}
 use Rattle.numbers.specs.Parts.{bitsOfLevels}
 use Rattle.numbers.proofs.Words.{perWord, Begun, Known, More, codesSoFar, bits-known, bits-other, known-bits, other-bits, word-some, word-holds, word-room, per-small, few-bytes, first-begun, first-told, more, known-more, other-begun, other-more, all-begun}
 use Rattle.numbers.proofs.bits.bits_of.Statement.{statement}

@@ -1,8 +1,6 @@
 -- `numbers::read::as_decimal` meets its contract.
 -- Assumes nothing.
-use mathlib.Core.Path.{_≡_, sym, ap, _∙_}
-use Prim.Native.Nat.{ℕ}
-use native.Mathlib.Omega.{arith}
+use mathlib.Core.Path.{ap, _∙_}
 use borrow.Author.Needs.{needs}
 use Rattle.numbers.specs.Number.{flatNumber}
 use Rattle.numbers.proofs.Replies.{decimal-refused, decimal-other, decimal-given}

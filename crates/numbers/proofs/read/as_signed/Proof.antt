@@ -2,7 +2,6 @@
 -- Assumes nothing.
 use mathlib.Core.Path.{ap, _∙_}
 use mir.Facts.{toZ-ofZ}
-use lib.IntN.{ℤ}
 use Rattle.fst.specs.Refusal.{given}
 use Rattle.numbers.specs.Number.{flatSigned}
 use Rattle.numbers.proofs.Forms.{signed-fits}

@@ -1,13 +1,12 @@
 -- `numbers::read::binary_in` meets its contract.
 -- Assumes nothing.
-use mathlib.Core.Path.{_≡_, sym, ap, _∙_}
+use mathlib.Core.Path.{sym, ap, _∙_}
 use mathlib.Core.List.{List}
 use Prim.Native.Nat.{ℕ}
 use borrow.Author.Needs.{needs}
 use denote.Ref.{now}
 use Rattle.fst.proofs.Adding.{width-known}
 use Rattle.signal.specs.Decode.{codesAt}
-use Rattle.signal.specs.Parts.{Levels}
 use Rattle.signal.proofs.Reading.{some, Owned, owned, bad-told}
 use Rattle.numbers.specs.Number.{flatNumber}
 use Rattle.numbers.specs.Parts.{binaryOf}

@@ -1,6 +1,6 @@
 -- `numbers::read::quick_binary` meets its contract.
 -- Assumes nothing.
-use mathlib.Core.Path.{sym, ap, _∙_}
+use mathlib.Core.Path.{sym, _∙_}
 use denote.Ref.{now}
 use borrow.Author.Needs.{needs}
 use Rattle.signal.proofs.Reading.{HasEntry, vector, inside, whole}

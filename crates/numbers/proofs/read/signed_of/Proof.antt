@@ -1,7 +1,7 @@
 -- `numbers::read::signed_of` meets its contract.
 -- Assumes nothing.
 use mathlib.Core.Path.{_≡_, sym, ap, _∙_}
-use Prim.Native.Nat.{ℕ, suc, _-_, _^_, _<_}
+use Prim.Native.Nat.{suc, _-_, _^_, _<_}
 use native.Mathlib.Omega.{arith}
 use borrow.Author.Needs.{needs}
 use lib.IntN.{negsuc}
