@@ -76,7 +76,7 @@ tried-append [] ys r = refl
 tried-append ((n ⇐ true) ∷ xs) ys r = refl
 tried-append ((n ⇐ false) ∷ xs) ys r = tried-append xs ys r
 
--- a refusal does not depend on it
+-- a refusal does not depend on what is behind the tests
 pub tried-refused : {A B : Type 0} (l : List Test) (a : A) (r : Reply B) {n : ℕ} → tried l (given a) ≡ refused n → tried l r ≡ refused n
 unfolding tried
 tried-refused [] a r e = let z : _≡_ {A = ℕ} 0 1 = cc in absurd (omega arith)

@@ -27,11 +27,11 @@ use Rattle.fst.proofs.Refusals.{Passed, passes, Result, through, stopped, resul
 use Rattle.signal.specs.Decode.{entryAt, setIn, levelPart, levelsIn, hasBadMark}
 use Rattle.signal.specs.Read.{unreadable}
 use Rattle.signal.proofs.Reading.{HasEntry}
-use Rattle.numbers.specs.Number.{unsigned, signed, decimal, signedOf, digitsOf, isWrongWidth, hasOther, hasHighDigit, readNumber, flatNumber}
+use Rattle.numbers.specs.Number.{unsigned, signed, decimal, signedOf, digitsOf, hasPartDigit, isWrongWidth, hasOther, hasHighDigit, readNumber, flatNumber}
 use Rattle.numbers.specs.declared.FlatNumber.{FlatNumber}
 use Rattle.numbers.specs.declared.Binary.{Binary}
 use Rattle.numbers.specs.declared.Binary.the-variants as binary
-use Rattle.numbers.specs.Parts.{refusedLevels, binaryOf, binaryIn, signedBy, signedFrom, decimalBy, decimalFrom, hasPartDigit, replyIn, Sized, Quick, bitsOfLevels}
+use Rattle.numbers.specs.Parts.{refusedLevels, binaryOf, binaryIn, signedBy, signedFrom, decimalBy, decimalFrom, replyIn, Sized, Quick, bitsOfLevels}
 use Rattle.numbers.proofs.Forms.{signed-unsigned}
 use Rattle.numbers.proofs.Words.{Known, known-lt, known-bits}
 

@@ -51,9 +51,13 @@ isDecimal unsigned = false
 isDecimal signed = false
 isDecimal decimal = true
 
+-- "not a multiple of 4"
+abbrev pub hasPartDigit : ℕ → Bool
+hasPartDigit w = not (eqb (w % 4) 0)
+
 -- "a width above 64, or not a multiple of 4 for packed decimal, is 16"
 abbrev pub isWrongWidth : Form → ℕ → Bool
-isWrongWidth f w = ltb 64 w || isDecimal f && not (eqb (w % 4) 0)
+isWrongWidth f w = ltb 64 w || isDecimal f && hasPartDigit w
 
 -- "a level other than 0 or 1 is 17"
 abbrev pub hasOther : List ℕ → Bool

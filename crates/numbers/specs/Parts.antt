@@ -1,8 +1,8 @@
 -- Inner: the steps by which an entry is read as a number.
 -- Assumes nothing.
-use Prim.Native.Nat.{ℕ, suc, _-_, _^_, _/_, _%_, _≤_, _<_}
+use Prim.Native.Nat.{ℕ, suc, _-_, _^_, _/_, _≤_, _<_}
 use mathlib.Core.Path.{_≡_}
-use mathlib.Core.Bool.{Bool, cond, not}
+use mathlib.Core.Bool.{cond}
 use mathlib.Core.List.{List, [], _∷_}
 use lib.Dec.{eqb, leb, ltb}
 use lib.IntN.{ℤ, pos, negsuc}
@@ -19,7 +19,7 @@ use Rattle.signal.specs.Decode.{levelsIn, hasBadMark}
 use Rattle.numbers.specs.declared.Binary.{Binary}
 use Rattle.numbers.specs.declared.Binary.the-variants as binary
 use Rattle.numbers.specs.declared.FlatNumber.{FlatNumber}
-use Rattle.numbers.specs.Number.{hasOther}
+use Rattle.numbers.specs.Number.{hasPartDigit, hasOther}
 
 -- ---- levels as bits
 
@@ -58,10 +58,6 @@ abbrev pub decimalBy : ℕ → ℕ → Reply ℕ
 decimalBy count n =
     let ds = digits 16 count n in
     tried (18 ⇐ any (leb 10) ds ∷ []) (given (number 10 ds))
-
--- a width that is no multiple of 4
-abbrev pub hasPartDigit : ℕ → Bool
-hasPartDigit w = not (eqb (w % 4) 0)
 
 -- 16 comes before 17, and behind all that is tried before
 abbrev pub decimalFrom : ℕ → Reply ℕ → Reply ℕ

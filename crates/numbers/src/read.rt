@@ -1,14 +1,14 @@
 // An entry read as a number: the unsigned one first, and by that the two other forms.
+ghost use mathlib.Core.List.{[], _∷_};
 ghost use mathlib.Core.Path.{_≡_};
 ghost use Prim.Native.Nat.{_<_, _≤_, _^_};
 ghost use lib.IntN.{negsuc};
 ghost use Rattle.fst.specs.declared.Encoding.the-variants.{BitVector};
-ghost use mathlib.Core.List.{[], _∷_};
 ghost use Rattle.fst.specs.Refusal.{refused, given, _⇐_, tried, refusalNumber};
 ghost use Rattle.signal.specs.Decode.{codesAt};
 ghost use Rattle.signal.specs.Parts.{Levels, Whole};
-ghost use Rattle.numbers.specs.Number.{unsigned, signed, decimal, readNumber, flatNumber, flatSigned};
-ghost use Rattle.numbers.specs.Parts.{refusedLevels, binaryOf, binaryIn, signedBy, signedFrom, decimalBy, decimalFrom, hasPartDigit, replyIn, Sized, Quick};
+ghost use Rattle.numbers.specs.Number.{unsigned, signed, decimal, hasPartDigit, readNumber, flatNumber, flatSigned};
+ghost use Rattle.numbers.specs.Parts.{refusedLevels, binaryOf, binaryIn, signedBy, signedFrom, decimalBy, decimalFrom, replyIn, Sized, Quick};
 use crate::Binary;
 use crate::FlatNumber;
 use crate::FlatSigned;
