@@ -81,13 +81,13 @@ typedef struct yoksimert_equal {
     bool equal;
 } yoksimert_equal;
 
-/* For the greatest index not above the sought one: its first entry, how many entries carry it (modulo 65,536), whether it is the sought
+/* For the greatest index not above the sought one: its first entry, how many entries carry it, whether it is the sought
  * one, and the next greater index. Where nothing is found all but the number is 0; where there is no next index, that is 0. */
 typedef struct yoksimert_offset {
     uint32_t number;
     bool found;
     size_t start;
-    uint16_t elements;
+    uint32_t elements;
     bool time_match;
     bool has_next;
     uint32_t next_index;

@@ -1,8 +1,10 @@
 // The inner functions that the benchmarks time from Rust, under plain numbers. Rust tests what each requires before it calls.
+ghost use Prim.Native.Nat.{_≤_};
 ghost use lib.ListN.{length};
 ghost use Rattle.value.specs.Level.{setAt};
 ghost use Rattle.wavemem.specs.Packed.{Packable};
 ghost use Rattle.layout.specs.Expand.{Widenable};
+ghost use Rattle.fst.specs.Record.{maximum};
 ghost use Rattle.offset.specs.Search.{Reached};
 use fst::NextIndex;
 use signal::decode::states_at;
@@ -48,7 +50,7 @@ pub extern "C" fn bench_expand(from: u32, to: u32, data: &mut [u8], entries: usi
 #[repr(C)]
 pub struct Place {
     pub start: usize,
-    pub elements: u16,
+    pub elements: u32,
     pub time_match: bool,
     pub has_next: bool,
     pub next_index: u32,
@@ -58,6 +60,7 @@ pub struct Place {
 #[no_mangle]
 pub extern "C" fn bench_search(indices: &[u32], needle: u32) -> Place
     requires { ⌜ Reached needle (now indices) ⌝ }
+    requires { ⌜ length (now indices) ≤ maximum ⌝ }
 {
     let offset = offset::find_offset_from_time_table_idx(indices, needle);
     let next = offset.next_index;

@@ -1,3 +1,4 @@
 pub mod Rows
 pub mod Search
 pub mod Offsets
+pub mod Before

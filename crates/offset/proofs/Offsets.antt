@@ -1,10 +1,10 @@
--- What Look up answers, in document 01's words, over the definition `lookUp`.
+-- What Look up answers, in the words of document 01 and of document 02's E2, over the definition `lookUp`.
 -- Assumes nothing.
-use mathlib.Core.Path.{_≡_, refl, ap, _∙_}
+use mathlib.Core.Path.{_≡_, refl, sym, ap, _∙_}
 use mathlib.Core.Bool.{true, false}
 use mathlib.Core.List.{List, [], _∷_}
 use mathlib.Core.Logic.{_⊎_, inl, inr, _↔_}
-use Prim.Native.Nat.{ℕ, _+_, _-_, _%_, _≤_, _<_}
+use Prim.Native.Nat.{ℕ, _+_, _-_, _≤_, _<_}
 use native.Mathlib.Nat.{not-suc-le-zero}
 use native.Mathlib.Omega.{arith}
 use borrow.Author.Tests.{lt-ltb, le-ltb, eqb-true, eq-eqb}
@@ -17,9 +17,9 @@ use Rattle.fst.specs.Record.{maximum}
 use Rattle.fst.specs.declared.NextIndex.{NextIndex}
 use Rattle.fst.specs.declared.NextIndex.the-variants.{Absent, At}
 use Rattle.offset.specs.declared.DataOffset.{DataOffset}
-use Rattle.offset.specs.Offset.{falls, greatest, runOf, elementsOf, headOf, none, at, placeOf, place, lookUp}
+use Rattle.offset.specs.Offset.{falls, greatest, runOf, headOf, none, at, placeOf, place, lookUp}
 use Rattle.offset.specs.Search.{Reached}
-use Rattle.offset.proofs.Search.{rising, greatest-bounds, greatest-stands, place-first, head-at, head-past, Carrying, run-is}
+use Rattle.offset.proofs.Search.{rising, greatest-bounds, greatest-stands, place-first, head-at, head-past, Carrying, run-is, countOf, carrying-counts}
 
 -- ---- the definition by cases
 
@@ -53,7 +53,7 @@ place-reached s (i ∷ l) h a = rw (le-ltb s i a)
 -- what the searches find is the place
 pub place-found : (needle : ℕ) (l : List ℕ) {index start n : ℕ} {next : NextIndex}
     → index ≡ greatest needle l → start ≡ placeIn l index → n ≡ runOf index (drop start l) → next ≡ headOf (drop (start + n) l)
-    → _≡_ {A = DataOffset} (record { start = start; elements = elementsOf n; «time_match» = eqb index needle; «next_index» = next }) (placeOf needle l)
+    → _≡_ {A = DataOffset} (record { start = start; elements = n; «time_match» = eqb index needle; «next_index» = next }) (placeOf needle l)
 unfolding placeOf
 place-found needle l e first run behind = rw (← e, ← first, ← run, ← behind)
 
@@ -72,15 +72,13 @@ abbrev pub NextAbove : List ℕ → ℕ → NextIndex → Type 0
 NextAbove l i Absent = (k : ℕ) → k < length l → getD l k 0 ≤ i
 NextAbove l i (At j) = Least l i j
 
--- what an answer says of its index and of the n entries that carry it
+-- what an answer says of its index and of the entries that carry it
 pub record Answers (l : List ℕ) (sought : ℕ) (o : DataOffset) : Type 0 where
   pub index : ℕ
-  pub n : ℕ
   pub stands : getD l (o .start) 0 ≡ index
   pub reached : index ≤ sought
   pub greatest : (k : ℕ) → k < length l → getD l k 0 ≤ sought → getD l k 0 ≤ index
-  pub run : Carrying l index (o .start) n
-  pub elements : o .elements ≡ n % 65536
+  pub run : Carrying l index (o .start) (o .elements)
   pub equal : (o .«time_match» ≡ true) ↔ (index ≡ sought)
   pub next : NextAbove l index (o .«next_index»)
 
@@ -130,12 +128,10 @@ place-answers s l r =
     let run : Carrying l i start n = run-is l (r .rises) i (stands .place) (stands .within) (stands .is) in
     record {
       index = i;
-      n = n;
       stands = place-first l i (stands .place) (stands .within) (stands .is) .1;
       reached = stands .reached;
       greatest = greatest-bounds s l;
       run = run;
-      elements = refl;
       equal = (eqb-true i s, eq-eqb i s);
       next = next-above l (r .rises) i start n run;
     }
@@ -158,8 +154,8 @@ module _ (l : List ℕ) (s : ℕ) (small : length l ≤ maximum) (rises : falls 
       only : lookUp l s ≡ given none → 0 < length l → getD l 0 0 ≤ s → (length l ≡ 0) ⊎ ((0 < length l) × (s < getD l 0 0))
       only e h a = let found = else-given h a in let z : _≡_ {A = ℕ} 0 1 = cc in absurd (omega arith)
 
-  -- "Else, for the greatest index not above it: start, its first entry; the number of entries from there on that carry the same time index,
-  -- modulo 65,536; whether it equals the sought one; the next greater index, or absent"
+  -- "Else, for the greatest index not above it: start, its first entry; the number of entries from there on that carry the same time index;
+  -- whether it equals the sought one; the next greater index, or absent"
   pub at-answers : (o : DataOffset) → lookUp l s ≡ given (at o) → Answers l s o
   at-answers o e = by-le (length l) 0 (λ h. no (inl (omega arith))) (λ h. by-le (getD l 0 0) s (yes h) (λ a. no (inr (h, a))))
     where
@@ -171,3 +167,9 @@ module _ (l : List ℕ) (s : ℕ) (small : length l ≤ maximum) (rises : falls 
           let found = else-given h a in
           let same : o ≡ placeOf s l = cc in
           rw same (place-answers s l (record { rises = rises; some = h; first = a }))
+
+  -- E2: the number of entries "is the true count"
+  pub elements-counted : (o : DataOffset) → lookUp l s ≡ given (at o) → o .elements ≡ countOf (getD l (o .start) 0) l
+  elements-counted o e =
+      let a = at-answers o e in
+      rw (a .stands) (sym (carrying-counts (a .run)))

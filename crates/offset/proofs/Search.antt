@@ -3,6 +3,7 @@
 use mathlib.Core.Path.{_≡_, refl, sym, ap, _∙_}
 use mathlib.Core.Bool.{Bool, true, false, cond, _||_}
 use mathlib.Core.List.{List, [], _∷_}
+use mathlib.Core.Logic.{_↔_}
 use Prim.Native.Nat.{ℕ, zero, suc, _+_, _-_, _*_, _/_, _≤_, _<_, max}
 use native.Mathlib.Nat.{not-suc-le-zero, le-of-suc-le-suc, le-refl, le-antisymm, le-trans}
 use native.Mathlib.Numerals.{add-one}
@@ -283,6 +284,35 @@ pub record Carrying (l : List ℕ) (i start n : ℕ) : Type 0 where
   pub within : start + n ≤ length l
   pub carried : (k : ℕ) → start ≤ k → k < start + n → getD l k 0 ≡ i
   pub alone : (k : ℕ) → k < length l → getD l k 0 ≡ i → (start ≤ k) × (k < start + n)
+
+-- how many entries of a list carry an index
+unfoldable pub countOf : ℕ → List ℕ → ℕ
+countOf i [] = 0
+countOf i (j ∷ l) = cond (eqb i j) (suc (countOf i l)) (countOf i l)
+
+-- those of a part, if exactly its entries carry it
+count-is : (l : List ℕ) (i start end : ℕ) → end ≤ length l → ((k : ℕ) → k < length l → (getD l k 0 ≡ i) ↔ ((start ≤ k) × (k < end)))
+    → countOf i l ≡ end - start
+unfolding countOf
+count-is [] i start end h f = omega arith
+count-is (x ∷ l) i start end h f = go (eqb i x) refl (count-is l i (start - 1) (end - 1) (omega arith) behind-x)
+  where
+    behind-x : (k : ℕ) → k < length l → (getD l k 0 ≡ i) ↔ ((start - 1 ≤ k) × (k < end - 1))
+    behind-x k o = (
+      λ e. let b = f (suc k) (omega arith) .0 e in (omega (arith, b .0), omega (arith, b .1)),
+      λ b. f (suc k) (omega arith) .1 (omega (arith, b .0), omega (arith, b .1)),
+    )
+
+    go : (b : Bool) → eqb i x ≡ b → countOf i l ≡ end - 1 - (start - 1) → cond b (suc (countOf i l)) (countOf i l) ≡ end - start
+    go true q e = let b = f 0 (omega arith) .0 (sym (eqb-true i x q)) in omega (arith, e, b .0, b .1)
+    go false q e =
+        by-le end start (λ o. omega (arith, e))
+        (λ o. by-le start 0 (λ z. absurd (eqb-false i x q (sym (f 0 (omega arith) .1 (z, omega arith))))) (λ z. omega (arith, e)))
+
+pub carrying-counts : {l : List ℕ} {i start n : ℕ} → Carrying l i start n → countOf i l ≡ n
+carrying-counts {l} {i} {start} {n} c =
+    let parted : start + n - start ≡ n = omega arith in
+    count-is l i start (start + n) (c .within) (λ k h. (c .alone k h, λ b. c .carried k (b .0) (b .1))) ∙ parted
 
 abbrev endOf : List ℕ → ℕ → ℕ
 endOf l i = placeIn l i + runOf i (drop (placeIn l i) l)

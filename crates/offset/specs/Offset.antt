@@ -1,6 +1,6 @@
--- Document 01, "Look up (get_offset)".
+-- Document 01, "Look up (get_offset)", with document 02's E2.
 -- Assumes nothing.
-use Prim.Native.Nat.{ℕ, suc, _+_, _%_, max}
+use Prim.Native.Nat.{ℕ, suc, _+_, max}
 use mathlib.Core.Bool.{Bool, false, cond, _||_}
 use mathlib.Core.List.{List, [], _∷_}
 use lib.Dec.{eqb, leb, ltb}
@@ -30,10 +30,6 @@ unfoldable pub runOf : ℕ → List ℕ → ℕ
 runOf i [] = 0
 runOf i (j ∷ l) = cond (eqb i j) (suc (runOf i l)) 0
 
--- "modulo 65,536"
-abbrev pub elementsOf : ℕ → ℕ
-elementsOf n = n % 65536
-
 -- "the next greater index, or absent": the index behind the run
 abbrev pub headOf : List ℕ → NextIndex
 headOf [] = next.Absent
@@ -45,13 +41,13 @@ pub data Place : Type 0 where
   at : DataOffset → Place
 
 -- for the greatest index not above the sought one: "start, its first entry; the number of entries ..; whether it equals the sought one; the
--- next greater index, or absent"
+-- next greater index, or absent"; E2: "The number of entries in a lookup answer .. is the true count"
 unfoldable pub placeOf : ℕ → List ℕ → DataOffset
 placeOf sought l =
     let i = greatest sought l in
     let start = placeIn l i in
     let n = runOf i (drop start l) in
-    record { start = start; elements = elementsOf n; «time_match» = eqb i sought; «next_index» = headOf (drop (start + n) l) }
+    record { start = start; elements = n; «time_match» = eqb i sought; «next_index» = headOf (drop (start + n) l) }
 
 -- "The answer is none exactly when the list is empty or its first index exceeds the sought one"
 unfoldable pub place : ℕ → List ℕ → Place

@@ -5,6 +5,7 @@ ghost use Prim.Native.Nat.{_≤_, _<_};
 ghost use lib.Dec.{leb};
 ghost use lib.ListN.{length, getD, drop};
 ghost use Rattle.value.specs.Level.{placeIn};
+ghost use Rattle.fst.specs.Record.{maximum};
 ghost use Rattle.offset.specs.Offset.{falls, runOf, headOf, placeOf, lookUp, offsetOf};
 ghost use Rattle.offset.specs.Search.{Reached, Last};
 use fst::NextIndex;
@@ -14,7 +15,7 @@ use fst::record::MAXIMUM;
 // The entries that carry the greatest time index not above the sought one.
 pub struct DataOffset {
     pub start: usize,
-    pub elements: u16,
+    pub elements: u32,
     pub time_match: bool,
     pub next_index: NextIndex,
 }
@@ -109,6 +110,7 @@ fn run_length(indices: &[u32], start: usize, index: u32) -> usize
 // The entries that carry the greatest index not above the needle, of which there is one.
 pub fn find_offset_from_time_table_idx(indices: &[u32], needle: u32) -> DataOffset
     requires { ⌜ Reached needle (now indices) ⌝ }
+    requires { ⌜ length (now indices) ≤ maximum ⌝ }
     ensures { λ r. ⌜ r ≡ placeOf needle (now (indices .entry)) ⌝ }
 {
     let place = binary_search(indices, needle);
@@ -118,7 +120,7 @@ pub fn find_offset_from_time_table_idx(indices: &[u32], needle: u32) -> DataOffs
     let next_index = get(indices, start + elements);
     DataOffset {
         start: start,
-        elements: (elements % 65536) as u16,
+        elements: elements as u32,
         time_match: index == needle,
         next_index: next_index,
     }

@@ -160,6 +160,15 @@ fn write_offset(offset: DataOffset) {
     io::write_all(1, b"\n");
 }
 
+// The number of entries by four bytes, the highest first.
+fn write_elements(n: u32) {
+    write_byte(low_byte(n / 16777216));
+    write_byte(low_byte(n / 65536));
+    write_byte(low_byte(n / 256));
+    write_byte(low_byte(n));
+    io::write_all(1, b"\n");
+}
+
 fn look_up(indices: &[u32], sought: u32) {
     match offset::get_offset(indices, sought) {
         OffsetAnswer::At(offset) => write_offset(offset),
@@ -295,6 +304,30 @@ fn edge_width() {
     write_fresh(fst::record::fresh(4097));
 }
 
+// How many entries carry index 5, of the first `n`.
+fn count_first(indices: &[u32], n: usize) {
+    if n > indices.len() {
+        return;
+    }
+    if let OffsetAnswer::At(offset) = offset::get_offset(&indices[0..n], 5) {
+        write_elements(offset.elements);
+    }
+}
+
+fn count_each(indices: &[u32]) {
+    title(b"65535, 65536, 70000, 131072 and 1048576 entries on one index");
+    count_first(indices, 65535);
+    count_first(indices, 65536);
+    count_first(indices, 70000);
+    count_first(indices, 131072);
+    count_first(indices, 1048576);
+}
+
+fn edge_busy() {
+    let indices = [5u32; 1048576];
+    count_each(&indices);
+}
+
 fn main() {
     rows_1_to_7();
     row_8();
@@ -306,4 +339,5 @@ fn main() {
     edge_event();
     edge_byte();
     edge_width();
+    edge_busy();
 }

@@ -60,7 +60,7 @@ pub struct FlatOffset {
     pub number: u32,
     pub found: bool,
     pub start: usize,
-    pub elements: u16,
+    pub elements: u32,
     pub time_match: bool,
     pub has_next: bool,
     pub next_index: u32,

@@ -1,12 +1,12 @@
 //! The functions of the archive `libbench.a`, made safe: each wrapper tests what the Rattle function requires.
 
-use oracle::States;
+use oracle::{MAXIMUM, States};
 
 /// What a search finds.
 #[repr(C)]
 pub struct Place {
     pub start: usize,
-    pub elements: u16,
+    pub elements: u32,
     pub time_match: bool,
     pub has_next: bool,
     pub next_index: u32,
@@ -119,7 +119,7 @@ pub fn falls(indices: &[u32]) -> bool {
     unsafe { c::bench_falls(indices.as_ptr(), indices.len()) == 1 }
 }
 
-/// Some indices that don't fall: tested once, so that the search alone is timed.
+/// At most the maximum of indices, which don't fall: tested once, so that the search alone is timed.
 pub struct Rising<'a> {
     indices: &'a [u32],
     first: u32,
@@ -127,7 +127,7 @@ pub struct Rising<'a> {
 
 impl<'a> Rising<'a> {
     pub fn new(indices: &'a [u32]) -> Self {
-        assert!(indices.is_sorted());
+        assert!(indices.is_sorted() && indices.len() <= MAXIMUM as usize);
         Self {
             indices,
             first: *indices.first().expect("there is an index"),
@@ -137,7 +137,7 @@ impl<'a> Rising<'a> {
     /// The entries that carry the greatest index not above the needle.
     pub fn search(&self, needle: u32) -> Place {
         assert!(self.first <= needle);
-        // SAFETY: `new` tested that there is an index and that none falls, and the first isn't above the needle.
+        // SAFETY: `new` tested that there is an index, that there are not too many and that none falls, and the first isn't above the needle.
         unsafe { c::bench_search(self.indices.as_ptr(), self.indices.len(), needle) }
     }
 }

@@ -46,6 +46,7 @@ fn main() {
         numbers::numbers();
         records::compare();
         records::look_up();
+        records::busy_index();
     }
     if wanted("derive") {
         derive::derive();

@@ -298,9 +298,7 @@ pub fn look_up() {
 
 fn look_up_in(length: u32, seeks: u32) {
     let indices: Vec<u32> = (0..length).map(|entry| 3 * entry).collect();
-    let description = oracle::Description::of(oracle::Encoding::Event, &indices);
-    let events = reference::Record::new(description, &[], &indices);
-    let events = events.expect("wellen takes the record");
+    let events = events(&indices);
     let rising = Rising::new(&indices);
     let scans = seeks.min((1_000_000 / length).max(20));
     let [whole, scan, search, wellen] = in_turn(|| {
@@ -315,6 +313,38 @@ fn look_up_in(length: u32, seeks: u32) {
         "| {length} | {seeks} | {whole:.1} | {scan:.1} | {search:.1} | {wellen:.1} | {:.1} |",
         wellen / search
     );
+}
+
+/// ns a look-up that finds a run, with its scan and the search that counts the run.
+pub fn busy_index() {
+    println!("\nlook up in entries of one index: ns an answer\n");
+    println!(
+        "| entries | look up | scan alone | search and count | wellen | wellen / look up |\n|---|---|---|---|---|---|"
+    );
+    for entries in [10, 1_000, 70_000, MILLION] {
+        let indices = vec![5; entries];
+        let events = events(&indices);
+        let rising = Rising::new(&indices);
+        let seeks = (MILLION / entries) as u32;
+        let [whole, scan, search, wellen] = in_turn(|| {
+            [
+                seek(5, seeks, |sought| raw::look_up(&indices, 5 + sought)),
+                seek(5, seeks, |_| inner::falls(black_box(&indices))),
+                seek(5, seeks, |sought| rising.search(5 + sought)),
+                seek(5, seeks, |sought| events.look_up_unguarded(5 + sought)),
+            ]
+        });
+        println!(
+            "| {entries} | {whole:.1} | {scan:.1} | {search:.1} | {wellen:.1} | {:.2} |",
+            wellen / whole
+        );
+    }
+}
+
+/// wellen's record of events at these indices.
+fn events(indices: &[u32]) -> reference::Record {
+    let description = oracle::Description::of(oracle::Encoding::Event, indices);
+    reference::Record::new(description, &[], indices).expect("wellen takes the record")
 }
 
 /// ns of a call, of so many that seek indices without order in a list of `length`.

@@ -32,11 +32,19 @@ impl<Answer: PartialEq> Verdict<Answer> {
         let (bytes, indices) = call.alterable();
         let unaltered = outcome.bytes == bytes && outcome.indices == indices;
         match self {
-            Verdict::Accepted(expected) => expected == outcome,
+            Verdict::Accepted(expected) => is_wellens::<O>(outcome, expected),
             Verdict::Refused => outcome.answer.is_err() && unaltered,
             Verdict::Beyond(number) => outcome.answer.as_ref().err() == Some(number) && unaltered,
         }
     }
+}
+
+fn is_wellens<O: Operation>(outcome: &Outcome<O::Answer>, wellens: &Outcome<O::Answer>) -> bool {
+    let answers = match (&outcome.answer, &wellens.answer) {
+        (Ok(answer), Ok(wellens)) => O::is_wellens(answer, wellens),
+        (answer, wellens) => answer == wellens,
+    };
+    answers && outcome.bytes == wellens.bytes && outcome.indices == wellens.indices
 }
 
 /// The verdict on a call of the domain.

@@ -54,6 +54,11 @@ pub trait Operation: Clone + PartialEq + Debug + 'static {
         unreachable!("wellen is missing, or has no such operation")
     }
 
+    /// Whether an answer is wellen's, where wellen's shows all of it or a part.
+    fn is_wellens(answer: &Self::Answer, wellens: &Self::Answer) -> bool {
+        answer == wellens
+    }
+
     /// What document 01 says of every accepted call and this one breaks.
     fn broken_law(&self, _outcome: &Outcome<Self::Answer>) -> Option<&'static str> {
         None

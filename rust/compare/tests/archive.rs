@@ -22,6 +22,14 @@ fn generated_calls_agree() {
 }
 
 #[test]
+fn every_entry_on_a_busy_index_is_counted() {
+    let mut checker = Checker::default();
+    long::busy_index(&mut checker);
+    assert_eq!(checker.disagreements, Vec::<String>::new());
+    assert_eq!(checker.compared_with_archive(), 5 * 3);
+}
+
+#[test]
 fn every_first_byte_agrees() {
     let mut checker = Checker::default();
     long::every_first_byte(&mut checker);

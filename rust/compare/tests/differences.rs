@@ -1,5 +1,5 @@
 //! Every known difference between wellen and documents 01 and 02, at a smallest input: what the document says, what wellen
-//! does, and that the call is outside the domain of the comparison.
+//! does, and that the call is outside the domain of the comparison, or in it and compared by a part of the answer.
 #![cfg(wellen)]
 
 use compare::by_wellen::{Verdict, verdict};
@@ -176,6 +176,31 @@ fn a_list_above_the_maximum_is_looked_up() {
         next_index: None,
     };
     assert_eq!(differing(&call, Err(2)), Some(Some(offset)));
+}
+
+/// In the domain: it is compared by what 16 bits show of it.
+#[test]
+fn a_run_is_counted_modulo_65536() {
+    for (entries, shown) in [(65_535, 65_535), (65_536, 0), (70_000, 4_464)] {
+        let call = LookUp {
+            indices: vec![5; entries as usize],
+            sought: 5,
+        };
+        let count = |elements| Offset {
+            start: 0,
+            elements,
+            time_match: true,
+            next_index: None,
+        };
+        assert!(call.is_in_domain());
+        let (verdict, mut ours) = (verdict(&call), outcome(&call));
+        assert_eq!(ours.answer, Ok(Some(count(entries))));
+        assert!(verdict.agrees(&call, &ours));
+        ours.answer = Ok(Some(count(entries - 1)));
+        assert!(!verdict.agrees(&call, &ours));
+        let wellens = accepted(verdict).expect("wellen answers").answer;
+        assert_eq!(wellens, Ok(Some(count(shown))));
+    }
 }
 
 fn derivation(input_count: u32, pieces: &[(u64, u64, u64)]) -> Derivation {

@@ -1,4 +1,4 @@
-//! Look up (document 01).
+//! Look up (document 01, with document 02's E2).
 
 use crate::{MAXIMUM, Refusal, refuse_if};
 
@@ -7,8 +7,8 @@ use crate::{MAXIMUM, Refusal, refuse_if};
 pub struct Offset {
     /// The first entry that carries the greatest index not above the sought one.
     pub start: usize,
-    /// The number of entries from there on that carry the same index, modulo 65,536.
-    pub elements: u16,
+    /// The number of entries from there on that carry the same index.
+    pub elements: u32,
     /// Whether that index equals the sought one.
     pub time_match: bool,
     /// The next greater index.
@@ -30,7 +30,7 @@ pub fn look_up(indices: &[u32], sought: u32) -> Result<Option<Offset>, Refusal> 
     let same = indices.iter().filter(|&&index| index == found).count();
     Ok(Some(Offset {
         start: before,
-        elements: (same % 65_536) as u16,
+        elements: same as u32,
         time_match: found == sought,
         next_index: indices.iter().copied().filter(|&index| index > found).min(),
     }))

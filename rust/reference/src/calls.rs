@@ -206,7 +206,7 @@ impl Record {
     pub fn look_up_unguarded(&self, sought: u32) -> Option<Offset> {
         self.0.get_offset(sought).map(|offset| Offset {
             start: offset.start,
-            elements: offset.elements,
+            elements: u32::from(offset.elements),
             time_match: offset.time_match,
             next_index: offset.next_index.map(|next| next.get()),
         })

@@ -2,7 +2,7 @@
 
 use crate::refusal::accepted;
 use crate::signal::entry_number;
-use crate::{Refusal, Signal, raw};
+use crate::{BitVecRef, Refusal, Signal, raw};
 
 impl Signal {
     /// The levels of an entry as a binary number, the first the highest. What counts is the levels: an entry of a larger set that has
@@ -81,5 +81,34 @@ impl Signal {
         let answer = raw::decimal(self.description(), &self.bytes, 0, entry_number(entry));
         accepted(answer.number)?;
         Ok(answer.value)
+    }
+}
+
+impl BitVecRef<'_> {
+    /// The levels as a binary number.
+    ///
+    /// # Errors
+    /// As [`Signal::get_unsigned`].
+    #[inline]
+    pub fn unsigned(&self) -> Result<u64, Refusal> {
+        self.signal.get_unsigned(self.entry as usize)
+    }
+
+    /// The levels in two's complement.
+    ///
+    /// # Errors
+    /// As [`Signal::get_signed`].
+    #[inline]
+    pub fn signed(&self) -> Result<i64, Refusal> {
+        self.signal.get_signed(self.entry as usize)
+    }
+
+    /// The levels in packed decimal.
+    ///
+    /// # Errors
+    /// As [`Signal::get_decimal`].
+    #[inline]
+    pub fn decimal(&self) -> Result<u64, Refusal> {
+        self.signal.get_decimal(self.entry as usize)
     }
 }

@@ -63,9 +63,8 @@ impl FixedWidthEncoding {
 /// assert_eq!(tariff.time_indices(), [0, 7]);
 /// assert_eq!(tariff.bytes(), [0x00, 0x0a, 0x40, 0x4b]);
 ///
-/// let offset = tariff.get_offset(9)?.expect("there is a change at or before 9");
-/// let value = tariff.get_value_at(&offset, 0)?;
-/// assert_eq!(value.to_string(), "10xz");
+/// let (since, value) = tariff.value_at(9)?.expect("there is a change at or before 9");
+/// assert_eq!((since, value.to_string()), (7, "10xz".to_string()));
 /// # Ok(())
 /// # }
 /// ```
@@ -166,8 +165,7 @@ impl Signal {
         self.time_indices.get(offset.start).copied()
     }
 
-    /// The value at an offset, by its number among the changes of that time index. An offset has changes, so 0 elements are 65,536 or
-    /// a multiple of it.
+    /// The value at an offset, by its number among the changes of that time index.
     ///
     /// # Errors
     /// [`Refusal::NoSuchEntry`] also for an element not below `offset.elements`; else as [`Signal::get_entry`].
@@ -175,12 +173,44 @@ impl Signal {
     pub fn get_value_at(
         &self,
         offset: &DataOffset,
-        element: u16,
+        element: u32,
     ) -> Result<SignalValueRef<'_>, Refusal> {
-        if offset.elements != 0 && element >= offset.elements {
+        if element >= offset.elements {
             return Err(Refusal::NoSuchEntry);
         }
-        self.get_entry(offset.start.saturating_add(usize::from(element)))
+        self.get_entry(offset.start.saturating_add(element as usize))
+    }
+
+    /// The value that holds at `time_idx`: the last change not after it, with its own time index; none if the record begins later.
+    ///
+    /// ```
+    /// use yoksimert::SignalWriter;
+    ///
+    /// # fn main() -> Result<(), yoksimert::Refusal> {
+    /// let mut lamp = SignalWriter::new(1)?;
+    /// for (time_idx, level) in [(3, "0"), (5, "1"), (5, "z"), (9, "0")] {
+    ///     lamp.add_change(time_idx, level)?;
+    /// }
+    /// let lamp = lamp.finish();
+    /// let (since, level) = lamp.value_at(7)?.expect("the lamp was clipped on at 3");
+    /// assert_eq!((since, level.to_string()), (5, "z".to_string()));
+    /// assert_eq!(lamp.value_at(2)?, None);
+    /// # Ok(())
+    /// # }
+    /// ```
+    ///
+    /// # Errors
+    /// As [`Signal::get_offset`] and [`Signal::get_entry`].
+    pub fn value_at(
+        &self,
+        time_idx: TimeTableIdx,
+    ) -> Result<Option<(TimeTableIdx, SignalValueRef<'_>)>, Refusal> {
+        let Some(offset) = self.get_offset(time_idx)? else {
+            return Ok(None);
+        };
+        // An offset that was found has a change.
+        let value = self.get_value_at(&offset, offset.elements - 1)?;
+        Ok(Some((self.time_indices[offset.start], value)))
     }
 
     /// The value of an entry, by its number from 0.
@@ -288,8 +318,8 @@ pub(crate) fn entry_number(entry: usize) -> u32 {
 pub struct DataOffset {
     /// The number of the first entry of that time index.
     pub start: usize,
-    /// How many entries carry it, modulo 65,536.
-    pub elements: u16,
+    /// How many entries carry it.
+    pub elements: u32,
     /// Whether it is the time index that was asked for, and not an earlier one.
     pub time_match: bool,
     /// The next greater time index in the record.

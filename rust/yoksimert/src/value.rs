@@ -202,25 +202,23 @@ impl PartialEq for BitVecRef<'_> {
     }
 }
 
-/// As [`Signal::get_unsigned`]: an error if there are more than 64 levels, or others than `0` and `1`.
+/// As [`BitVecRef::unsigned`]: an error if there are more than 64 levels, or others than `0` and `1`.
 impl TryFrom<BitVecRef<'_>> for u64 {
     type Error = ();
 
     #[inline]
     fn try_from(value: BitVecRef<'_>) -> Result<Self, ()> {
-        let number = value.signal.get_unsigned(value.entry as usize);
-        number.map_err(|_| ())
+        value.unsigned().map_err(|_| ())
     }
 }
 
-/// As [`Signal::get_signed`]: an error if there are more than 64 levels, or others than `0` and `1`.
+/// As [`BitVecRef::signed`]: an error if there are more than 64 levels, or others than `0` and `1`.
 impl TryFrom<BitVecRef<'_>> for i64 {
     type Error = ();
 
     #[inline]
     fn try_from(value: BitVecRef<'_>) -> Result<Self, ()> {
-        let number = value.signal.get_signed(value.entry as usize);
-        number.map_err(|_| ())
+        value.signed().map_err(|_| ())
     }
 }
 

@@ -1,7 +1,7 @@
 -- `offset::find_offset_from_time_table_idx` meets its contract.
 -- Assumes nothing.
 use mathlib.Core.Path.{refl}
-use Prim.Native.Nat.{_≤_}
+use Prim.Native.Nat.{_+_, _≤_}
 use native.Mathlib.Omega.{arith}
 use borrow.Author.Needs.{needs}
 use lib.ListN.{length, getD, drop, length-drop}
@@ -22,8 +22,9 @@ within c =
 run-length-requires : tie.Need-run-length-requires
 run-length-requires c κs = within c
 
-add-get : tie.Need-add-get
-add-get c =
+-- and ends in it
+ends : (c : tie.After-run-length) → c .before .find-start .result + c .run-length .result ≤ length (c .before .before .before .before .before .args .indices .now)
+ends c =
     let at-start = c .before in
     let at-search = at-start .before .before in
     let l = at-search .before .before .args .indices .now in
@@ -31,12 +32,18 @@ add-get c =
     let run = run-within (getD l (at-search .binary-search .result) 0) (drop start l) in
     omega (arith, c .run-length .ensures, within at-start, run, length-drop start l)
 
+add-get : tie.Need-add-get
+add-get c = omega (arith, ends c)
+
+cast-t10 : tie.Need-cast-t10
+cast-t10 c = omega (arith, ends (c .before))
+
 returns : tie.Need-returns
 returns c =
     let at-start = c .before .before in
     let at-search = at-start .before .before in
     place-found _ _
-    (last-greatest (at-search .before .before .pre .rises) (at-search .binary-search .ensures))
+    (last-greatest (at-search .before .before .pre .0 .rises) (at-search .binary-search .ensures))
     (at-start .find-start .ensures)
     (c .before .run-length .ensures)
     (c .get .ensures)
@@ -52,5 +59,5 @@ find-offset-from-time-table-idx-spec =
     run-length-requires
     add-get
     (λ c κs. search needs)
-    (λ c. search needs)
+    cast-t10
     returns)

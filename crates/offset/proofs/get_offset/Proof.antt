@@ -51,7 +51,8 @@ returns-4 c =
 find-offset-from-time-table-idx-requires : tie.Need-find-offset-from-time-table-idx-requires
 find-offset-from-time-table-idx-requires c κs =
     let f = first (c .before) in
-    record { rises = rises (c .before .before .before .before .before); some = f .0; first = omega (arith, f .1, c .if3 .left) }
+    let else2 = c .before .before .before .before .before in
+    (record { rises = rises else2; some = f .0; first = omega (arith, f .1, c .if3 .left) }, else2 .before .before .if1 .left)
 
 returns-5 : tie.Need-returns-5
 returns-5 c =

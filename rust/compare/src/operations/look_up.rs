@@ -51,6 +51,15 @@ impl Operation for LookUp {
         Ok(Verdict::accepted(offset))
     }
 
+    /// wellen has 16 bits for the number of entries.
+    fn is_wellens(answer: &Option<Offset>, wellens: &Option<Offset>) -> bool {
+        let shown = answer.map(|offset| Offset {
+            elements: offset.elements % 65_536,
+            ..offset
+        });
+        shown == *wellens
+    }
+
     fn smaller(&self) -> Vec<Self> {
         let (indices, sought) = (&self.indices, self.sought);
         let half = indices.len() / 2;
@@ -162,7 +171,7 @@ impl Generator {
         }
     }
 
-    /// As many equal indices as the 16-bit count of them wraps at, with others around them.
+    /// As many equal indices as a count of 16 bits wraps at, with others around them.
     pub(crate) fn long_list(&mut self, to: &mut dyn Receiver) {
         let equal = self
             .random

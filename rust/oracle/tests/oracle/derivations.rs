@@ -217,19 +217,15 @@ fn unpicked_levels_are_untried() {
 }
 
 #[test]
-fn a_run_in_a_look_up_is_counted_modulo_65536() {
-    let mut indices = vec![3; 65_537];
-    let answer = |elements| {
-        Ok(Some(Offset {
+fn every_entry_of_a_run_is_counted() {
+    for elements in [65_535, 65_536, 70_000, 131_072, 1_048_576] {
+        let answer = Offset {
             start: 0,
             elements,
             time_match: false,
             next_index: None,
-        }))
-    };
-    assert_eq!(look_up(&indices, 4), answer(1));
-    indices.pop();
-    assert_eq!(look_up(&indices, 4), answer(0));
-    indices.pop();
-    assert_eq!(look_up(&indices, 4), answer(65_535));
+        };
+        let indices = vec![3; elements as usize];
+        assert_eq!(look_up(&indices, 4), Ok(Some(answer)));
+    }
 }

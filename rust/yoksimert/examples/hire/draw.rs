@@ -1,6 +1,6 @@
 //! Levels over time, one column for each time index.
 
-use yoksimert::{DataOffset, Refusal, Signal, SignalValueRef};
+use yoksimert::{Refusal, Signal};
 
 pub const LEGEND: &str =
     "▁▁ low   ▂▂ weak low   ▔▔ high   ▀▀ weak high   ▒▒ unknown   ╌╌ not driven";
@@ -23,15 +23,12 @@ pub fn ruler(columns: usize) -> [String; 2] {
     [numbers.collect(), tens.map(|_| "|         ").collect()]
 }
 
-/// The entry that holds from an offset on: of several changes at one index the last.
-pub fn last(offset: &DataOffset) -> usize {
-    // 0 elements are 65,536.
-    offset.start + usize::from(offset.elements.wrapping_sub(1))
-}
-
-/// The value of that entry.
-pub fn held<'a>(signal: &'a Signal, offset: &DataOffset) -> Result<SignalValueRef<'a>, Refusal> {
-    signal.get_entry(last(offset))
+/// The first index after `at` that carries a change.
+pub fn until(signal: &Signal, at: u32) -> Result<Option<u32>, Refusal> {
+    Ok(match signal.get_offset(at)? {
+        None => signal.get_first_time_idx(),
+        Some(offset) => offset.next_index.map(u32::from),
+    })
 }
 
 /// A wire as a line at the height of its level, a bus as its levels behind a bar at each change.
@@ -39,14 +36,9 @@ pub fn row(signal: &Signal, columns: u32) -> Result<String, Refusal> {
     let mut row = String::new();
     let mut at = 0;
     while at < columns {
-        let (levels, until) = match signal.get_offset(at)? {
-            None => (String::new(), signal.get_first_time_idx()),
-            Some(offset) => {
-                let value = held(signal, &offset)?;
-                (value.to_string(), offset.next_index.map(u32::from))
-            }
-        };
-        let until = until.unwrap_or(columns).min(columns);
+        let held = signal.value_at(at)?;
+        let levels = held.map_or(String::new(), |(_, value)| value.to_string());
+        let until = until(signal, at)?.unwrap_or(columns).min(columns);
         row.push_str(&segment(&levels, (until - at) as usize));
         at = until;
     }

@@ -103,12 +103,10 @@ fn first(signal: &Signal, levels: &str) -> Result<Option<u32>, Refusal> {
 /// What a lead shows at a time index.
 fn moment(lead: &Lead, index: u32) -> Result<String, Refusal> {
     let Lead { name, signal, .. } = lead;
-    let Some(offset) = signal.get_offset(index)? else {
+    let Some((since, value)) = signal.value_at(index)? else {
         return Ok(format!("  {name:<8}nothing yet"));
     };
-    let value = draw::held(signal, &offset)?;
-    let since = signal.time_indices()[offset.start];
-    Ok(match offset.next_index {
+    Ok(match draw::until(signal, index)? {
         Some(next) => format!("  {name:<8}{value:<6}since {since}, until {next}"),
         None => format!("  {name:<8}{value:<6}since {since}"),
     })
@@ -117,10 +115,11 @@ fn moment(lead: &Lead, index: u32) -> Result<String, Refusal> {
 /// What a bus of decimal digits says at a time index, or why that is no number.
 fn decimal(lead: &Lead, index: u32) -> Result<Option<String>, Refusal> {
     let Lead { name, signal, .. } = lead;
-    let Some(offset) = signal.get_offset(index)? else {
+    let held = signal.value_at(index)?;
+    let Some(levels) = held.and_then(|(_, value)| value.as_bit_vec()) else {
         return Ok(None);
     };
-    Ok(Some(match signal.get_decimal(draw::last(&offset)) {
+    Ok(Some(match levels.decimal() {
         Ok(number) => format!("  the {name} in packed decimal: {number}"),
         Err(refusal) => format!("  the {name} is no decimal number: {refusal}"),
     }))

@@ -10,8 +10,8 @@ pub struct FlatOffset {
     pub found: bool,
     /// The first entry of the greatest such index
     pub start: usize,
-    /// How many entries carry it, modulo 65,536
-    pub elements: u16,
+    /// How many entries carry it
+    pub elements: u32,
     /// Whether it is the sought one
     pub time_match: bool,
     /// Whether there is a greater index

@@ -36,32 +36,53 @@ fn events_grow_to_the_maximum() {
     assert!(signal.bytes().is_empty());
     let offset = signal.get_offset(4).expect("no index falls");
     let offset = offset.expect("there are events");
-    assert_eq!((offset.start, offset.elements), (0, 0), "modulo 65,536");
-    for element in [0, u16::MAX] {
+    assert_eq!((offset.start, offset.elements), (0, MAXIMUM as u32));
+    for element in [0, MAXIMUM as u32 - 1] {
         let value = signal.get_value_at(&offset, element);
         assert_eq!(value, Ok(SignalValueRef::Event));
     }
+    let held = signal.value_at(4);
+    assert_eq!(held, Ok(Some((3, SignalValueRef::Event))));
 }
 
-/// As many changes at one index as there are element numbers: the count modulo 65,536 is 0, and each is read.
+/// A contact that chatters on one index: every change is counted and read, and the last one holds.
 #[test]
-fn every_change_at_an_index_is_read() {
-    const ELEMENTS: usize = 65_536;
-    let mut writer = SignalWriter::new(1).expect("the width stands");
-    for at in 0..ELEMENTS {
-        assert_eq!(writer.add_change(3, ["0", "1"][at % 2]), Ok(()));
+fn every_change_at_an_index_is_counted() {
+    for elements in [65_535, 65_536, 70_000, 131_072, MAXIMUM as u32] {
+        let mut writer = SignalWriter::new(1).expect("the width stands");
+        for at in 0..elements {
+            let level = if at + 1 < elements {
+                ["0", "1"][at as usize % 2]
+            } else {
+                "z"
+            };
+            assert_eq!(writer.add_change(3, level), Ok(()));
+        }
+        let signal = writer.finish();
+        let offset = signal.get_offset(3).expect("no index falls");
+        let offset = offset.expect("there are changes");
+        assert_eq!((offset.start, offset.elements), (0, elements));
+        let shown = |element| Ok(signal.get_value_at(&offset, element)?.to_string());
+        assert_eq!(shown(0).as_deref(), Ok("0"));
+        assert_eq!(shown(elements - 2), Ok((elements % 2).to_string()));
+        assert_eq!(shown(elements - 1).as_deref(), Ok("z"));
+        assert_eq!(shown(elements), Err(Refusal::NoSuchEntry));
+        let held = signal.value_at(u32::MAX).expect("no index falls");
+        let (since, level) = held.expect("there are changes");
+        assert_eq!((since, level.to_string()), (3, "z".to_string()));
     }
-    let signal = writer.finish();
-    let offset = signal.get_offset(3).expect("no index falls");
-    let offset = offset.expect("there are changes");
-    assert_eq!((offset.start, offset.elements), (0, 0));
-    for element in 0..=u16::MAX {
-        let value = signal.get_value_at(&offset, element);
-        let value = value.expect("there is such a change");
-        assert_eq!(u64::try_from(value), Ok(u64::from(element) % 2));
-    }
-    let fewer = Signal::new_fixed_len(vec![3], signal.encoding(), vec![1]);
-    assert!(fewer.get_value_at(&offset, 0).is_ok());
+}
+
+#[test]
+fn an_offset_of_a_longer_record_ends_with_the_record() {
+    let events = |count| {
+        let time_indices = vec![3; count];
+        Signal::new_fixed_len(time_indices, FixedWidthEncoding::Event, vec![])
+    };
+    let offset = events(70_000).get_offset(3).expect("no index falls");
+    let offset = offset.expect("there are events");
+    let fewer = events(1);
+    assert_eq!(fewer.get_value_at(&offset, 0), Ok(SignalValueRef::Event));
     assert_eq!(fewer.get_value_at(&offset, 1), Err(Refusal::NoSuchEntry));
 }
 
@@ -103,6 +124,7 @@ fn an_empty_record_has_no_bytes() {
     assert!(signal.bytes().is_empty() && signal.time_indices().is_empty());
     assert_eq!(signal.iter_changes().count(), 0);
     assert_eq!(signal.get_offset(u32::MAX), Ok(None));
+    assert_eq!(signal.value_at(u32::MAX), Ok(None));
     assert_eq!(signal.get_entry(0), Err(Refusal::NoSuchEntry));
 }
 
@@ -116,6 +138,7 @@ fn a_longer_list_is_no_record() {
     assert_eq!(longest.get_entry(7), Ok(SignalValueRef::Event));
     assert_eq!(longest.compare(&longest), Ok(true));
     assert_eq!(longer.get_offset(1), Err(Refusal::BadRecord));
+    assert_eq!(longer.value_at(1), Err(Refusal::BadRecord));
     assert_eq!(longer.get_entry(7), Err(Refusal::BadRecord));
     assert_eq!(longest.compare(&longer), Err(Refusal::BadRecord));
 }

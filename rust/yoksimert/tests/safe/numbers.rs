@@ -77,6 +77,12 @@ fn assert_converted(signal: &Signal, answers: &Answers) {
     assert_eq!(signed.map(i128::from), answers[1].map_err(|_| ()));
     assert_eq!(u64::try_from(levels), unsigned);
     assert_eq!(i64::try_from(levels), signed);
+    let told = [
+        levels.unsigned().map(i128::from),
+        levels.signed().map(i128::from),
+        levels.decimal().map(i128::from),
+    ];
+    assert_eq!(told, *answers);
 }
 
 /// What the levels say in a word of 64 bits, or the refusal of their number.

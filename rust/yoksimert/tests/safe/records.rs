@@ -117,16 +117,34 @@ fn look_up(signal: &Signal, numbers: &mut Numbers) {
             let at = signal.get_time_idx_at(offset);
             assert_eq!(at == Some(time_idx), offset.time_match);
             for element in 0..offset.elements {
-                let entry = offset.start + usize::from(element);
+                let entry = offset.start + element as usize;
                 let given = signal.get_value_at(offset, element).map(|_| ());
                 assert_eq!(given, signal.get_entry(entry).map(|_| ()));
             }
             let beyond = signal.get_value_at(offset, offset.elements);
             assert_eq!(beyond, Err(Refusal::NoSuchEntry));
         }
+        holds(signal, time_idx);
         let answer = numbers.note(answer).map(|found| found.map(judged::offset));
         assert_eq!(answer, oracle::look_up(signal.time_indices(), time_idx));
     }
+}
+
+/// The last entry whose index is not above the sought one, unless an index falls.
+fn holds(signal: &Signal, time_idx: u32) {
+    let held = signal.value_at(time_idx);
+    let indices = signal.time_indices();
+    if let Err(refusal) = oracle::look_up(indices, time_idx) {
+        assert_eq!(held.map_err(judged::refusal), Err(refusal));
+        return;
+    }
+    let last = indices.iter().rposition(|index| *index <= time_idx);
+    let expected = last.map(|entry| Ok((indices[entry], signal.get_entry(entry)?)));
+    let shown = |(index, value): (u32, SignalValueRef)| (index, format!("{value:?}"));
+    assert_eq!(
+        held.map(|held| held.map(shown)),
+        expected.transpose().map(|expected| expected.map(shown))
+    );
 }
 
 #[test]
@@ -182,16 +200,16 @@ fn arbitrary_offsets_are_refused() {
         let signal = signal(&mut random);
         let offset = DataOffset {
             start: random.pick(&starts),
-            elements: random.pick(&[0, 1, 2, u16::MAX]),
+            elements: random.pick(&[0, 1, 2, u32::MAX]),
             time_match: random.one_in(2),
             next_index: None,
         };
-        let element = random.pick(&[0, 1, u16::MAX - 1, u16::MAX]);
+        let element = random.pick(&[0, 1, u32::MAX - 1, u32::MAX]);
         let entry = offset.start as u128 + u128::from(element);
         let known = signal.time_indices().get(offset.start).copied();
         assert_eq!(signal.get_time_idx_at(&offset), known);
         let given = signal.get_value_at(&offset, element).map(|_| ());
-        if offset.elements != 0 && element >= offset.elements {
+        if element >= offset.elements {
             assert_eq!(given, Err(Refusal::NoSuchEntry));
         } else if entry >= signal.time_indices().len() as u128 {
             assert!(matches!(

@@ -1,7 +1,7 @@
 //! The rows and edges of document 01, each beside what it prints.
 
 use yoksimert::{
-    DerivedBitVecSignal, FixedWidthEncoding, Refusal, Signal, SignalWriter, States,
+    DerivedBitVecSignal, FixedWidthEncoding, Refusal, Signal, SignalValueRef, SignalWriter, States,
     transform_signal,
 };
 
@@ -68,6 +68,9 @@ fn rows_9_to_11_are_looked_up_so() {
     assert_eq!(found(6), Some((1, 2, false, Some(9))));
     assert_eq!(found(9), Some((3, 1, true, None)));
     assert_eq!(events(&[3]).get_offset(2), Ok(None));
+    assert_eq!(signal.value_at(6), Ok(Some((5, SignalValueRef::Event))));
+    assert_eq!(signal.value_at(9), Ok(Some((9, SignalValueRef::Event))));
+    assert_eq!(events(&[3]).value_at(2), Ok(None));
 }
 
 #[test]
