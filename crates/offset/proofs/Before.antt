@@ -37,12 +37,12 @@ oldLookUp indices sought = tried (2 ⇐ ltb maximum (length indices) ∷ 11 ⇐ 
 
 -- ---- an answer with its number of entries cut to 16 bits
 
-abbrev pub truncated : DataOffset → DataOffset
-truncated o = record { start = o .start; elements = o .elements % 65536; «time_match» = o .«time_match»; «next_index» = o .«next_index» }
+abbrev pub withElements : DataOffset → ℕ → DataOffset
+withElements o n = record { start = o .start; elements = n; «time_match» = o .«time_match»; «next_index» = o .«next_index» }
 
 abbrev pub truncatedPlace : Place → Place
 truncatedPlace none = none
-truncatedPlace (at o) = at (truncated o)
+truncatedPlace (at o) = at (withElements o (o .elements % 65536))
 
 abbrev pub truncatedReply : Reply Place → Reply Place
 truncatedReply (refused n) = refused n
@@ -71,7 +71,7 @@ old-modulo l s = go (ltb maximum (length l)) (falls l)
 pub below-is-old : (l : List ℕ) (s : ℕ) (o : DataOffset) → lookUp l s ≡ given (at o) → o .elements < 65536 → oldLookUp l s ≡ given (at o)
 below-is-old l s o e h =
     let same : o .elements % 65536 ≡ o .elements = omega arith in
-    old-modulo l s ∙ ap truncatedReply e ∙ ap (λ (n : ℕ). given (at (record { start = o .start; elements = n; «time_match» = o .«time_match»; «next_index» = o .«next_index» }))) same
+    old-modulo l s ∙ ap truncatedReply e ∙ ap (λ (n : ℕ). given (at (withElements o n))) same
 
 -- ---- a chattering contact: n entries on one index
 
@@ -86,6 +86,13 @@ unfolding runOf
 run-of-all zero i = refl
 run-of-all (suc n) i = rw (eq-eqb i i refl) (ap suc (run-of-all n i))
 
+greatest-of-all : (n i s : ℕ) → 0 < n → i ≤ s → i ≡ greatest s (replicate n i)
+greatest-of-all n i s some h =
+    let l = replicate n i in
+    let long : length l ≡ n = length-replicate n i in
+    let first : getD l 0 0 ≡ i = getD-replicate n 0 i 0 some in
+    sym first ∙ greatest-is s l 0 (omega arith) (omega arith) (λ j o r. omega (arith, getD-replicate n j i 0 (omega arith)))
+
 -- an answer of all n entries of a list
 abbrev pub wholeList : ℕ → Bool → DataOffset
 wholeList n equal = record { start = 0; elements = n; «time_match» = equal; «next_index» = Absent }
@@ -96,11 +103,8 @@ chattering n i s some small h =
     let l = replicate n i in
     let long : length l ≡ n = length-replicate n i in
     let first : getD l 0 0 ≡ i = getD-replicate n 0 i 0 some in
-    let index : i ≡ greatest s l =
-    sym first ∙ greatest-is s l 0 (omega arith) (omega arith) (λ j o r. omega (arith, getD-replicate n j i 0 (omega arith))) in
-    let found =
-    place-found s l {index = i} {start = 0} {n = n} {next = Absent}
-    index (start-first l i (omega arith) first) (run-of-all n i) (sym (head-past l (0 + n) (omega arith))) in
+    let behind : Absent ≡ headOf (drop (0 + n) l) = sym (head-past l (0 + n) (omega arith)) in
+    let found = place-found s l (greatest-of-all n i s some h) (start-first l i (omega arith) first) (run-of-all n i) behind in
     else-given l s (omega arith) (falls-never n i) (omega arith) (omega arith) ∙ ap (λ (o : DataOffset). given (at o)) (sym found)
 
 -- "A chattering contact put 70,000 entries on one index, and the screen showed 4,464"

@@ -18,8 +18,8 @@ tariff.add_change(7, "0001")?;
 assert_eq!(tariff.add_change(6, "0010"), Err(Refusal::IndexBelowLast));
 let tariff = tariff.finish();
 
-let offset = tariff.get_offset(9)?.expect("a change at or before 9");
-assert_eq!(tariff.get_value_at(&offset, 0)?.to_string(), "0001");
+let (since, levels) = tariff.value_at(9)?.expect("a change at or before 9");
+assert_eq!((since, levels.to_string()), (7, "0001".to_string()));
 
 let low = DerivedBitVecSignal::new_slice(0, 1, 0)?;
 let low = transform_signal(&low, &[&tariff])?;
