@@ -51,7 +51,7 @@ int main(void) {
     /* Row 9. */
     const uint32_t times[4] = {0, 5, 5, 9};
     yoksimert_offset offset = yoksimert_look_up(times, 4, 6);
-    printf("9: start %zu, %u, %s, next %u\n", offset.start, (unsigned)offset.elements, offset.time_match ? "equal" : "unequal", offset.next_index);
+    printf("9: start %zu, %u, %s, next %u\n", offset.start, offset.elements, offset.time_match ? "equal" : "unequal", offset.next_index);
 
     /* Row 12: a slice of bit 0. */
     yoksimert_recorder_fresh(&recorder, 2);
@@ -86,5 +86,10 @@ int main(void) {
     show_numbers("1x");
     show_numbers("000x");
     show_numbers("1010");
+
+    /* Document 02: 70,000 entries on one index. */
+    static const uint32_t busy[70000] = {0};
+    offset = yoksimert_look_up(busy, 70000, 5);
+    printf("busy: start %zu, %u\n", offset.start, offset.elements);
     return 0;
 }
