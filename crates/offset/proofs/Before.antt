@@ -86,26 +86,31 @@ unfolding runOf
 run-of-all zero i = refl
 run-of-all (suc n) i = rw (eq-eqb i i refl) (ap suc (run-of-all n i))
 
-greatest-of-all : (n i s : ℕ) → 0 < n → i ≤ s → i ≡ greatest s (replicate n i)
-greatest-of-all n i s some h =
-    let l = replicate n i in
-    let long : length l ≡ n = length-replicate n i in
-    let first : getD l 0 0 ≡ i = getD-replicate n 0 i 0 some in
-    sym first ∙ greatest-is s l 0 (omega arith) (omega arith) (λ j o r. omega (arith, getD-replicate n j i 0 (omega arith)))
-
 -- an answer of all n entries of a list
 abbrev pub wholeList : ℕ → Bool → DataOffset
 wholeList n equal = record { start = 0; elements = n; «time_match» = equal; «next_index» = Absent }
 
--- every one is counted
-pub chattering : (n i s : ℕ) → 0 < n → n ≤ maximum → i ≤ s → lookUp (replicate n i) s ≡ given (at (wholeList n (eqb i s)))
-chattering n i s some small h =
-    let l = replicate n i in
-    let long : length l ≡ n = length-replicate n i in
-    let first : getD l 0 0 ≡ i = getD-replicate n 0 i 0 some in
-    let behind : Absent ≡ headOf (drop (0 + n) l) = sym (head-past l (0 + n) (omega arith)) in
-    let found = place-found s l (greatest-of-all n i s some h) (start-first l i (omega arith) first) (run-of-all n i) behind in
-    else-given l s (omega arith) (falls-never n i) (omega arith) (omega arith) ∙ ap (λ (o : DataOffset). given (at o)) (sym found)
+module _ (n i s : ℕ) (some : 0 < n) (reached : i ≤ s) where
+  long : length (replicate n i) ≡ n
+  long = length-replicate n i
+
+  first : getD (replicate n i) 0 0 ≡ i
+  first = getD-replicate n 0 i 0 some
+
+  greatest-of-all : i ≡ greatest s (replicate n i)
+  greatest-of-all =
+      sym first
+      ∙ greatest-is s (replicate n i) 0 (omega (arith, long)) (omega (arith, first))
+      (λ j h r. omega (arith, first, getD-replicate n j i 0 (omega (arith, long))))
+
+  -- every one is counted
+  pub chattering : n ≤ maximum → lookUp (replicate n i) s ≡ given (at (wholeList n (eqb i s)))
+  chattering small =
+      let l = replicate n i in
+      let behind : Absent ≡ headOf (drop (0 + n) l) = sym (head-past l (0 + n) (omega (arith, long))) in
+      let found = place-found s l greatest-of-all (start-first l i (omega (arith, long)) first) (run-of-all n i) behind in
+      else-given l s (omega (arith, long)) (falls-never n i) (omega (arith, long)) (omega (arith, first))
+      ∙ ap (λ (o : DataOffset). given (at o)) (sym found)
 
 -- "A chattering contact put 70,000 entries on one index, and the screen showed 4,464"
 pub seventy-thousand : lookUp (replicate 70000 5) 5 ≡ given (at (wholeList 70000 true))

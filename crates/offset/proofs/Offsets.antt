@@ -1,7 +1,7 @@
 -- What Look up answers, in the words of document 01 and of document 02's E2, over the definition `lookUp`.
 -- Assumes nothing.
 use mathlib.Core.Path.{_≡_, refl, sym, ap, _∙_}
-use mathlib.Core.Bool.{true, false}
+use mathlib.Core.Bool.{Bool, true, false}
 use mathlib.Core.List.{List, [], _∷_}
 use mathlib.Core.Logic.{_⊎_, inl, inr, _↔_}
 use Prim.Native.Nat.{ℕ, _+_, _-_, _≤_, _<_}
@@ -17,7 +17,7 @@ use Rattle.fst.specs.Record.{maximum}
 use Rattle.fst.specs.declared.NextIndex.{NextIndex}
 use Rattle.fst.specs.declared.NextIndex.the-variants.{Absent, At}
 use Rattle.offset.specs.declared.DataOffset.{DataOffset}
-use Rattle.offset.specs.Offset.{falls, greatest, runOf, headOf, none, at, placeOf, place, lookUp}
+use Rattle.offset.specs.Offset.{falls, greatest, runOf, headOf, Place, none, at, placeOf, place, lookUp}
 use Rattle.offset.specs.Search.{Reached}
 use Rattle.offset.proofs.Search.{rising, greatest-bounds, greatest-stands, place-first, head-at, head-past, Carrying, run-is, countOf, carrying-counts}
 
@@ -168,8 +168,19 @@ module _ (l : List ℕ) (s : ℕ) (small : length l ≤ maximum) (rises : falls 
           let same : o ≡ placeOf s l = cc in
           rw same (place-answers s l (record { rises = rises; some = h; first = a }))
 
-  -- E2: the number of entries "is the true count"
-  pub elements-counted : (o : DataOffset) → lookUp l s ≡ given (at o) → o .elements ≡ countOf (getD l (o .start) 0) l
-  elements-counted o e =
-      let a = at-answers o e in
-      rw (a .stands) (sym (carrying-counts (a .run)))
+-- a list whose look-up isn't refused
+not-refused : (l : List ℕ) (s : ℕ) (p : Place) → lookUp l s ≡ given p → (length l ≤ maximum) × (falls l ≡ false)
+not-refused l s p e =
+    by-le (length l) maximum (λ h. (h, rises h (falls l) refl))
+    (λ h. let long = look-up-long l s h in let z : _≡_ {A = ℕ} 0 1 = cc in absurd (omega arith))
+  where
+    rises : length l ≤ maximum → (b : Bool) → falls l ≡ b → falls l ≡ false
+    rises h true f = let falling = look-up-falling l s h f in let z : _≡_ {A = ℕ} 0 1 = cc in absurd (omega arith)
+    rises h false f = f
+
+-- E2: the number of entries "is the true count"
+pub elements-counted : (l : List ℕ) (s : ℕ) (o : DataOffset) → lookUp l s ≡ given (at o) → o .elements ≡ countOf (getD l (o .start) 0) l
+elements-counted l s o e =
+    let stands = not-refused l s (at o) e in
+    let a = at-answers l s (stands .0) (stands .1) o e in
+    rw (a .stands) (sym (carrying-counts (a .run)))

@@ -1,6 +1,7 @@
-// The twelve rows of document 01 and its edges, run on the code. Each change writes a line: the number, the count, the mark of the
+// The twelve rows of document 01 and the documents' edges, run on the code. Each change writes a line: the number, the count, the mark of the
 // largest set, the bytes and the indices, whole. Two bytes aa and three indices 46 stand before the record, and what is behind the used
-// part is aa and 46 too. A look-up writes its number, start, entries, whether equal, and the next index or `-`.
+// part is aa and 46 too. A look-up writes its number, start, entries, whether equal, and the next index or `-`; one among entries of one
+// index, an edge of document 02, writes their number alone.
 ghost use Prim.Native.Nat.{_<_};
 use derivation::DerivedBitVecSignal;
 use fst::Added;

@@ -119,7 +119,7 @@ pub fn falls(indices: &[u32]) -> bool {
     unsafe { c::bench_falls(indices.as_ptr(), indices.len()) == 1 }
 }
 
-/// At most the maximum of indices, which don't fall: tested once, so that the search alone is timed.
+/// Indices that don't fall, not more than the maximum: tested once, so that the search alone is timed.
 pub struct Rising<'a> {
     indices: &'a [u32],
     first: u32,

@@ -325,7 +325,7 @@ pub fn busy_index() {
         let indices = vec![5; entries];
         let events = events(&indices);
         let rising = Rising::new(&indices);
-        let seeks = (MILLION / entries) as u32;
+        let seeks = (MILLION / entries).max(20) as u32;
         let [whole, scan, search, wellen] = in_turn(|| {
             [
                 seek(5, seeks, |sought| raw::look_up(&indices, 5 + sought)),

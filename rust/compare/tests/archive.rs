@@ -27,6 +27,7 @@ fn every_entry_on_a_busy_index_is_counted() {
     long::busy_index(&mut checker);
     assert_eq!(checker.disagreements, Vec::<String>::new());
     assert_eq!(checker.compared_with_archive(), 5 * 3);
+    assert_eq!(checker.compared(), if cfg!(wellen) { 5 * 3 } else { 0 });
 }
 
 #[test]

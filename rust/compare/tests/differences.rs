@@ -196,8 +196,24 @@ fn a_run_is_counted_modulo_65536() {
         let (verdict, mut ours) = (verdict(&call), outcome(&call));
         assert_eq!(ours.answer, Ok(Some(count(entries))));
         assert!(verdict.agrees(&call, &ours));
-        ours.answer = Ok(Some(count(entries - 1)));
-        assert!(!verdict.agrees(&call, &ours));
+        for wrong in [
+            Offset {
+                start: 1,
+                ..count(entries)
+            },
+            count(entries - 1),
+            Offset {
+                time_match: false,
+                ..count(entries)
+            },
+            Offset {
+                next_index: Some(6),
+                ..count(entries)
+            },
+        ] {
+            ours.answer = Ok(Some(wrong));
+            assert!(!verdict.agrees(&call, &ours), "{wrong:?}");
+        }
         let wellens = accepted(verdict).expect("wellen answers").answer;
         assert_eq!(wellens, Ok(Some(count(shown))));
     }

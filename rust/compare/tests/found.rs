@@ -40,6 +40,10 @@ impl Operation for Wrong {
         self.0.by_wellen()
     }
 
+    fn is_wellens(answer: &Option<Offset>, wellens: &Option<Offset>) -> bool {
+        LookUp::is_wellens(answer, wellens)
+    }
+
     fn smaller(&self) -> Vec<Self> {
         self.0.smaller().into_iter().map(Wrong).collect()
     }

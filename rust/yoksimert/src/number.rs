@@ -85,28 +85,44 @@ impl Signal {
 }
 
 impl BitVecRef<'_> {
-    /// The levels as a binary number.
+    /// The levels as a binary number, the first the highest.
+    ///
+    /// ```
+    /// use yoksimert::{Refusal, SignalWriter};
+    ///
+    /// # fn main() -> Result<(), Refusal> {
+    /// let mut fare = SignalWriter::new(8)?;
+    /// fare.add_change(0, "10010011")?;
+    /// let fare = fare.finish();
+    /// let (_, fare) = fare.value_at(5)?.expect("a change at or before 5");
+    /// let fare = fare.as_bit_vec().expect("a bit vector");
+    /// assert_eq!((fare.unsigned(), fare.signed(), fare.decimal()), (Ok(147), Ok(-109), Ok(93)));
+    /// # Ok(())
+    /// # }
+    /// ```
     ///
     /// # Errors
-    /// As [`Signal::get_unsigned`].
+    /// [`Refusal::WrongWidth`] above 64 levels, [`Refusal::NotBinary`] for a level other than `0` and `1`, and [`Refusal::BadCode`],
+    /// which no record of a writer gives.
     #[inline]
     pub fn unsigned(&self) -> Result<u64, Refusal> {
         self.signal.get_unsigned(self.entry as usize)
     }
 
-    /// The levels in two's complement.
+    /// The levels in two's complement: where the first is `1`, the number is below 0.
     ///
     /// # Errors
-    /// As [`Signal::get_signed`].
+    /// As [`BitVecRef::unsigned`].
     #[inline]
     pub fn signed(&self) -> Result<i64, Refusal> {
         self.signal.get_signed(self.entry as usize)
     }
 
-    /// The levels in packed decimal.
+    /// The levels in packed decimal: each four are a digit, the first the highest.
     ///
     /// # Errors
-    /// As [`Signal::get_decimal`].
+    /// As [`BitVecRef::unsigned`]; [`Refusal::WrongWidth`] also where the width is not a multiple of 4, and [`Refusal::NotDecimal`] for
+    /// a digit above 9.
     #[inline]
     pub fn decimal(&self) -> Result<u64, Refusal> {
         self.signal.get_decimal(self.entry as usize)

@@ -181,7 +181,8 @@ impl Signal {
         self.get_entry(offset.start.saturating_add(element as usize))
     }
 
-    /// The value that holds at `time_idx`: the last change not after it, with its own time index; none if the record begins later.
+    /// The value that holds at `time_idx`: the last change not after it, with its own time index; none if there is no such change. Like
+    /// [`Signal::get_offset`], it goes over all time indices.
     ///
     /// ```
     /// use yoksimert::SignalWriter;

@@ -1,5 +1,5 @@
 //! Document 01's rows, edges, readings and refusals through the public operations,
-//! its laws over generated runs, and document 02's numbers.
+//! its laws over generated runs, and document 02's numbers and count of entries.
 
 mod derivations;
 mod generated;

@@ -24,7 +24,7 @@ pub fn ruler(columns: usize) -> [String; 2] {
 }
 
 /// The first index after `at` that carries a change.
-pub fn until(signal: &Signal, at: u32) -> Result<Option<u32>, Refusal> {
+pub fn next_change(signal: &Signal, at: u32) -> Result<Option<u32>, Refusal> {
     Ok(match signal.get_offset(at)? {
         None => signal.get_first_time_idx(),
         Some(offset) => offset.next_index.map(u32::from),
@@ -38,7 +38,8 @@ pub fn row(signal: &Signal, columns: u32) -> Result<String, Refusal> {
     while at < columns {
         let held = signal.value_at(at)?;
         let levels = held.map_or(String::new(), |(_, value)| value.to_string());
-        let until = until(signal, at)?.unwrap_or(columns).min(columns);
+        let next = next_change(signal, at)?;
+        let until = next.unwrap_or(columns).min(columns);
         row.push_str(&segment(&levels, (until - at) as usize));
         at = until;
     }

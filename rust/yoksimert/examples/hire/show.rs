@@ -106,7 +106,7 @@ fn moment(lead: &Lead, index: u32) -> Result<String, Refusal> {
     let Some((since, value)) = signal.value_at(index)? else {
         return Ok(format!("  {name:<8}nothing yet"));
     };
-    Ok(match draw::until(signal, index)? {
+    Ok(match draw::next_change(signal, index)? {
         Some(next) => format!("  {name:<8}{value:<6}since {since}, until {next}"),
         None => format!("  {name:<8}{value:<6}since {since}"),
     })
