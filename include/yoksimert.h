@@ -81,8 +81,8 @@ typedef struct yoksimert_equal {
     bool equal;
 } yoksimert_equal;
 
-/* For the greatest index not above the sought one: its first entry, how many entries carry it, whether it is the sought
- * one, and the next greater index. Where nothing is found all but the number is 0; where there is no next index, that is 0. */
+/* For the greatest index not above the sought one: its first entry, how many entries carry it, whether it is the sought one, and the next
+ * greater index. Where nothing is found all but the number is 0; where there is no next index, that is 0. */
 typedef struct yoksimert_offset {
     uint32_t number;
     bool found;

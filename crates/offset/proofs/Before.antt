@@ -73,7 +73,7 @@ below-is-old l s o e h =
     let same : o .elements % 65536 ≡ o .elements = omega arith in
     old-modulo l s ∙ ap truncatedReply e ∙ ap (λ (n : ℕ). given (at (withElements o n))) same
 
--- ---- a chattering contact: n entries on one index
+-- ---- n equal indices
 
 falls-never : (n i : ℕ) → falls (replicate n i) ≡ false
 unfolding falls
@@ -104,8 +104,8 @@ module _ (n i s : ℕ) (some : 0 < n) (reached : i ≤ s) where
       (λ j h r. omega (arith, first, getD-replicate n j i 0 (omega (arith, long))))
 
   -- every one is counted
-  pub chattering : n ≤ maximum → lookUp (replicate n i) s ≡ given (at (wholeList n (eqb i s)))
-  chattering small =
+  pub equal-indices : n ≤ maximum → lookUp (replicate n i) s ≡ given (at (wholeList n (eqb i s)))
+  equal-indices small =
       let l = replicate n i in
       let behind : Absent ≡ headOf (drop (0 + n) l) = sym (head-past l (0 + n) (omega (arith, long))) in
       let found = place-found s l greatest-of-all (start-first l i (omega (arith, long)) first) (run-of-all n i) behind in
@@ -114,7 +114,7 @@ module _ (n i s : ℕ) (some : 0 < n) (reached : i ≤ s) where
 
 -- "A chattering contact put 70,000 entries on one index, and the screen showed 4,464"
 pub seventy-thousand : lookUp (replicate 70000 5) 5 ≡ given (at (wholeList 70000 true))
-seventy-thousand = chattering 70000 5 5 (omega arith) (omega arith) (omega arith)
+seventy-thousand = equal-indices 70000 5 5 (omega arith) (omega arith) (omega arith)
 
-pub screen-showed : oldLookUp (replicate 70000 5) 5 ≡ given (at (wholeList 4464 true))
-screen-showed = old-modulo (replicate 70000 5) 5 ∙ ap truncatedReply seventy-thousand
+pub old-seventy-thousand : oldLookUp (replicate 70000 5) 5 ≡ given (at (wholeList 4464 true))
+old-seventy-thousand = old-modulo (replicate 70000 5) 5 ∙ ap truncatedReply seventy-thousand

@@ -154,10 +154,8 @@ module _ (l : List ℕ) (s : ℕ) (small : length l ≤ maximum) (rises : falls 
       only : lookUp l s ≡ given none → 0 < length l → getD l 0 0 ≤ s → (length l ≡ 0) ⊎ ((0 < length l) × (s < getD l 0 0))
       only e h a = let found = else-given h a in let z : _≡_ {A = ℕ} 0 1 = cc in absurd (omega arith)
 
-  -- "Else, for the greatest index not above it: start, its first entry; the number of entries from there on that carry the same time index;
-  -- whether it equals the sought one; the next greater index, or absent"
-  pub at-answers : (o : DataOffset) → lookUp l s ≡ given (at o) → Answers l s o
-  at-answers o e = by-le (length l) 0 (λ h. no (inl (omega arith))) (λ h. by-le (getD l 0 0) s (yes h) (λ a. no (inr (h, a))))
+  standing-answers : (o : DataOffset) → lookUp l s ≡ given (at o) → Answers l s o
+  standing-answers o e = by-le (length l) 0 (λ h. no (inl (omega arith))) (λ h. by-le (getD l 0 0) s (yes h) (λ a. no (inr (h, a))))
     where
       no : (length l ≡ 0) ⊎ ((0 < length l) × (s < getD l 0 0)) → Answers l s o
       no h = let none = none-given h in let z : _≡_ {A = ℕ} 0 1 = cc in absurd (omega arith)
@@ -178,9 +176,11 @@ not-refused l s p e =
     rises h true f = let falling = look-up-falling l s h f in let z : _≡_ {A = ℕ} 0 1 = cc in absurd (omega arith)
     rises h false f = f
 
+-- "Else, for the greatest index not above it: start, its first entry; the number of entries from there on that carry the same time index;
+-- whether it equals the sought one; the next greater index, or absent"
+pub at-answers : (l : List ℕ) (s : ℕ) (o : DataOffset) → lookUp l s ≡ given (at o) → Answers l s o
+at-answers l s o e = let stands = not-refused l s (at o) e in standing-answers l s (stands .0) (stands .1) o e
+
 -- E2: the number of entries "is the true count"
 pub elements-counted : (l : List ℕ) (s : ℕ) (o : DataOffset) → lookUp l s ≡ given (at o) → o .elements ≡ countOf (getD l (o .start) 0) l
-elements-counted l s o e =
-    let stands = not-refused l s (at o) e in
-    let a = at-answers l s (stands .0) (stands .1) o e in
-    rw (a .stands) (sym (carrying-counts (a .run)))
+elements-counted l s o e = let a = at-answers l s o e in rw (a .stands) (sym (carrying-counts (a .run)))

@@ -324,7 +324,7 @@ fn count_each(indices: &[u32]) {
     count_first(indices, 1048576);
 }
 
-fn edge_busy() {
+fn edge_equal_indices() {
     let indices = [5u32; 1048576];
     count_each(&indices);
 }
@@ -340,5 +340,5 @@ fn main() {
     edge_event();
     edge_byte();
     edge_width();
-    edge_busy();
+    edge_equal_indices();
 }

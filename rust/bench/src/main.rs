@@ -46,7 +46,7 @@ fn main() {
         numbers::numbers();
         records::compare();
         records::look_up();
-        records::busy_index();
+        records::equal_indices();
     }
     if wanted("derive") {
         derive::derive();

@@ -316,7 +316,7 @@ fn look_up_in(length: u32, seeks: u32) {
 }
 
 /// ns a look-up that finds a run, with its scan and the search that counts the run.
-pub fn busy_index() {
+pub fn equal_indices() {
     println!("\nlook up in entries of one index: ns an answer\n");
     println!(
         "| entries | look up | scan alone | search and count | wellen | wellen / look up |\n|---|---|---|---|---|---|"

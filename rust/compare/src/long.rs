@@ -46,11 +46,11 @@ pub fn look_ups(seed: u64, to: &mut dyn Receiver) {
     for length in [MAXIMUM - 1, MAXIMUM, MAXIMUM + 1] {
         around(&list(length as usize, LONG.into_iter().cycle()), to);
     }
-    busy_index(to);
+    equal_indices(to);
 }
 
 /// Around lists of one index: as many entries as a count of 16 bits holds and as it wraps at, document 02's 70,000, and the maximum.
-pub fn busy_index(to: &mut dyn Receiver) {
+pub fn equal_indices(to: &mut dyn Receiver) {
     for entries in [65_535, 65_536, 70_000, 131_072, MAXIMUM as usize] {
         around(&vec![7; entries], to);
     }

@@ -22,9 +22,9 @@ fn generated_calls_agree() {
 }
 
 #[test]
-fn every_entry_on_a_busy_index_is_counted() {
+fn every_entry_of_equal_indices_is_counted() {
     let mut checker = Checker::default();
-    long::busy_index(&mut checker);
+    long::equal_indices(&mut checker);
     assert_eq!(checker.disagreements, Vec::<String>::new());
     assert_eq!(checker.compared_with_archive(), 5 * 3);
     assert_eq!(checker.compared(), if cfg!(wellen) { 5 * 3 } else { 0 });

@@ -21,7 +21,7 @@ w65: unsigned 16 0, signed 16 0, decimal 16 0
 w2: unsigned 17 0, signed 17 0, decimal 16 0
 w4: unsigned 17 0, signed 17 0, decimal 17 0
 w4: unsigned 0 10, signed 0 -6, decimal 18 0
-busy: start 0, 70000
+equal: start 0, 70000
 ";
 
 #[test]

@@ -88,8 +88,8 @@ int main(void) {
     show_numbers("1010");
 
     /* Document 02: 70,000 entries on one index. */
-    static const uint32_t busy[70000] = {0};
-    offset = yoksimert_look_up(busy, 70000, 5);
-    printf("busy: start %zu, %u\n", offset.start, offset.elements);
+    static const uint32_t equal_indices[70000] = {0};
+    offset = yoksimert_look_up(equal_indices, 70000, 5);
+    printf("equal: start %zu, %u\n", offset.start, offset.elements);
     return 0;
 }

@@ -45,7 +45,7 @@ fn events_grow_to_the_maximum() {
     assert_eq!(held, Ok(Some((3, SignalValueRef::Event))));
 }
 
-/// A contact that chatters on one index: every change is counted, each can be read, and the last one holds.
+/// Every change at an index is counted, each can be read, and the last one holds.
 #[test]
 fn every_change_at_an_index_is_counted() {
     for elements in [65_535, 65_536, 70_000, 131_072, MAXIMUM as u32] {
