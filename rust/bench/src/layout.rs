@@ -2,13 +2,12 @@
 
 use crate::by_hand;
 use crate::inner::{self, Packable, entry_size};
-use crate::strings::{SETS, string};
+use crate::strings::{SETS, WIDTHS, string};
 use crate::timing::{best, in_turn};
 use oracle::States;
 use std::hint::black_box;
 use std::time::Duration;
 
-const WIDTHS: [usize; 7] = [1, 3, 8, 32, 64, 256, 4096];
 const STRINGS: u64 = 64;
 
 /// A table of ns a character, a row for each set and width. `measure` times one row: so many turns over the strings,

@@ -2,7 +2,7 @@
 
 use crate::by_hand;
 use crate::inner::{self, Rising};
-use crate::strings::{SETS, string, strings_apart};
+use crate::strings::{SETS, WIDTHS, string, strings_apart};
 use crate::timing::{best, in_turn, per};
 use oracle::{Record, States};
 use std::cell::RefCell;
@@ -55,7 +55,7 @@ pub fn add() {
         "| set | width | yoksimert | wellen | wellen / yoksimert | by hand |\n|---|---|---|---|---|---|"
     );
     for states in SETS {
-        for width in [1usize, 3, 8, 32, 64, 256, 4096] {
+        for width in WIDTHS {
             add_at(states, width);
         }
     }

@@ -4,6 +4,9 @@ use oracle::States;
 
 pub const SETS: [States; 3] = [States::Two, States::Four, States::Nine];
 
+/// How many wires the strings have. Of 1, 3, 65, 255 and 4,095 the first byte is not full in any set.
+pub const WIDTHS: [usize; 10] = [1, 3, 8, 32, 64, 65, 255, 256, 4095, 4096];
+
 /// A string whose least set this is: letters of the set without order, and at one place, which differs from string to string, one that
 /// no smaller set has.
 pub fn string(states: States, width: usize, seed: u64) -> Vec<u8> {
