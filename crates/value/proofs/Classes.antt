@@ -5,18 +5,17 @@ use mathlib.Core.Bool.{Bool, true, false, not, cond, _&&_, _||_, true≢false}
 use mathlib.Core.List.{List, [], _∷_}
 use Prim.Native.Nat.{ℕ, _+_, _≤_, _<_, min}
 use native.Mathlib.Omega.{arith}
-use borrow.Author.Tests.{eqb-true, leb-true, leb-false, lt-ltb, lt-leb, eq-eqb, ne-eqb}
+use borrow.Author.Tests.{eqb-true, leb-true, leb-false, lt-ltb, eq-eqb, ne-eqb}
 use lib.Dec.{T, eqb, leb, ltb}
 use lib.Bits.{bitOr, bitAnd, or-add-and, or-zero-l, and-le-r}
 use lib.ListN.{length, getD, take}
 use Rattle.value.specs.declared.States.{States}
 use Rattle.value.specs.declared.States.the-variants.{Two, Four, Nine}
-use Rattle.value.specs.declared.CharCode.the-variants as code
 use Rattle.value.specs.declared.StatesAnswer.{StatesAnswer}
 use Rattle.value.specs.declared.StatesAnswer.the-variants as answer
 use Rattle.value.specs.Slice.{any}
-use Rattle.value.specs.Level.{letters, codeOf, letterOf, fold, foldAll, codesOf, placeIn, markOf, codesIn, hasNoCode, setOf, leastOf, joinAll}
-use Rattle.value.specs.Answer.{charCode, leastStates, holdsOne, holdsAll}
+use Rattle.value.specs.Level.{codeOf, fold, foldAll, codesOf, placeIn, markOf, codesIn, hasNoCode, setOf, leastOf, joinAll}
+use Rattle.value.specs.Answer.{leastStates, holdsOne, holdsAll}
 use Rattle.value.proofs.Tests.{or-left, or-right, by-eq, allBelow, at-below, implies, implied, both, both-same}
 use Rattle.value.proofs.Slices.{any-snoc}
 use Rattle.value.specs.Digits.{Below}
@@ -46,33 +45,9 @@ code-by N F t c h k =
     eqb-true (F c) (codeOf (fold c))
     (each-byte (λ (n : ℕ). ltb (codeOf (fold n)) N) (λ (n : ℕ). eqb (F n) (codeOf (fold n))) t c h (lt-ltb (codeOf (fold c)) N k))
 
--- the table of codes by low bits
-abbrev pub lowBits : List ℕ
-lowBits = 9 ∷ 9 ∷ 9 ∷ 9 ∷ 9 ∷ 9 ∷ 9 ∷ 9 ∷ 4 ∷ 9 ∷ 9 ∷ 9 ∷ 7 ∷ 8 ∷ 9 ∷ 9 ∷ 0 ∷ 1 ∷ 9 ∷ 9 ∷ 9 ∷ 5 ∷ 9 ∷ 6 ∷ 2 ∷ 9 ∷ 3 ∷ 9 ∷ 9 ∷ 9 ∷ 9 ∷ 9 ∷ []
-
-pub low-bits : (c : ℕ) → c < 256 → codeOf (fold c) < 9 → getD lowBits (bitAnd c 31) 0 ≡ codeOf (fold c)
-unfolding codeOf placeIn fold
-low-bits = code-by 9 (λ (n : ℕ). getD lowBits (bitAnd n 31) 0) tt
-
--- the code of a known character whose low bits are known
-pub low-code : (c : ℕ) {k r : ℕ} → c < 256 → bitAnd c 31 ≡ k → getD lowBits k 0 ≡ r → codeOf (fold c) < 9 → r ≡ codeOf (fold c)
-low-code c h e g n = sym g ∙ ap (λ (i : ℕ). getD lowBits i 0) (sym e) ∙ low-bits c h n
-
--- the low bits of the known characters but 0
-abbrev pub lowPlaces : List ℕ
-lowPlaces = 17 ∷ 24 ∷ 26 ∷ 8 ∷ 21 ∷ 23 ∷ 12 ∷ 13 ∷ []
-
-pub other-low : (c : ℕ) → c < 256 → any (eqb (bitAnd c 31)) lowPlaces ≡ false → codeOf (fold c) < 9 → 0 ≡ codeOf (fold c)
-unfolding codeOf placeIn fold any
-other-low c h o k =
-    eqb-true 0 (codeOf (fold c))
-    (each-byte (λ (n : ℕ). ltb (codeOf (fold n)) 9 && not (any (eqb (bitAnd n 31)) lowPlaces)) (λ (n : ℕ). eqb 0 (codeOf (fold n))) tt c h
-    (rw (lt-ltb (codeOf (fold c)) 9 k, o)))
-
--- the letter of a code that is known
-pub letter-is : {n k l : ℕ} → n ≡ k → getD letters k 0 ≡ l → l ≡ letterOf n
-unfolding letterOf
-letter-is e g = sym g ∙ ap letterOf (sym e)
+-- what the arm of a match answers at its number
+pub arm-is : {A : Type 0} (f : ℕ → A) {n k : ℕ} {r : A} → n ≡ k → f k ≡ r → r ≡ f n
+arm-is f e g = sym g ∙ ap f (sym e)
 
 -- 0 and 1
 pub binary-bit : (c : ℕ) → c < 256 → codeOf (fold c) < 2 → bitAnd c 1 ≡ codeOf (fold c)
@@ -88,18 +63,6 @@ pub min-zero : {r : ℕ} (a b : ℕ) → r ≡ min a b → eqb r 0 ≡ eqb a 0 |
 min-zero {r} a b e =
     by-eq a 0 (λ (z : a ≡ 0). rw (eq-eqb r 0 (omega arith), eq-eqb a 0 z))
     (λ n. rw (ne-eqb a 0 n) (by-eq b 0 (λ (z : b ≡ 0). rw (eq-eqb r 0 (omega arith), eq-eqb b 0 z)) (λ m. rw (ne-eqb r 0 (λ z. omega arith), ne-eqb b 0 m))))
-
-known-is : (c : ℕ) → true ≡ holdsOne 9 c → codeOf (fold c) < 9
-unfolding holdsOne
-known-is c e = leb-false 9 (codeOf (fold c)) (not-true (leb 9 (codeOf (fold c))) e)
-
-pub known-char : (c n : ℕ) → true ≡ holdsOne 9 c → (codeOf (fold c) < 9 → n ≡ codeOf (fold c)) → code.Code n ≡ charCode c
-unfolding charCode
-known-char c n e f = rw (f (known-is c e), lt-leb 9 (codeOf (fold c)) (known-is c e))
-
-pub foreign-char : (c : ℕ) → false ≡ holdsOne 9 c → code.Foreign ≡ charCode c
-unfolding charCode holdsOne
-foreign-char c e = rw (not-false (leb 9 (codeOf (fold c))) e)
 
 -- ---- a string
 

@@ -1,9 +1,10 @@
 -- The codes, the letters, the sets and their bytes, by computation over the definitions.
 -- Assumes nothing.
 use mathlib.Core.Path.{_≡_, refl}
-use mathlib.Core.List.{[], _∷_}
+use mathlib.Core.List.{[], _∷_, map}
 use Rattle.value.specs.declared.States.the-variants.{Two, Four, Nine}
 use Rattle.value.specs.Text.{chars}
+use Rattle.value.specs.Page.{page, codeOn}
 use Rattle.value.specs.Digits.{number}
 use Rattle.value.specs.Answer.{levelAt}
 use Rattle.value.specs.Level.{placeIn, codeOf, letterOf, fold, foldAll, codesOf, textOf, setOf, leastOf, lenOf, joinAll}
@@ -16,6 +17,15 @@ codes :
     × (textOf (0 ∷ 1 ∷ 2 ∷ 3 ∷ 4 ∷ 5 ∷ 6 ∷ 7 ∷ 8 ∷ []) ≡ chars "01xzhuwl-")
 unfolding placeIn codeOf letterOf fold
 codes = (refl, refl, refl, refl)
+
+-- the page read from its first line to its last, what each code stands for, and bytes that are not on it
+page-read :
+    (map (codeOn page) (chars "UX01ZWLH-") ≡ 5 ∷ 2 ∷ 0 ∷ 1 ∷ 3 ∷ 6 ∷ 7 ∷ 4 ∷ 8 ∷ [])
+    × (map (codeOn page) (chars "uxzwlh") ≡ 5 ∷ 2 ∷ 3 ∷ 6 ∷ 7 ∷ 4 ∷ [])
+    × (textOf (map (codeOn page) (chars "UX01ZWLH-uxzwlh")) ≡ chars "ux01zwlh-uxzwlh")
+    × (map (codeOn page) (chars "/2ay_@[`{") ≡ 9 ∷ 9 ∷ 9 ∷ 9 ∷ 9 ∷ 9 ∷ 9 ∷ 9 ∷ 9 ∷ [])
+unfolding codeOn letterOf
+page-read = (refl, refl, refl, refl)
 
 sets :
     (leastOf (codesOf (chars "0110")) ≡ Two)

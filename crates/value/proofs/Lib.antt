@@ -7,3 +7,4 @@ pub mod Backward
 pub mod Levels
 pub mod Classes
 pub mod Packed
+pub mod Page

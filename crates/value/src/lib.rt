@@ -1,10 +1,10 @@
 // Levels and state sets, after wellen's src/signal/value.rs.
 ghost use mathlib.Core.Path.{_≡_};
 ghost use mathlib.Core.Bool.{_||_, false};
-ghost use Prim.Native.Nat.{_-_, _/_, _^_, _<_, min};
+ghost use Prim.Native.Nat.{_-_, _/_, _^_, min};
 ghost use lib.Dec.{eqb};
 ghost use lib.ListN.{length};
-ghost use Rattle.value.specs.Level.{codeOf, fold, letterOf, markOf, bitsOf, lenOf};
+ghost use Rattle.value.specs.Level.{letterOf, markOf, bitsOf, lenOf};
 ghost use Rattle.value.specs.Level as level;
 ghost use Rattle.value.specs.Answer.{charCode, leastStates, holdsOne, holdsAll, levelAt, LevelIn};
 
@@ -27,35 +27,27 @@ pub enum StatesAnswer {
     Foreign,
 }
 
-// Codes by the low five bits of a character, which tell the letters apart. Where they are no letter's, 9, the tab's number.
-pub const LOW_BITS: [u8; 32] =
-    *b"\t\t\t\t\t\t\t\t\x04\t\t\t\x07\x08\t\t\0\x01\t\t\t\x05\t\x06\x02\t\x03\t\t\t\t\t";
-
-// The code of a character that is not foreign, by its low five bits too: a constant array would be made anew for each character.
-pub fn known_code(value: u8) -> u8
-    ensures { λ r. ⌜ (codeOf (fold value) < 9 → r ≡ codeOf (fold value)) ⌝ }
-{
-    let low = value & 31;
-    match low {
-        17 => 1,
-        24 => 2,
-        26 => 3,
-        8 => 4,
-        21 => 5,
-        23 => 6,
-        12 => 7,
-        13 => 8,
-        _ => 0,
-    }
-}
-
+// In the order of IEEE 1164's own list, then its small letters: as the page has them (specs/Page).
 pub fn bit_char_to_num(value: u8) -> CharCode
     ensures { λ r. ⌜ r ≡ charCode value ⌝ }
 {
-    if beside_nine(value) == 0 {
-        CharCode::Code(known_code(value))
-    } else {
-        CharCode::Foreign
+    match value {
+        b'U' => CharCode::Code(5),
+        b'X' => CharCode::Code(2),
+        b'0' => CharCode::Code(0),
+        b'1' => CharCode::Code(1),
+        b'Z' => CharCode::Code(3),
+        b'W' => CharCode::Code(6),
+        b'L' => CharCode::Code(7),
+        b'H' => CharCode::Code(4),
+        b'-' => CharCode::Code(8),
+        b'u' => CharCode::Code(5),
+        b'x' => CharCode::Code(2),
+        b'z' => CharCode::Code(3),
+        b'w' => CharCode::Code(6),
+        b'l' => CharCode::Code(7),
+        b'h' => CharCode::Code(4),
+        _ => CharCode::Foreign,
     }
 }
 

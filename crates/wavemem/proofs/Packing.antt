@@ -7,23 +7,23 @@ use Prim.Native.Nat.{ℕ, zero, suc, _+_, _-_, _*_, _/_, _%_, _^_, _≤_, _<_}
 use native.Mathlib.Nat.{zero-lt-suc, add-mul, mul-assoc, suc-mul, zero-mul, mul-le-mul-right, lt-of-lt-of-le}
 use native.Mathlib.Numerals.{add-one}
 use native.Mathlib.Omega.{arith}
-use lib.Dec.{eqb}
+use lib.Dec.{eqb, leb, ltb, leb→le, ltb→lt}
 use lib.ListN.{length, getD, take, drop, set, length-append, length-map, length-drop, take-append-drop, List·getD-map}
 use lib.Seq.{length-take-le, take-add, take-suc, take-all, drop-cons}
-use lib.Bits.{bitOr, or-shifted, or-shifted-r, or-zero-r}
+use lib.Bits.{bitAnd, bitOr, or-shifted, or-shifted-r, or-zero-r}
 use lib.Pow.{pow-add, pow-mono, shl-exact}
-use borrow.Author.Tests.{lt-leb}
+use borrow.Author.Tests.{eqb-true, le-leb, lt-leb, lt-ltb}
 use Rattle.value.specs.declared.States.{States}
 use Rattle.value.specs.declared.States.the-variants.{Two, Four, Nine}
 use Rattle.value.specs.declared.CharCode.the-variants as code
 use Rattle.value.specs.Digits.{number, digits, Below}
 use Rattle.value.specs.Slice.{part, overlay, same}
-use Rattle.value.specs.Level.{fold, foldAll, codeOf, codesOf, bitsOf, lenOf, isNoCode}
+use Rattle.value.specs.Level.{fold, foldAll, placeIn, codeOf, codesOf, bitsOf, lenOf, isNoCode}
 use Rattle.value.specs.Answer.{charCode}
-use Rattle.value.proofs.Tests.{by-le}
+use Rattle.value.proofs.Tests.{to-T, and-left, and-right, by-le}
 use Rattle.value.proofs.Slices.{overlay-nil, overlay-one, overlay-overlay, overlay-store}
 use Rattle.value.proofs.Levels.{len-bits, bits-pos}
-use Rattle.value.proofs.Classes.{lowBits, low-bits}
+use Rattle.value.proofs.Classes.{each-byte, code-by}
 use Rattle.value.proofs.Digits.{below-at, below-take, below-drop, pow-pow, number-lt, number-append, number-more, digits-length, digits-append}
 use Rattle.wavemem.specs.Packed.{packedWith, packedFrom, firstCount, Codes, OneWord, OneByte, ByLowBits, WholeBytes, Packable}
 
@@ -35,12 +35,20 @@ code-is c n e = go (isNoCode (codeOf (fold c))) e
     go true e = cc
     go false e = cc
 
-pub not-foreign : (c : ℕ) → codeOf (fold c) < 9 → charCode c ≡ code.Foreign → ⊥
+not-foreign : (c : ℕ) → codeOf (fold c) < 9 → charCode c ≡ code.Foreign → ⊥
 unfolding charCode
 not-foreign c h e =
     let f : code.Code (codeOf (fold c)) ≡ code.Foreign = sym (simp (lt-leb 9 (codeOf (fold c)) h)) ∙ e in
     let z : _≡_ {A = ℕ} 0 1 = cc in
     omega arith
+
+-- the number of a foreign byte
+pub foreign-is : (c : ℕ) → c < 256 → charCode c ≡ code.Foreign → 9 ≡ codeOf (fold c)
+unfolding codeOf placeIn fold
+foreign-is c h e =
+    by-le 9 (codeOf (fold c))
+    (λ l. eqb-true 9 (codeOf (fold c)) (each-byte (λ (n : ℕ). isNoCode (codeOf (fold n))) (λ (n : ℕ). eqb 9 (codeOf (fold n))) tt c h (le-leb 9 _ l)))
+    (λ l. absurd (not-foreign c l e))
 
 -- ---- the working number
 
@@ -58,6 +66,15 @@ module _ (room b : ℕ) (cs : List ℕ) (below : Below (2 ^ b) cs) (short : leng
       let k : c < 2 ^ b = rw is (below-at (2 ^ b) cs below i d more) in
       rw (so-far, shl-exact {a = n} (i * b) b room l f, or-shifted n b c k, number-more (2 ^ b) cs i d more, is)
 
+-- the place of a character in a table by low bits
+known-place : (c : ℕ) → c < 256 → codeOf (fold c) < 9 → (8 ≤ bitAnd c 31) × (bitAnd c 31 < 27)
+unfolding codeOf placeIn fold
+known-place c h k =
+    let low = bitAnd c 31 in
+    let test : ℕ → Bool = λ (n : ℕ). leb 8 (bitAnd n 31) && ltb (bitAnd n 31) 27 in
+    let t = to-T (test c) (each-byte (λ (n : ℕ). ltb (codeOf (fold n)) 9) test tt c h (lt-ltb (codeOf (fold c)) 9 k)) in
+    (leb→le 8 low (and-left (leb 8 low) (ltb low 27) t), ltb→lt low 27 (and-right (leb 8 low) (ltb low 27) t))
+
 -- of the code of the next character
 module _ {s : States} {v : List ℕ} (ok : OneWord s v) (i : ℕ) (more : i < length v) where
   more-codes : i < length (codesOf (foldAll v))
@@ -65,6 +82,9 @@ module _ {s : States} {v : List ℕ} (ok : OneWord s v) (i : ℕ) (more : i < le
 
   pub code-below : (n : ℕ) → Below n (codesOf (foldAll v)) → codeOf (fold (getD v i 0)) < n
   code-below n below = rw (← code-at v i) (below-at n (codesOf (foldAll v)) below i (codeOf (fold 0)) more-codes)
+
+  pub low-place : getD v i 0 < 256 → (8 ≤ bitAnd (getD v i 0) 31) × (bitAnd (getD v i 0) 31 < 27)
+  low-place byte = known-place (getD v i 0) byte (code-below 9 (ok .codes .known))
 
   pub next-code : (b working c : ℕ) → b ≡ bitsOf s → working ≡ number (2 ^ b) (take i (codesOf (foldAll v))) → c ≡ codeOf (fold (getD v i 0))
       → bitOr (working * 2 ^ b % 2 ^ 64) c ≡ number (2 ^ b) (take (i + 1) (codesOf (foldAll v)))
@@ -153,8 +173,13 @@ byte-small {s} {v} ok =
     lt-of-lt-of-le (rw (pow-pow 2 (bitsOf s) (length cs)) at (number-lt (2 ^ bitsOf s) cs (ok .codes .below)))
     (pow-mono {j = 8} (rw length-codes (ok .short)))
 
-pub by-low-bits : ByLowBits lowBits
-by-low-bits = record { here = low-bits }
+-- the table of the letters
+abbrev letterCodes : List ℕ
+letterCodes = 4 ∷ 9 ∷ 9 ∷ 9 ∷ 7 ∷ 8 ∷ 9 ∷ 9 ∷ 0 ∷ 1 ∷ 9 ∷ 9 ∷ 9 ∷ 5 ∷ 9 ∷ 6 ∷ 2 ∷ 9 ∷ 3 ∷ []
+
+pub by-low-bits : ByLowBits letterCodes
+unfolding codeOf placeIn fold
+by-low-bits = record { here = code-by 9 (λ (n : ℕ). getD letterCodes (bitAnd n 31 - 8) 0) tt }
 
 -- ---- packed levels
 

@@ -39,9 +39,9 @@ pub record OneByte (s : States) (value : List ℕ) : Type 0 where
   pub codes : Codes s (codesOf (foldAll value))
   pub short : length value * bitsOf s ≤ 8
 
--- a table of codes by the low five bits of a character that is not foreign
+-- a table of codes by the low five bits, less 8, of a character that is not foreign
 pub record ByLowBits (codes : List ℕ) : Type 0 where
-  pub here : (c : ℕ) → c < 256 → codeOf (fold c) < 9 → getD codes (bitAnd c 31) 0 ≡ codeOf (fold c)
+  pub here : (c : ℕ) → c < 256 → codeOf (fold c) < 9 → getD codes (bitAnd c 31 - 8) 0 ≡ codeOf (fold c)
 
 -- characters that fill one byte
 pub record FullByte (s : States) (value : List ℕ) : Type 0 where

@@ -4,7 +4,7 @@ ghost use Prim.Native.Nat.{_+_, _/_, _^_, _≤_};
 ghost use lib.ListN.{length};
 ghost use Rattle.value.specs.Digits.{number};
 ghost use Rattle.value.specs.Slice.{part, overlay, same};
-ghost use Rattle.value.specs.Level.{foldAll, codesOf, bitsOf, lenOf};
+ghost use Rattle.value.specs.Level.{fold, foldAll, codeOf, codesOf, bitsOf, lenOf};
 ghost use Rattle.wavemem.specs.Packed.{packedFrom, firstCount, OneWord, OneByte, FullByte, ByLowBits, WholeBytes, Packable};
 use value::CharCode;
 use value::States;
@@ -14,8 +14,35 @@ mod chunks;
 pub mod scan;
 pub mod short;
 
+// The code of a character, and 9 of a foreign byte.
+fn code_of(value: u8) -> u8
+    ensures { λ r. ⌜ r ≡ codeOf (fold value) ⌝ }
+{
+    let CharCode::Code(code) = value::bit_char_to_num(value) else {
+        return 9;
+    };
+    code
+}
+
+// The table of the letters: their codes by the low five bits, which tell them apart, from 8 of H to 26 of Z, and 9 where these are no
+// letter's. The compiler works it out, so that no jump of the match is left.
+fn codes_by_low_bits() -> [u8; 19]
+    ensures { λ r. ⌜ ByLowBits r ⌝ }
+{
+    let u = code_of(b'U');
+    let x = code_of(b'X');
+    let zero = code_of(b'0');
+    let one = code_of(b'1');
+    let z = code_of(b'Z');
+    let w = code_of(b'W');
+    let l = code_of(b'L');
+    let h = code_of(b'H');
+    let d = code_of(b'-');
+    [h, 9, 9, 9, l, d, 9, 9, zero, one, 9, 9, 9, u, 9, w, x, 9, z]
+}
+
 // The number of so few characters that 64 bits hold their levels, by a table of codes. None is foreign.
-fn levels_from_ascii(states: States, codes: &[u8; 32], value: &[u8]) -> u64
+fn levels_from_ascii(states: States, codes: &[u8; 19], value: &[u8]) -> u64
     requires { ⌜ OneWord states (now value) × ByLowBits (now codes) ⌝ }
     ensures { λ r. ⌜ r ≡ number (2 ^ bitsOf states) (codesOf (foldAll (now (value .entry)))) ⌝ }
 {
@@ -23,38 +50,29 @@ fn levels_from_ascii(states: States, codes: &[u8; 32], value: &[u8]) -> u64
     let mut working: u64 = 0;
     let mut i = 0;
     while i < value.len() {
-        let low = value[i] & 31;
-        let code = wide(codes[low as usize]);
+        let low = (value[i] & 31) as usize;
+        let code = wide(codes[low - 8]);
         i += 1;
         working = (working << bits) | code;
     }
     working
 }
 
-// The byte of so few characters that one byte holds them, each code taken as it comes.
-fn byte_from_ascii(states: States, value: &[u8]) -> u8
-    requires { ⌜ OneByte states (now value) ⌝ }
-    ensures { λ r. ⌜ r ≡ number (2 ^ bitsOf states) (codesOf (foldAll (now (value .entry)))) ⌝ }
-{
-    let bits = states.bits();
-    let mut working: u8 = 0;
-    let mut i = 0;
-    while i < value.len() {
-        let CharCode::Code(code) = value::bit_char_to_num(value[i]) else {
-            return working;
-        };
-        i += 1;
-        working = (working << bits) | code;
-    }
-    working
-}
-
-// The byte of so few characters, by the table, which a loop over whole bytes reads faster.
-fn byte_by_low_bits(states: States, codes: &[u8; 32], value: &[u8]) -> u8
+// The byte of so few characters that one byte holds them.
+fn byte_by_low_bits(states: States, codes: &[u8; 19], value: &[u8]) -> u8
     requires { ⌜ OneByte states (now value) × ByLowBits (now codes) ⌝ }
     ensures { λ r. ⌜ r ≡ number (2 ^ bitsOf states) (codesOf (foldAll (now (value .entry)))) ⌝ }
 {
     levels_from_ascii(states, codes, value) as u8
+}
+
+// `byte_by_low_bits` with the table of the letters.
+fn byte_from_ascii(states: States, value: &[u8]) -> u8
+    requires { ⌜ OneByte states (now value) ⌝ }
+    ensures { λ r. ⌜ r ≡ number (2 ^ bitsOf states) (codesOf (foldAll (now (value .entry)))) ⌝ }
+{
+    let codes = codes_by_low_bits();
+    byte_by_low_bits(states, &codes, value)
 }
 
 // Eight bytes as one number, the first one highest. Each has its own shift, so that it is compiled to one load.
@@ -116,7 +134,7 @@ fn word_from_ascii(states: States, value: &[u8]) -> u64
     requires { ⌜ OneWord states (now value) ⌝ }
     ensures { λ r. ⌜ r ≡ number (2 ^ bitsOf states) (codesOf (foldAll (now (value .entry)))) ⌝ }
 {
-    let codes = value::LOW_BITS;
+    let codes = codes_by_low_bits();
     levels_from_ascii(states, &codes, value)
 }
 
@@ -133,7 +151,7 @@ pub fn number_from_ascii(states: States, value: &[u8]) -> u64
 }
 
 // Stores the levels of a string that fills whole bytes. Returns the place behind them.
-fn write_bytes(states: States, codes: &[u8; 32], value: &[u8], out: &mut [u8], at: usize) -> usize
+fn write_bytes(states: States, codes: &[u8; 19], value: &[u8], out: &mut [u8], at: usize) -> usize
     requires { ⌜ WholeBytes states (now value) (length (now out)) at × ByLowBits (now codes) ⌝ }
     ensures { λ r. ⌜ r ≡ at + lenOf (length (now (value .entry))) states ⌝ }
     ensures { λ _. ⌜ now (out .exit) ≡ overlay (now (out .entry)) at (packedFrom states 0 (now (value .entry))) ⌝ }
@@ -168,7 +186,7 @@ fn write_bits(value: &[u8], out: &mut [u8], at: usize) -> usize
 }
 
 // Whether the bytes from a place on are those that `write_bytes` would store there.
-fn equals_bytes(states: States, codes: &[u8; 32], value: &[u8], bytes: &[u8], at: usize) -> bool
+fn equals_bytes(states: States, codes: &[u8; 19], value: &[u8], bytes: &[u8], at: usize) -> bool
     requires { ⌜ WholeBytes states (now value) (length (now bytes)) at × ByLowBits (now codes) ⌝ }
     ensures { λ r. ⌜ r ≡ same (part at (lenOf (length (now (value .entry))) states) (now (bytes .entry))) (packedFrom states 0 (now (value .entry))) ⌝ }
 {
@@ -210,7 +228,7 @@ fn write_whole(states: States, value: &[u8], out: &mut [u8], at: usize) -> usize
     ensures { λ r. ⌜ r ≡ at + lenOf (length (now (value .entry))) states ⌝ }
     ensures { λ _. ⌜ now (out .exit) ≡ overlay (now (out .entry)) at (packedFrom states 0 (now (value .entry))) ⌝ }
 {
-    let codes = value::LOW_BITS;
+    let codes = codes_by_low_bits();
     match states {
         States::Two => write_bits(value, out, at),
         States::Four => {
@@ -231,7 +249,7 @@ fn equals_whole(states: States, value: &[u8], bytes: &[u8], at: usize) -> bool
     requires { ⌜ WholeBytes states (now value) (length (now bytes)) at ⌝ }
     ensures { λ r. ⌜ r ≡ same (part at (lenOf (length (now (value .entry))) states) (now (bytes .entry))) (packedFrom states 0 (now (value .entry))) ⌝ }
 {
-    let codes = value::LOW_BITS;
+    let codes = codes_by_low_bits();
     match states {
         States::Two => equals_bits(value, bytes, at),
         States::Four => {

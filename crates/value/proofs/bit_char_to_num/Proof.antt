@@ -1,17 +1,32 @@
--- `value::bit_char_to_num` meets its contract.
+-- `value::bit_char_to_num` meets its contract: each arm has the code of its byte, and the last one is left what is not on the page.
 -- Assumes nothing.
-use mathlib.Core.Path.{sym, _∙_}
-use borrow.Author.Needs.{needs}
-use borrow.Author.Tests.{eq-eqb, ne-eqb}
-use Rattle.value.proofs.Classes.{known-char, foreign-char}
+use mathlib.Core.Path.{refl}
+use native.Mathlib.Omega.{arith}
+use Rattle.value.specs.Level.{placeIn, codeOf, fold}
+use Rattle.value.specs.Answer.{charCode}
+use Rattle.value.proofs.Classes.{arm-is}
+use Rattle.value.proofs.Page.{off-page}
 use Rattle.value.proofs.bit_char_to_num.Statement.{statement}
 use Rattle.value.proofs.bit_char_to_num.Tie as tie
 
-returns : tie.Need-returns
-returns c = known-char (c .before .before .before .args .value) _ (sym (eq-eqb _ 0 (c .before .if1 .taken)) ∙ c .before .before .beside-nine .ensures) (c .known-code .ensures)
-
-returns-2 : tie.Need-returns-2
-returns-2 c = foreign-char (c .before .before .args .value) (sym (ne-eqb _ 0 (c .if1 .left)) ∙ c .before .beside-nine .ensures)
-
 pub bit-char-to-num-spec : {M : Type 1} → statement M
-bit-char-to-num-spec = tie.close (tie.spec (λ c κs. search needs) (λ c κs. search needs) returns returns-2)
+unfolding charCode codeOf placeIn fold
+bit-char-to-num-spec =
+    tie.close
+    (tie.spec
+    (λ c. arm-is charCode (c .match .keys1) refl)
+    (λ c. arm-is charCode (c .match .keys2) refl)
+    (λ c. arm-is charCode (c .match .keys3) refl)
+    (λ c. arm-is charCode (c .match .keys4) refl)
+    (λ c. arm-is charCode (c .match .keys5) refl)
+    (λ c. arm-is charCode (c .match .keys6) refl)
+    (λ c. arm-is charCode (c .match .keys7) refl)
+    (λ c. arm-is charCode (c .match .keys8) refl)
+    (λ c. arm-is charCode (c .match .keys9) refl)
+    (λ c. arm-is charCode (c .match .keys10) refl)
+    (λ c. arm-is charCode (c .match .keys11) refl)
+    (λ c. arm-is charCode (c .match .keys12) refl)
+    (λ c. arm-is charCode (c .match .keys13) refl)
+    (λ c. arm-is charCode (c .match .keys14) refl)
+    (λ c. arm-is charCode (c .match .keys15) refl)
+    (λ c. off-page (c .before .args .value) (omega arith) (c .match .rest)))

@@ -5,7 +5,7 @@ use Prim.Native.Nat.{ℕ, suc, _≤_, zero-le}
 use native.Mathlib.Omega.{arith}
 use lib.ListN.{List·getD-eq-default}
 use Rattle.value.specs.Level.{letters, letterOf}
-use Rattle.value.proofs.Classes.{letter-is}
+use Rattle.value.proofs.Classes.{arm-is}
 use Rattle.value.proofs.num_to_bit_char.Statement.{statement}
 use Rattle.value.proofs.num_to_bit_char.Tie as tie
 
@@ -21,16 +21,17 @@ other c =
     sym (List·getD-eq-default letters 0 (up 8 _ (up 7 _ (up 6 _ k (r .0 .0 .1)) (r .0 .1)) (r .1)))
 
 pub num-to-bit-char-spec : {M : Type 1} → statement M
+unfolding letterOf
 num-to-bit-char-spec =
     tie.close
     (tie.spec
-    (λ c. letter-is (c .match .keys1) refl)
-    (λ c. letter-is (c .match .keys2) refl)
-    (λ c. letter-is (c .match .keys3) refl)
-    (λ c. letter-is (c .match .keys4) refl)
-    (λ c. letter-is (c .match .keys5) refl)
-    (λ c. letter-is (c .match .keys6) refl)
-    (λ c. letter-is (c .match .keys7) refl)
-    (λ c. letter-is (c .match .keys8) refl)
-    (λ c. letter-is (c .match .keys9) refl)
+    (λ c. arm-is letterOf (c .match .keys1) refl)
+    (λ c. arm-is letterOf (c .match .keys2) refl)
+    (λ c. arm-is letterOf (c .match .keys3) refl)
+    (λ c. arm-is letterOf (c .match .keys4) refl)
+    (λ c. arm-is letterOf (c .match .keys5) refl)
+    (λ c. arm-is letterOf (c .match .keys6) refl)
+    (λ c. arm-is letterOf (c .match .keys7) refl)
+    (λ c. arm-is letterOf (c .match .keys8) refl)
+    (λ c. arm-is letterOf (c .match .keys9) refl)
     other)

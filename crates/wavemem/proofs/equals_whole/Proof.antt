@@ -10,14 +10,13 @@ use lib.ListN.{length, drop}
 use Rattle.value.specs.declared.States.{States}
 use Rattle.value.specs.declared.States.the-variants.{Four}
 use Rattle.wavemem.specs.Packed.{WholeBytes}
-use Rattle.wavemem.proofs.Packing.{by-low-bits}
 use Rattle.wavemem.proofs.Parts.{Passed, agree, lead-four, front-length, front-whole, back-is, back-lent, both-compared}
 use Rattle.wavemem.proofs.equals_whole.Statement.{statement}
 use Rattle.wavemem.proofs.equals_whole.Tie as tie
 
 -- the string, where the set is Four
 abbrev start : tie.After-enum-told2 → tie.Start
-start c = c .before .before .before .before
+start c = c .before .before .before .before .before
 
 four : (c : tie.After-enum-told2) → let x = start c .args in WholeBytes Four (now (x .value)) (length (now (x .bytes))) (x .at)
 four c =
@@ -34,7 +33,7 @@ slice-aggregate-equals-bytes : tie.Need-slice-aggregate-equals-bytes
 slice-aggregate-equals-bytes c = let e = c .before .before in sym (front-length (four e) (lead e))
 
 equals-bytes-requires : tie.Need-equals-bytes-requires
-equals-bytes-requires c κs = let e = c .before .before in (front-whole (four e) (lead e), by-low-bits)
+equals-bytes-requires c κs = let e = c .before .before in (front-whole (four e) (lead e), e .before .before .codes-by-low-bits .ensures)
 
 sub-equals-words : tie.Need-sub-equals-words
 sub-equals-words c = lead (c .before .before .before .before) .within
@@ -51,7 +50,9 @@ equals-words-requires : tie.Need-equals-words-requires
 equals-words-requires c κs = let e = c .before .before .before .before .before in back-lent (four e) (lead e)
 
 equals-bytes-requires-2 : tie.Need-equals-bytes-requires-2
-equals-bytes-requires-2 c κs = (rw (c .before .enum-told3 .given .1) at (c .before .before .before .before .before .pre), by-low-bits)
+equals-bytes-requires-2 c κs =
+    let m = c .before .before .before in
+    (rw (c .before .enum-told3 .given .1) at (m .before .before .before .pre), m .codes-by-low-bits .ensures)
 
 -- the comparison of the whole, by that of the characters in front
 compared : (w : tie.After-equals-bytes)
@@ -79,8 +80,9 @@ pub equals-whole-spec : {M : Type 1} → statement M
 equals-whole-spec =
     tie.close
     (tie.spec
+    (λ c κs. search needs)
     (λ c. search needs)
-    (λ c κs. rw (c .enum-told .given .1) at (c .before .before .before .before .pre))
+    (λ c κs. rw (c .enum-told .given .1) at (c .before .before .before .before .before .pre))
     (λ c. search needs)
     slice-aggregate-equals-bytes
     equals-bytes-requires

@@ -1,17 +1,17 @@
 -- `wavemem::levels_from_ascii` meets its contract: the working number is that of the characters so far.
 -- Assumes nothing.
 use mathlib.Core.Path.{_≡_, refl, _∙_}
-use Prim.Native.Nat.{_-_, _^_, _≤_, zero-le}
+use Prim.Native.Nat.{_-_, _^_, _≤_, _<_, zero-le}
 use native.Mathlib.Omega.{arith}
 use borrow.Author.Needs.{needs}
 use denote.Ref.{now}
-use lib.Bits.{mask-lt}
+use lib.Bits.{bitAnd}
 use lib.ListN.{length, getD, take, length-map}
 use lib.Seq.{take-all}
 use Rattle.value.specs.Digits.{number}
 use Rattle.value.specs.Level.{foldAll, codesOf}
 use Rattle.value.proofs.Levels.{bits-small}
-use Rattle.wavemem.proofs.Packing.{code-below, next-code}
+use Rattle.wavemem.proofs.Packing.{code-below, low-place, next-code}
 use Rattle.wavemem.proofs.levels_from_ascii.Statement.{statement}
 use Rattle.wavemem.proofs.levels_from_ascii.Tie as tie
 
@@ -25,11 +25,12 @@ loop-holds : tie.Need-loop-holds Inv-loop μ-loop
 unfolding number
 loop-holds c = (zero-le, refl)
 
-cast-wide : tie.Need-cast-wide Inv-loop μ-loop
-cast-wide c = omega (arith, mask-lt (getD (now (c .before .before .before .before .before .args .value)) (c .before .before .loop .i) 0) 5)
-
-element-copy-out-wide : tie.Need-element-copy-out-wide Inv-loop μ-loop
-element-copy-out-wide c = mask-lt (getD (now (c .before .before .before .before .before .args .value)) (c .before .before .loop .i) 0) 5
+-- the low bits of the next character
+place : (c : tie.After-shared-slice-known2 Inv-loop μ-loop)
+    → let low = bitAnd (getD (now (c .before .before .before .before .before .args .value)) (c .before .before .loop .i) 0) 31 in (8 ≤ low) × (low < 27)
+place c =
+    let a = c .before .before in
+    low-place (a .before .before .before .pre .0) (a .loop .i) (c .before .loop-test .taken) (omega (arith, c .shared-slice-known2 .given (a .loop .i)))
 
 cast-working : tie.Need-cast-working Inv-loop μ-loop
 cast-working c =
@@ -70,8 +71,9 @@ levels-from-ascii-spec =
     (λ c κs. search needs)
     loop-holds
     (λ c. omega arith)
-    cast-wide
-    element-copy-out-wide
+    (λ c. omega (arith, place c))
+    (λ c. place c .0)
+    (λ c. omega (arith, place c))
     (λ c κs. search needs)
     (λ c. omega arith)
     cast-working
