@@ -1,12 +1,14 @@
-//! What the generated calls are too short for: records and lists of the maximum length, and every first byte of narrow entries.
+//! What the generated calls are too short for: records and lists of the maximum length, every first byte of narrow entries, and every byte
+//! as a character.
 
 use crate::generate::Receiver;
+use crate::operations::add_change::AddChange;
 use crate::operations::look_up::LookUp;
 use crate::operations::number::in_every_form;
 use crate::operations::read::read_and_text;
 use crate::random::Random;
 use crate::record::{LentRecord, SETS, entry_size};
-use oracle::{Description, Encoding, MAXIMUM};
+use oracle::{Change, Description, Encoding, MAXIMUM, States};
 
 /// Every entry of two bytes at most at widths 1 to 3, read, as text and as numbers: marks, levels and stray bits of every kind.
 pub fn every_first_byte(to: &mut dyn Receiver) {
@@ -32,6 +34,43 @@ fn look_at(encoding: Encoding, entry: &[u8], to: &mut dyn Receiver) {
     };
     in_every_form(&record, 0, to);
     read_and_text(record, 0, vec![0x5a; 4], to);
+}
+
+/// Every byte as the first, a middle and the last one of characters of each set, put to a fresh record and then once more: at widths whose
+/// strings are read as one word, by the table of letters, in words and in blocks, with a first byte that is full and one that is not.
+pub fn every_character(to: &mut dyn Receiver) {
+    for width in [1, 3, 8, 13, 16, 33, 64, 65, 71] {
+        let mut places = vec![0, width / 2, width - 1];
+        places.dedup();
+        for (fill, place) in b"0xh"
+            .iter()
+            .flat_map(|fill| places.iter().map(move |at| (fill, at)))
+        {
+            for byte in 0..=255 {
+                let mut string = vec![*fill; width];
+                string[*place] = byte;
+                twice(string, to);
+            }
+        }
+    }
+}
+
+fn twice(string: Vec<u8>, to: &mut dyn Receiver) {
+    let encoding = Encoding::BitVector {
+        width: string.len() as u32,
+        max_states: States::Two,
+    };
+    let mut record = LentRecord::new(Description::counting(encoding, 0), &[0x5a; 80], &[7; 2]);
+    for index in 0..2 {
+        let asked = to.call(AddChange {
+            record: record.clone(),
+            index,
+            change: Change::Text(string.clone()),
+        });
+        let outcome = asked.outcome;
+        let description = outcome.answer.unwrap_or(record.description);
+        record = LentRecord::new(description, &outcome.bytes, &outcome.indices);
+    }
 }
 
 /// Around every index of lists with runs of equal ones: short lists whose runs are of every kind, and lists of the maximum length, one

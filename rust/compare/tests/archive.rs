@@ -37,3 +37,14 @@ fn every_first_byte_agrees() {
     assert_eq!(checker.disagreements, Vec::<String>::new());
     assert_eq!(checker.compared_with_archive(), 5 * 256 * (7 + 2 * 256));
 }
+
+#[test]
+fn every_character_agrees() {
+    let mut checker = Checker::default();
+    long::every_character(&mut checker);
+    assert_eq!(checker.disagreements, Vec::<String>::new());
+    let strings = (1 + 8 * 3) * 3 * 256;
+    assert_eq!(checker.compared_with_archive(), 2 * strings);
+    // 15 letters stand among 256 bytes.
+    assert_eq!(checker.counts["add"].accepted, strings / 256 * 15 * 2);
+}

@@ -1,6 +1,5 @@
 -- `wavemem::codes_by_low_bits` meets its contract: the codes of the letters are those of the table.
 -- Assumes nothing.
-use mathlib.Core.Path.{_≡_, refl}
 use borrow.Author.Needs.{needs}
 use Rattle.value.specs.Level.{codeOf, fold, placeIn}
 use Rattle.wavemem.proofs.Packing.{by-low-bits}
@@ -17,8 +16,8 @@ returns c =
     let one = z .before in
     let zero = one .before in
     let x = zero .before in
-    rw (x .before .code-of .ensures, x .code-of2 .ensures, zero .code-of3 .ensures, one .code-of4 .ensures, z .code-of5 .ensures, w .code-of6 .ensures, l .code-of7 .ensures, h .code-of8 .ensures, c .code-of9 .ensures)
-    by-low-bits
+    rw (x .before .code-of .ensures, x .code-of2 .ensures, zero .code-of3 .ensures, one .code-of4 .ensures)
+    (rw (z .code-of5 .ensures, w .code-of6 .ensures, l .code-of7 .ensures, h .code-of8 .ensures, c .code-of9 .ensures) by-low-bits)
 
 pub codes-by-low-bits-spec : {M : Type 1} → statement M
 codes-by-low-bits-spec =

@@ -68,6 +68,7 @@ mod comparison {
             rows::rows_and_edges(&mut checker);
             rows::long_edges(&mut checker);
             long::every_first_byte(&mut checker);
+            long::every_character(&mut checker);
         });
         if wanted.long {
             timed("look-ups in long lists", || {

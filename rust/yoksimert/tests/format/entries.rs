@@ -31,6 +31,28 @@ impl Replay for Levels {
     }
 }
 
+/// A letter of IEEE 1164's list, its code, and its small letter; how many stand before it. Each is the first of so many characters that
+/// it is told by the table of letters, and not as a part of a word.
+pub struct Page(pub usize);
+
+impl Replay for Page {
+    fn row(&mut self, cells: &[String]) -> (Vec<String>, Shown) {
+        let letter = spans(&cells[0])[0];
+        assert_eq!(letter.as_bytes(), [b"UX01ZWLH-"[self.0]]);
+        self.0 += 1;
+        let entry = |first: &str| written(65, &[&(first.to_string() + &"0".repeat(64))]).bytes;
+        let code = (entry(letter)[0] & 63).to_string();
+        let small = match letter.to_lowercase() {
+            same if same == letter => "–".to_string(),
+            small => {
+                assert_eq!(entry(&small), entry(letter));
+                format!("`{small}`")
+            }
+        };
+        none(vec![cells[0].clone(), code, small])
+    }
+}
+
 /// set, mark, bits a level, codes
 pub struct Sets;
 
