@@ -1,6 +1,6 @@
 // Levels and state sets, after wellen's src/signal/value.rs.
 ghost use mathlib.Core.Path.{_≡_};
-ghost use mathlib.Core.Bool.{_||_, false};
+ghost use mathlib.Core.Bool.{false};
 ghost use Prim.Native.Nat.{_-_, _/_, _^_, min};
 ghost use lib.Dec.{eqb};
 ghost use lib.ListN.{length};
