@@ -1,7 +1,7 @@
 // The twelve rows of document 01 and the documents' edges, run on the code. Each change writes a line: the number, the count, the mark of the
 // largest set, the bytes and the indices, whole. Two bytes aa and three indices 46 stand before the record, and what is behind the used
 // part is aa and 46 too. A look-up writes its number, start, entries, whether equal, and the next index or `-`; one among entries of one
-// index, an edge of document 02, writes their number alone.
+// index, an edge of document 02, writes their number alone. Last come the codes that the match over the byte gives.
 ghost use Prim.Native.Nat.{_<_};
 use derivation::DerivedBitVecSignal;
 use fst::Added;
@@ -13,6 +13,7 @@ use offset::DataOffset;
 use offset::OffsetAnswer;
 use steps::Input;
 use steps::Inputs;
+use value::CharCode;
 
 // The character of a hexadecimal digit.
 fn digit(n: u8) -> u8
@@ -329,6 +330,21 @@ fn edge_equal_indices() {
     count_each(&indices);
 }
 
+fn write_code(value: u8) {
+    if let CharCode::Code(code) = value::bit_char_to_num(value) {
+        write_byte(value);
+        write_byte(code);
+        io::write_all(1, b"\n");
+    }
+}
+
+fn edge_letters() {
+    title(b"each byte that is not foreign, and its code");
+    for value in 0..=255 {
+        write_code(value);
+    }
+}
+
 fn main() {
     rows_1_to_7();
     row_8();
@@ -341,4 +357,5 @@ fn main() {
     edge_byte();
     edge_width();
     edge_equal_indices();
+    edge_letters();
 }

@@ -45,10 +45,6 @@ code-by N F t c h k =
     eqb-true (F c) (codeOf (fold c))
     (each-byte (λ (n : ℕ). ltb (codeOf (fold n)) N) (λ (n : ℕ). eqb (F n) (codeOf (fold n))) t c h (lt-ltb (codeOf (fold c)) N k))
 
--- what the arm of a match answers at its number
-pub arm-is : {A : Type 0} (f : ℕ → A) {n k : ℕ} {r : A} → n ≡ k → f k ≡ r → r ≡ f n
-arm-is f e g = sym g ∙ ap f (sym e)
-
 -- 0 and 1
 pub binary-bit : (c : ℕ) → c < 256 → codeOf (fold c) < 2 → bitAnd c 1 ≡ codeOf (fold c)
 unfolding codeOf placeIn fold

@@ -1,10 +1,12 @@
 -- The codes, the letters, the sets and their bytes, by computation over the definitions.
 -- Assumes nothing.
+use Prim.Native.Nat.{ℕ}
+use Prim.Native.Char.{code}
 use mathlib.Core.Path.{_≡_, refl}
 use mathlib.Core.List.{[], _∷_, map}
 use Rattle.value.specs.declared.States.the-variants.{Two, Four, Nine}
 use Rattle.value.specs.Text.{chars}
-use Rattle.value.specs.Page.{page, codeOn}
+use Rattle.value.specs.Page.{Line, _is_, page, codeOn}
 use Rattle.value.specs.Digits.{number}
 use Rattle.value.specs.Answer.{levelAt}
 use Rattle.value.specs.Level.{placeIn, codeOf, letterOf, fold, foldAll, codesOf, textOf, setOf, leastOf, lenOf, joinAll}
@@ -18,13 +20,19 @@ codes :
 unfolding placeIn codeOf letterOf fold
 codes = (refl, refl, refl, refl)
 
--- the page read from its first line to its last, what each code stands for, and bytes that are not on it
+letterIn : Line → ℕ
+letterIn (l is n) = code l
+
+codeIn : Line → ℕ
+codeIn (l is n) = n
+
+-- the letters of the page in their order, what their codes stand for, and bytes that are not on it
 page-read :
-    (map (codeOn page) (chars "UX01ZWLH-") ≡ 5 ∷ 2 ∷ 0 ∷ 1 ∷ 3 ∷ 6 ∷ 7 ∷ 4 ∷ 8 ∷ [])
-    × (map (codeOn page) (chars "uxzwlh") ≡ 5 ∷ 2 ∷ 3 ∷ 6 ∷ 7 ∷ 4 ∷ [])
-    × (textOf (map (codeOn page) (chars "UX01ZWLH-uxzwlh")) ≡ chars "ux01zwlh-uxzwlh")
+    (map letterIn page ≡ chars "UX01ZWLH-uxzwlh")
+    × (textOf (map codeIn page) ≡ chars "ux01zwlh-uxzwlh")
+    × (map (codeOn page) (chars "UX01ZWLH-") ≡ 5 ∷ 2 ∷ 0 ∷ 1 ∷ 3 ∷ 6 ∷ 7 ∷ 4 ∷ 8 ∷ [])
     × (map (codeOn page) (chars "/2ay_@[`{") ≡ 9 ∷ 9 ∷ 9 ∷ 9 ∷ 9 ∷ 9 ∷ 9 ∷ 9 ∷ 9 ∷ [])
-unfolding codeOn letterOf
+unfolding codeOn letterOf letterIn codeIn
 page-read = (refl, refl, refl, refl)
 
 sets :

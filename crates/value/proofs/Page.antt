@@ -18,7 +18,7 @@ unfolding codeOn codeOf placeIn fold
 same-codes c h = eqb-true (codeOn page c) (codeOf (fold c)) (from-T _ (at-below (λ (n : ℕ). eqb (codeOn page n) (codeOf (fold n))) 256 tt c h))
 
 -- no line has the byte: what a match with an arm for each line leaves to its last arm
-abbrev pub NoneIn : Type 0 → List Line → ℕ → Type 0
+abbrev NoneIn : Type 0 → List Line → ℕ → Type 0
 NoneIn N [] c = N
 NoneIn N (l is n ∷ lines) c = NoneIn (N × (c ≡ code l → ⊥)) lines c
 

@@ -1,7 +1,7 @@
 -- The working number and packed levels: those of one byte, those of two parts, and a first byte that is not full.
 -- Assumes nothing.
 use mathlib.Core.Path.{_≡_, refl, sym, ap, ap₂, _∙_}
-use mathlib.Core.Bool.{Bool, true, false, cond, _&&_}
+use mathlib.Core.Bool.{Bool, true, _&&_}
 use mathlib.Core.List.{List, [], _∷_, _++_, map-append}
 use Prim.Native.Nat.{ℕ, zero, suc, _+_, _-_, _*_, _/_, _%_, _^_, _≤_, _<_}
 use native.Mathlib.Nat.{zero-lt-suc, add-mul, mul-assoc, suc-mul, zero-mul, mul-le-mul-right, lt-of-lt-of-le}
@@ -12,59 +12,47 @@ use lib.ListN.{length, getD, take, drop, set, length-append, length-map, length-
 use lib.Seq.{length-take-le, take-add, take-suc, take-all, drop-cons}
 use lib.Bits.{bitAnd, bitOr, or-shifted, or-shifted-r, or-zero-r}
 use lib.Pow.{pow-add, pow-mono, shl-exact}
-use borrow.Author.Tests.{eqb-true, le-leb, lt-leb, lt-ltb}
+use borrow.Author.Tests.{eqb-true, lt-ltb}
 use Rattle.value.specs.declared.States.{States}
 use Rattle.value.specs.declared.States.the-variants.{Two, Four, Nine}
+use Rattle.value.specs.declared.CharCode.{CharCode}
 use Rattle.value.specs.declared.CharCode.the-variants as code
 use Rattle.value.specs.Digits.{number, digits, Below}
 use Rattle.value.specs.Slice.{part, overlay, same}
-use Rattle.value.specs.Level.{fold, foldAll, placeIn, codeOf, codesOf, bitsOf, lenOf, isNoCode}
+use Rattle.value.specs.Level.{fold, foldAll, placeIn, codeOf, codesOf, bitsOf, lenOf}
 use Rattle.value.specs.Answer.{charCode}
-use Rattle.value.proofs.Tests.{to-T, and-left, and-right, by-le}
+use Rattle.value.proofs.Tests.{to-T, from-T, and-left, and-right, by-le, at-below}
 use Rattle.value.proofs.Slices.{overlay-nil, overlay-one, overlay-overlay, overlay-store}
 use Rattle.value.proofs.Levels.{len-bits, bits-pos}
 use Rattle.value.proofs.Classes.{each-byte, code-by}
 use Rattle.value.proofs.Digits.{below-at, below-take, below-drop, pow-pow, number-lt, number-append, number-more, digits-length, digits-append}
 use Rattle.wavemem.specs.Packed.{packedWith, packedFrom, firstCount, Codes, OneWord, OneByte, ByLowBits, WholeBytes, Packable}
 
-pub code-is : (c n : ℕ) → charCode c ≡ code.Code n → n ≡ codeOf (fold c)
-unfolding charCode
-code-is c n e = go (isNoCode (codeOf (fold c))) e
-  where
-    go : (t : Bool) → cond t code.Foreign (code.Code (codeOf (fold c))) ≡ code.Code n → n ≡ codeOf (fold c)
-    go true e = cc
-    go false e = cc
+-- the number that an answer tells
+abbrev numberTold : CharCode → ℕ
+numberTold (code.Code n) = n
+numberTold code.Foreign = 9
 
-not-foreign : (c : ℕ) → codeOf (fold c) < 9 → charCode c ≡ code.Foreign → ⊥
-unfolding charCode
-not-foreign c h e =
-    let f : code.Code (codeOf (fold c)) ≡ code.Foreign = sym (simp (lt-leb 9 (codeOf (fold c)) h)) ∙ e in
-    let z : _≡_ {A = ℕ} 0 1 = cc in
-    omega arith
-
--- the number of a foreign byte
-pub foreign-is : (c : ℕ) → c < 256 → charCode c ≡ code.Foreign → 9 ≡ codeOf (fold c)
-unfolding codeOf placeIn fold
-foreign-is c h e =
-    by-le 9 (codeOf (fold c))
-    (λ l. eqb-true 9 (codeOf (fold c)) (each-byte (λ (n : ℕ). isNoCode (codeOf (fold n))) (λ (n : ℕ). eqb 9 (codeOf (fold n))) tt c h (le-leb 9 _ l)))
-    (λ l. absurd (not-foreign c l e))
+pub code-told : (c : ℕ) {answer : CharCode} → c < 256 → charCode c ≡ answer → numberTold answer ≡ codeOf (fold c)
+unfolding charCode codeOf placeIn fold
+code-told c h e =
+    rw (← e) (eqb-true (numberTold (charCode c)) (codeOf (fold c)) (from-T _ (at-below (λ (n : ℕ). eqb (numberTold (charCode n)) (codeOf (fold n))) 256 tt c h)))
 
 -- ---- the working number
 
 pub code-at : (s : List ℕ) (i : ℕ) → getD (codesOf (foldAll s)) i (codeOf (fold 0)) ≡ codeOf (fold (getD s i 0))
 code-at s i = List·getD-map codeOf (foldAll s) i (fold 0) ∙ ap codeOf (List·getD-map fold s i 0)
 
-module _ (room b : ℕ) (cs : List ℕ) (below : Below (2 ^ b) cs) (short : length cs * b ≤ room) (i c d working : ℕ) (more : i < length cs) (is : c ≡ getD cs i d)
+module _ (b : ℕ) (cs : List ℕ) (below : Below (2 ^ b) cs) (short : length cs * b ≤ 64) (i c d working : ℕ) (more : i < length cs) (is : c ≡ getD cs i d)
     (so-far : working ≡ number (2 ^ b) (take i cs)) where
-  -- `(working << b) | c`, of so many bits
-  pub shifted : bitOr (working * 2 ^ b % 2 ^ room) c ≡ number (2 ^ b) (take (i + 1) cs)
+  -- `(working << b) | c`
+  shifted : bitOr (working * 2 ^ b % 2 ^ 64) c ≡ number (2 ^ b) (take (i + 1) cs)
   shifted =
       let n = number (2 ^ b) (take i cs) in
       let l : n < 2 ^ (i * b) = rw (← pow-pow 2 b i) (rw (length-take-le i cs (omega arith)) at (number-lt (2 ^ b) (take i cs) (below-take (2 ^ b) cs below i))) in
-      let f : i * b + b ≤ room = omega (arith, mul-le-mul-right b more, suc-mul i b) in
+      let f : i * b + b ≤ 64 = omega (arith, mul-le-mul-right b more, suc-mul i b) in
       let k : c < 2 ^ b = rw is (below-at (2 ^ b) cs below i d more) in
-      rw (so-far, shl-exact {a = n} (i * b) b room l f, or-shifted n b c k, number-more (2 ^ b) cs i d more, is)
+      rw (so-far, shl-exact {a = n} (i * b) b 64 l f, or-shifted n b c k, number-more (2 ^ b) cs i d more, is)
 
 -- the place of a character in a table by low bits
 known-place : (c : ℕ) → c < 256 → codeOf (fold c) < 9 → (8 ≤ bitAnd c 31) × (bitAnd c 31 < 27)
@@ -89,7 +77,7 @@ module _ {s : States} {v : List ℕ} (ok : OneWord s v) (i : ℕ) (more : i < le
   pub next-code : (b working c : ℕ) → b ≡ bitsOf s → working ≡ number (2 ^ b) (take i (codesOf (foldAll v))) → c ≡ codeOf (fold (getD v i 0))
       → bitOr (working * 2 ^ b % 2 ^ 64) c ≡ number (2 ^ b) (take (i + 1) (codesOf (foldAll v)))
   next-code b working c e so-far is =
-      shifted 64 b (codesOf (foldAll v)) (rw e (ok .codes .below)) (rw (length-map, length-map, e) (ok .short)) i c (codeOf (fold 0)) working more-codes
+      shifted b (codesOf (foldAll v)) (rw e (ok .codes .below)) (rw (length-map, length-map, e) (ok .short)) i c (codeOf (fold 0)) working more-codes
       (is ∙ sym (code-at v i))
       so-far
 

@@ -45,6 +45,10 @@ fn every_character_agrees() {
     assert_eq!(checker.disagreements, Vec::<String>::new());
     let strings = (1 + 8 * 3) * 3 * 256;
     assert_eq!(checker.compared_with_archive(), 2 * strings);
-    // 15 letters stand among 256 bytes.
+    assert_eq!(
+        checker.compared(),
+        if cfg!(wellen) { 2 * strings } else { 0 }
+    );
+    // Of 256 bytes 15 are not foreign.
     assert_eq!(checker.counts["add"].accepted, strings / 256 * 15 * 2);
 }

@@ -4,7 +4,7 @@ use mathlib.Core.Path.{refl}
 use native.Mathlib.Omega.{arith}
 use Rattle.value.specs.Level.{placeIn, codeOf, fold}
 use Rattle.value.specs.Answer.{charCode}
-use Rattle.value.proofs.Classes.{arm-is}
+use Rattle.value.proofs.Tests.{arm-is}
 use Rattle.value.proofs.Page.{off-page}
 use Rattle.value.proofs.bit_char_to_num.Statement.{statement}
 use Rattle.value.proofs.bit_char_to_num.Tie as tie

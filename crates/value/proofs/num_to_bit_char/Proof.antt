@@ -5,7 +5,7 @@ use Prim.Native.Nat.{ℕ, suc, _≤_, zero-le}
 use native.Mathlib.Omega.{arith}
 use lib.ListN.{List·getD-eq-default}
 use Rattle.value.specs.Level.{letters, letterOf}
-use Rattle.value.proofs.Classes.{arm-is}
+use Rattle.value.proofs.Tests.{arm-is}
 use Rattle.value.proofs.num_to_bit_char.Statement.{statement}
 use Rattle.value.proofs.num_to_bit_char.Tie as tie
 

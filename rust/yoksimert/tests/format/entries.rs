@@ -2,7 +2,7 @@
 
 use crate::record::size_of;
 use crate::runs::written;
-use crate::table::{SETS, bytes_shown, mark_of, number, set_named, span, spans};
+use crate::table::{NOTHING, SETS, bytes_shown, mark_of, number, set_named, span, spans};
 use crate::{Replay, Shown};
 
 /// A letter of each set that no smaller set has.
@@ -31,23 +31,20 @@ impl Replay for Levels {
     }
 }
 
-/// A letter of IEEE 1164's list, its code, and its small letter; how many stand before it. Each is the first of so many characters that
-/// it is told by the table of letters, and not as a part of a word.
-pub struct Page(pub usize);
+/// A letter of IEEE 1164's list, its code, and its small letter. Each is the first of so many characters that its code is read by the table
+/// of letters, and not as a part of a word.
+pub struct Page;
 
 impl Replay for Page {
     fn row(&mut self, cells: &[String]) -> (Vec<String>, Shown) {
-        let letter = spans(&cells[0])[0];
-        assert_eq!(letter.as_bytes(), [b"UX01ZWLH-"[self.0]]);
-        self.0 += 1;
+        let letter = span(&cells[0]);
         let entry = |first: &str| written(65, &[&(first.to_string() + &"0".repeat(64))]).bytes;
         let code = (entry(letter)[0] & 63).to_string();
-        let small = match letter.to_lowercase() {
-            same if same == letter => "–".to_string(),
-            small => {
-                assert_eq!(entry(&small), entry(letter));
-                format!("`{small}`")
-            }
+        let small = letter.to_lowercase();
+        assert_eq!(entry(&small), entry(letter));
+        let small = match small == letter {
+            true => NOTHING.to_string(),
+            false => format!("`{small}`"),
         };
         none(vec![cells[0].clone(), code, small])
     }

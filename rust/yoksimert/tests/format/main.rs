@@ -42,7 +42,7 @@ fn inputs_of_the_steps() -> Vec<record::Record> {
 fn replay_of(table: &Table) -> Option<Box<dyn Replay>> {
     Some(match table.columns.join(", ").as_str() {
         "code, characters, IEEE 1364, IEEE 1164, smallest set" => Box::new(entries::Levels),
-        "IEEE 1164's list, code, small letter" => Box::new(entries::Page(0)),
+        "IEEE 1164's list, code, small letter" => Box::new(entries::Page),
         "set, mark, bits a level, codes" => Box::new(entries::Sets),
         "width, Two, Four, Nine" => Box::new(entries::Sizes),
         "width, largest set, string, own set, bytes, in words" => Box::new(entries::Entries),
@@ -131,6 +131,13 @@ fn the_steps_are_all_there() {
         steps.row(&row);
     }
     assert!(steps.is_done());
+}
+
+#[test]
+fn the_page_is_in_order() {
+    let rows = rows_of("IEEE 1164's list, code, small letter");
+    let letters: String = rows.iter().map(|row| table::span(&row[0])).collect();
+    assert_eq!(letters, "UX01ZWLH-");
 }
 
 #[test]
