@@ -18,10 +18,14 @@ macro_rules! refusals {
         #[non_exhaustive]
         pub enum Refusal {
             $(#[doc = concat!(stringify!($number), ": ", $reason)] $name = $number,)*
+            /// 200, of this crate alone: memory was short
+            OutOfMemory = 200,
+            /// 201, of this crate alone: the archive answered what this crate does not know, so it is of another version
+            UnknownAnswer = 201,
         }
 
         impl Refusal {
-            /// Every refusal, by its number.
+            /// Every refusal of the documents, by its number.
             pub const ALL: &'static [Self] = &[$(Self::$name,)*];
 
             /// The refusal of a number that a call of [`raw`](crate::raw) answers; none for 0, an accepted call, and for any number that
@@ -40,6 +44,8 @@ macro_rules! refusals {
             pub fn reason(self) -> &'static str {
                 match self {
                     $(Self::$name => $reason,)*
+                    Self::OutOfMemory => "memory is short",
+                    Self::UnknownAnswer => "the archive answered what this crate does not know: it is of another version",
                 }
             }
         }
@@ -68,7 +74,7 @@ refusals! {
 }
 
 impl Refusal {
-    /// The number in documents 01 and 02.
+    /// The number in documents 01 and 02; from 200 on, this crate's own.
     #[must_use]
     pub fn number(self) -> u8 {
         self as u8
@@ -88,6 +94,6 @@ impl Error for Refusal {}
 pub(crate) fn accepted(number: u32) -> Result<(), Refusal> {
     match number {
         0 => Ok(()),
-        _ => Err(Refusal::from_number(number).expect("the archive gives no other number")),
+        _ => Err(Refusal::from_number(number).unwrap_or(Refusal::UnknownAnswer)),
     }
 }
