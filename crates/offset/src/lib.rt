@@ -41,7 +41,7 @@ pub fn falls(indices: &[u32]) -> bool
 }
 
 // The index at a place, absent from the list's end on.
-fn get(indices: &[u32], place: usize) -> NextIndex
+pub fn get(indices: &[u32], place: usize) -> NextIndex
     ensures { λ r. ⌜ r ≡ headOf (drop place (now (indices .entry))) ⌝ }
 {
     if place < indices.len() {
@@ -53,7 +53,7 @@ fn get(indices: &[u32], place: usize) -> NextIndex
 
 // 1 where an index is not above the needle, and else 0. By arithmetic, since a comparison is compiled to a jump, and a search's jumps go either
 // way as often.
-fn not_above(index: u32, needle: u32) -> usize
+pub fn not_above(index: u32, needle: u32) -> usize
     ensures { λ r. ⌜ r ≡ cond (leb index needle) 1 0 ⌝ }
 {
     ((needle as u64 + 4294967296 - index as u64) >> 32) as usize

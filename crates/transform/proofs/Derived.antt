@@ -403,6 +403,11 @@ module _ (a : Accepted) where
       go (through ps q) = subst Left (sym q) found
       go (stopped n q) = λ h. never n q h
 
+  -- no index of the record falls
+  pub derived-record-rises : falls (recordOf a .indices) ≡ false
+  unfolding laidOut
+  derived-record-rises = ap (λ (k : Kept). falls (k .indices)) derived-is-laid-out ∙ derived-rises accepted-passes (a .sized)
+
   -- entry k of the record tells the own set and the string of step k
   pub read-back-derived : (k : ℕ) (s : Step) → k < length (listOf a)
       → Tells (a .derivation .width) (largestAmong (ksOf a)) (entryAt (recordOf a .description .encoding) 0 (recordOf a .bytes) k) (getD (listOf a) k s)

@@ -23,7 +23,7 @@ use Rattle.steps.specs.declared.Inputs.{Inputs}
 use Rattle.steps.specs.Steps.{smallest, moved, momentsFrom, momentsOf, keptSteps}
 use Rattle.transform.specs.Derive.{picked, largestAmong, derivedKept, isUnfit, lentOut, deriveRefusals, derivedBy, derive}
 use Rattle.transform.specs.Accepted.{Accepted, recordOf}
-use Rattle.transform.proofs.Derived.{demand-3-derived}
+use Rattle.transform.proofs.Derived.{demand-3-derived, derived-record-rises}
 use Rattle.yoksimert.specs.declared.FlatInput.{FlatInput}
 use Rattle.yoksimert.specs.Flat.{decoded, flatMade}
 use Rattle.yoksimert.specs.Derivations.{derivationOf, inputsBy, flatDerive}
@@ -76,6 +76,10 @@ module _ (a : FlatAccepted) where
   record-by : flatRecordOf a ≡ flatHeld (recordOf accepted)
   unfolding flatDerive
   record-by = rw (answered .1) (kept-by (answered .0) _)
+
+  -- no index of the record falls
+  pub flat-derived-rises : falls (flatRecordOf a .indices) ≡ false
+  flat-derived-rises = rw record-by (derived-record-rises accepted)
 
 -- two accepted calls of one width leave equal records just where their largest sets and their derived lists are equal
 pub flat-demand-3-derived : (a b : FlatAccepted) → a .derivation .width ≡ b .derivation .width

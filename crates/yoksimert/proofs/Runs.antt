@@ -9,10 +9,13 @@ use Rattle.value.specs.declared.States.{States}
 use Rattle.value.specs.Level.{markOf}
 use Rattle.value.proofs.Levels.{mark-inj}
 use Rattle.fst.specs.declared.Description.{Description}
+use Rattle.fst.specs.declared.Encoding.{Encoding}
 use Rattle.fst.specs.Refusal.{Outcome}
 use Rattle.fst.specs.Record.{Lent, Held, maxWidth, largestIn, heldIn, keptOf}
 use Rattle.fst.specs.Change.{Change, addChange}
 use Rattle.runs.specs.Runs.{byValue, Call, leftIn, leaves, Run, freshHeld, after, fed, historyOf, historyLaidOut, Seen, Same}
+use Rattle.offset.specs.Offset.{falls}
+use Rattle.search.proofs.Rising.{emptyHeld, run-rises}
 use Rattle.runs.proofs.Demand3.{fresh-gives, run-is-laid-out, run-counts, demand-3}
 use Rattle.yoksimert.specs.declared.FlatDescription.{FlatDescription}
 use Rattle.yoksimert.specs.Flat.{encoded}
@@ -76,6 +79,12 @@ same-iff k l = (
   λ s. rw (ap (λ (x : Seen ℕ). x .indices) s, ap (λ (x : Seen ℕ). x .bytes) s, mark-inj (largestIn (k .description .encoding)) (largestIn (l .description .encoding)) (ap (λ (x : Seen ℕ). x .largest) s)),
   λ s. ap (λ (x : Seen States). record { indices = x .indices; bytes = x .bytes; largest = markOf (x .largest) }) s,
 )
+
+-- ---- no index falls
+
+pub flat-run-rises : (e : Encoding) (cs : List Call) → Run byNumbers (flatHeld (emptyHeld e)) cs
+    → falls ((after byNumbers (flatHeld (emptyHeld e)) cs) .indices) ≡ false
+flat-run-rises e cs r = rw (after-by (emptyHeld e) cs) (run-rises e cs (run-of (emptyHeld e) cs r))
 
 -- ---- demand 3
 

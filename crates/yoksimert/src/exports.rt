@@ -5,6 +5,7 @@ ghost use Prim.Native.Nat.{ℕ};
 ghost use Rattle.fst.specs.Refusal.{Outcome};
 ghost use Rattle.fst.specs.Record.{lent, fresh, freshReal};
 ghost use Rattle.offset.specs.Offset.{lookUp};
+ghost use Rattle.search.specs.Halving.{search};
 ghost use Rattle.numbers.specs.Number.{unsigned, signed, decimal, flatNumber, flatSigned};
 ghost use Rattle.yoksimert.specs.Flat.{encoded, flatMade, flatOffset};
 ghost use Rattle.yoksimert.specs.Exports.{flatRead, flatText, flatReadNumber, flatCompare};
@@ -34,6 +35,7 @@ use numbers::read::read_decimal;
 use numbers::read::read_signed;
 use numbers::read::read_unsigned;
 use offset::get_offset;
+use search::search;
 use signal::EntryAnswer;
 use signal::read::read_entry;
 use signal::read::read_text;
@@ -207,4 +209,20 @@ pub extern "C" fn yoksimert_look_up(indices: &[u32], sought: u32) -> FlatOffset
     ensures { λ r. ⌜ r ≡ flatOffset (lookUp (now (indices .entry)) sought) ⌝ }
 {
     flat_offset(get_offset(indices, sought))
+}
+
+// Search: Look up in a list that is known not to fall, which is not tried.
+#[no_mangle]
+pub extern "C" fn yoksimert_search(indices: &[u32], sought: u32) -> FlatOffset
+    ensures { λ r. ⌜ r ≡ flatOffset (search (now (indices .entry)) sought) ⌝ }
+{
+    flat_offset(search(indices, sought))
+}
+
+// The version of this interface, which the name tells too: who links another version finds no such name.
+#[no_mangle]
+pub extern "C" fn yoksimert_version_1() -> u32
+    ensures { λ r. ⌜ r ≡ 1 ⌝ }
+{
+    1
 }

@@ -1,0 +1,258 @@
+-- Where no index falls, what halving finds is Look up's answer.
+-- Assumes nothing.
+use mathlib.Core.Path.{_≡_, refl, sym, ap, _∙_}
+use mathlib.Core.Bool.{Bool, true, false, cond}
+use mathlib.Core.List.{List, [], _∷_}
+use Prim.Native.Nat.{ℕ, zero, suc, _+_, _-_, _*_, _/_, _≤_, _<_}
+use native.Mathlib.Nat.{not-suc-le-zero, le-of-suc-le-suc}
+use native.Mathlib.Omega.{arith}
+use borrow.Author.Tests.{leb-true, leb-false, eqb-false}
+use lib.Dec.{eqb, leb}
+use lib.ListN.{length, getD, take, drop, length-drop}
+use lib.Seq.{getD-drop, getD-take, length-take-le}
+use Rattle.value.specs.Level.{placeIn}
+use Rattle.value.proofs.Tests.{by-le}
+use Rattle.fst.specs.Refusal.{given}
+use Rattle.fst.specs.Record.{maximum}
+use Rattle.offset.specs.Offset.{falls, runOf, headOf, at, place, lookUp}
+use Rattle.offset.specs.Search.{Last}
+use Rattle.offset.proofs.Search.{rising, place-is, last-greatest, Carrying, run-is}
+use Rattle.offset.proofs.Offsets.{look-up-long, look-up-rising, place-empty, place-above, place-reached, place-found}
+use Rattle.search.specs.Halving.{notAbove, halved, rank, frontOf, startOf, runUpTo, search}
+use Rattle.search.proofs.Halving.{start-some, start-zero, search-long, search-given, run-none, run-at}
+
+-- ---- a list in order, and where an index parts it
+
+abbrev Ordered : List ℕ → Type 0
+Ordered l = (i j : ℕ) → i ≤ j → j < length l → getD l i 0 ≤ getD l j 0
+
+ordered-drop : (l : List ℕ) (n : ℕ) → Ordered l → Ordered (drop n l)
+ordered-drop l n o i j h k =
+    rw (getD-drop n l i 0, getD-drop n l j 0) (o (n + i) (n + j) (omega arith) (omega (arith, length-drop n l)))
+
+ordered-take : (l : List ℕ) (n : ℕ) → n ≤ length l → Ordered l → Ordered (take n l)
+ordered-take l n s o i j h k =
+    let long = length-take-le n l s in
+    rw (getD-take n l i 0 (omega arith), getD-take n l j 0 (omega arith)) (o i j h (omega arith))
+
+-- the first r indices are not above s, and the others are
+record Parted (s : ℕ) (l : List ℕ) (r : ℕ) : Type 0 where
+  within : r ≤ length l
+  low : (k : ℕ) → k < r → getD l k 0 ≤ s
+  high : (k : ℕ) → r ≤ k → k < length l → s < getD l k 0
+
+count-parts : (s : ℕ) (l : List ℕ) → Ordered l → Parted s l (notAbove s l)
+unfolding notAbove
+count-parts s [] o = record { within = omega arith; low = λ k h. absurd (not-suc-le-zero h); high = λ k h i. absurd (not-suc-le-zero i) }
+count-parts s (x ∷ l) o = go (leb x s) refl (count-parts s l (λ i j h k. o (suc i) (suc j) (omega arith) (omega arith)))
+  where
+    go : (b : Bool) → leb x s ≡ b → Parted s l (notAbove s l) → Parted s (x ∷ l) (cond b (suc (notAbove s l)) (notAbove s l))
+    go true e p = record { within = omega (arith, p .within); low = low; high = high }
+      where
+        low : (k : ℕ) → k < suc (notAbove s l) → getD (x ∷ l) k 0 ≤ s
+        low zero h = leb-true x s e
+        low (suc k) h = p .low k (le-of-suc-le-suc h)
+
+        high : (k : ℕ) → suc (notAbove s l) ≤ k → k < suc (length l) → s < getD (x ∷ l) k 0
+        high zero h i = absurd (not-suc-le-zero h)
+        high (suc k) h i = p .high k (le-of-suc-le-suc h) (le-of-suc-le-suc i)
+    go false e p =
+        let above : (k : ℕ) → k < suc (length l) → s < getD (x ∷ l) k 0 = λ k h. omega (arith, leb-false x s e, o 0 k (omega arith) h) in
+        record {
+          within = omega (arith, p .within);
+          low = λ k h. absurd (omega (arith, p .low 0 (omega arith), above 1 (omega (arith, p .within))));
+          high = λ k h i. above k i;
+        }
+
+module _ (s : ℕ) (l : List ℕ) (o : Ordered l) (m : ℕ) (some : 0 < m) (within : m ≤ length l) where
+  -- behind a half
+  parts-drop : (r : ℕ) → getD l (m - 1) 0 ≤ s → Parted s (drop m l) r → Parted s l (m + r)
+  parts-drop r h p =
+      record {
+        within = omega (arith, p .within, length-drop m l);
+        low = λ k i. by-le m k (λ j. omega (arith, p .low (k - m) (omega arith), at-drop k j)) (λ j. omega (arith, o k (m - 1) (omega arith) (omega arith)));
+        high = λ k i j. omega (arith, p .high (k - m) (omega arith) (omega (arith, length-drop m l)), at-drop k (omega arith));
+      }
+    where
+      at-drop : (k : ℕ) → m ≤ k → getD (drop m l) (k - m) 0 ≡ getD l k 0
+      at-drop k j =
+          let same : m + (k - m) ≡ k = omega arith in
+          getD-drop m l (k - m) 0 ∙ ap (λ (n : ℕ). getD l n 0) same
+
+  -- without the end
+  parts-take : (r : ℕ) → s < getD l (m - 1) 0 → (n : ℕ) → m ≤ n + 1 → n ≤ length l → Parted s (take n l) r → Parted s l r
+  parts-take r h n i j p =
+      record {
+        within = omega (arith, p .within, long);
+        low = λ k q. omega (arith, p .low k q, getD-take n l k 0 (omega (arith, p .within, long)));
+        high = λ k q t. by-le n k (λ u. omega (arith, o (m - 1) k (omega arith) t)) (λ u. omega (arith, p .high k q (omega (arith, long)), getD-take n l k 0 u));
+      }
+    where
+      long : length (take n l) ≡ n
+      long = length-take-le n l j
+
+halved-parts : (n s : ℕ) (l : List ℕ) → Ordered l → Parted s l (halved n s l)
+unfolding halved
+halved-parts zero s l o = count-parts s l o
+halved-parts (suc n) s l o =
+    go (leb (length l) 16) refl (leb (getD l (half - 1) 0) s) refl
+    (halved-parts n s (drop half l) (ordered-drop l half o))
+    (halved-parts n s (take (length l - half) l) (ordered-take l (length l - half) (omega arith) o))
+  where
+    half : ℕ
+    half = length l / 2
+
+    go : (b : Bool) → leb (length l) 16 ≡ b → (c : Bool) → leb (getD l (half - 1) 0) s ≡ c
+        → Parted s (drop half l) (halved n s (drop half l)) → Parted s (take (length l - half) l) (halved n s (take (length l - half) l))
+        → Parted s l (cond b (notAbove s l) (cond c (half + halved n s (drop half l)) (halved n s (take (length l - half) l))))
+    go true e c q p t = count-parts s l o
+    go false e true q p t =
+        let long = leb-false (length l) 16 e in
+        parts-drop s l o half (omega arith) (omega arith) _ (leb-true _ s q) p
+    go false e false q p t =
+        let long = leb-false (length l) 16 e in
+        parts-take s l o half (omega arith) (omega arith) _ (leb-false _ s q) (length l - half) (omega arith) (omega arith) t
+
+rank-parts : (s : ℕ) (l : List ℕ) → Ordered l → Parted s l (rank s l)
+unfolding rank
+rank-parts s l o = halved-parts (length l) s l o
+
+-- ---- where the run at the end of a list in order begins
+
+-- smaller indices, and then the run
+record Begins (i : ℕ) (l : List ℕ) (start : ℕ) : Type 0 where
+  before : (k : ℕ) → k < start → getD l k 0 < i
+  from : (k : ℕ) → start ≤ k → k < length l → i ≤ getD l k 0
+
+module _ (i : ℕ) (l : List ℕ) (o : Ordered l) (top : (k : ℕ) → k < length l → getD l k 0 ≤ i) where
+  front-below : (turns n k : ℕ) → k < frontOf turns n i l → getD l k 0 < i
+  unfolding frontOf
+  front-below zero n k h = absurd (not-suc-le-zero h)
+  front-below (suc turns) n k h = go (eqb (getD l (length l - (n + 1)) 0) i) refl h (front-below turns (n * 16) k)
+    where
+      go : (b : Bool) → eqb (getD l (length l - (n + 1)) 0) i ≡ b → k < cond b (frontOf turns (n * 16) i l) (length l - n)
+          → (k < frontOf turns (n * 16) i l → getD l k 0 < i) → getD l k 0 < i
+      go true e h f = f h
+      go false e h f =
+          let at = length l - (n + 1) in
+          by-le i (getD l at 0)
+          (λ j. absurd (eqb-false _ i e (omega (arith, top at (omega arith)))))
+          (λ j. omega (arith, o k at (omega arith) (omega arith)))
+
+  start-begins : Begins i l (startOf i l)
+  start-begins = by-le i 0 zero-begins some-begins
+    where
+      zero-begins : i ≤ 0 → Begins i l (startOf i l)
+      zero-begins h =
+          let none-less : 0 ≡ startOf i l = start-zero i l (omega arith) in
+          record { before = λ k j. absurd (omega arith); from = λ k j q. omega arith }
+
+      some-begins : 0 < i → Begins i l (startOf i l)
+      some-begins h =
+          let front = frontOf (length l) 1 i l in
+          let p = rank-parts (i - 1) (drop front l) (ordered-drop l front o) in
+          let is = start-some i l h in
+          let at-drop : (k : ℕ) → front ≤ k → getD (drop front l) (k - front) 0 ≡ getD l k 0 =
+          λ k j. let same : front + (k - front) ≡ k = omega arith in getD-drop front l (k - front) 0 ∙ ap (λ (n : ℕ). getD l n 0) same in
+          record {
+            before = λ k j. by-le front k (λ q. omega (arith, p .low (k - front) (omega arith), at-drop k q)) (λ q. front-below (length l) 1 k q);
+            from = λ k j q. omega (arith, p .high (k - front) (omega arith) (omega (arith, length-drop front l)), at-drop k (omega arith));
+          }
+
+-- ---- Look up's answer
+
+module _ (l : List ℕ) (s : ℕ) (f : falls l ≡ false) where
+  ordered : Ordered l
+  ordered = rising l f
+
+  parted : Parted s l (rank s l)
+  parted = rank-parts s l ordered
+
+  nothing : rank s l ≤ 0 → runUpTo s l (rank s l) ≡ place s l
+  nothing h =
+      run-none s l (rank s l) (omega arith)
+      ∙ sym (by-le (length l) 0 (λ k. place-empty s l (omega arith)) (λ k. place-above s l k (parted .high 0 h k)))
+
+  module _ (some : 0 < rank s l) where
+    abbrev end : ℕ
+    end = rank s l
+
+    abbrev i : ℕ
+    i = getD l (end - 1) 0
+
+    last : Last s l (end - 1)
+    last =
+        record {
+          within = omega (arith, parted .within);
+          reached = parted .low (end - 1) (omega arith);
+          above = λ k h. parted .high k (omega arith);
+        }
+
+    abbrev upTo : List ℕ
+    upTo = take end l
+
+    long : length upTo ≡ end
+    long = length-take-le end l (parted .within)
+
+    at-take : (k : ℕ) → k < end → getD upTo k 0 ≡ getD l k 0
+    at-take k h = getD-take end l k 0 h
+
+    abbrev start : ℕ
+    start = startOf i upTo
+
+    begins : Begins i upTo start
+    begins =
+        start-begins i upTo (ordered-take l end (parted .within) ordered)
+        (λ k h. omega (arith, at-take k (omega (arith, long)), ordered k (end - 1) (omega (arith, long)) (last .within)))
+
+    early : start < end
+    early = by-le end start (λ h. absurd (omega (arith, begins .before (end - 1) (omega arith), at-take (end - 1) (omega arith)))) (λ h. h)
+
+    first : start ≡ placeIn l i
+    first =
+        sym
+        (place-is l i start (omega (arith, early, last .within))
+        (omega (
+          arith,
+          begins .from start (omega arith) (omega (arith, early, long)),
+          at-take start early,
+          ordered start (end - 1) (omega (arith, early)) (last .within),
+        ))
+        (λ k h e. omega (arith, begins .before k h, at-take k (omega (arith, early)))))
+
+    run : Carrying l i (placeIn l i) (runOf i (drop (placeIn l i) l))
+    run = run-is l f i (end - 1) (last .within) refl
+
+    -- it ends where every index is above the sought one
+    run-ends : placeIn l i + runOf i (drop (placeIn l i) l) ≡ end
+    run-ends =
+        let n = runOf i (drop (placeIn l i) l) in
+        by-le (placeIn l i + n) end
+        (λ h. omega (arith, run .alone (end - 1) (last .within) refl .1))
+        (λ h.
+        let carried = run .carried end (omega (arith, first, early)) h in
+        absurd (omega (arith, carried, parted .high end (omega arith) (omega (arith, run .within)), last .reached)))
+
+    elements : end - start ≡ runOf i (drop start l)
+    elements = rw first (omega (arith, run-ends))
+
+    next : headOf (drop end l) ≡ headOf (drop (start + (end - start)) l)
+    next =
+        let same : end ≡ start + (end - start) = omega (arith, early) in
+        ap (λ (k : ℕ). headOf (drop k l)) same
+
+    found : runUpTo s l (rank s l) ≡ place s l
+    found =
+        sym (run-at s l end some refl refl refl)
+        ∙ ap at (place-found s l (last-greatest f last) first elements next)
+        ∙ sym (place-reached s l (omega (arith, parted .within)) (parted .low 0 some))
+
+  answer : runUpTo s l (rank s l) ≡ place s l
+  answer = by-le (rank s l) 0 nothing found
+
+  -- Search is Look up where no index falls
+  pub search-is-look-up : search l s ≡ lookUp l s
+  search-is-look-up =
+      by-le (length l) maximum
+      (λ h. search-given l s h ∙ ap given answer ∙ sym (look-up-rising l s h f))
+      (λ h. search-long l s h ∙ sym (look-up-long l s h))

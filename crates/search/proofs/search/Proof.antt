@@ -1,0 +1,62 @@
+-- `search::search` meets its contract.
+-- Assumes nothing.
+use mathlib.Core.Path.{_≡_, refl, sym, ap, _∙_}
+use Prim.Native.Nat.{_≤_, _-_}
+use native.Mathlib.Omega.{arith}
+use borrow.Author.Needs.{needs}
+use lib.ListN.{length, getD, take}
+use lib.Seq.{length-take-le}
+use Rattle.fst.specs.Refusal.{given}
+use Rattle.search.specs.Halving.{runUpTo}
+use Rattle.search.proofs.Halving.{rank-within, start-within, search-long, search-given, run-none, run-at}
+use Rattle.search.proofs.search.Statement.{statement}
+use Rattle.search.proofs.search.Tie as tie
+
+returns : tie.Need-returns
+returns c = sym (search-long _ _ (c .if1 .taken))
+
+returns-2 : tie.Need-returns-2
+returns-2 c =
+    let a = c .before .before .before .before .args in
+    sym (search-given _ _ (c .before .before .if1 .left) ∙ ap given (run-none (a .time-table-idx) (a .indices .now) _ (sym (c .before .rank .ensures) ∙ c .if2 .taken)))
+
+-- the run ends in the list
+inside : (c : tie.After-rank) → c .rank .result ≤ length (c .before .before .before .args .indices .now)
+inside c =
+    let a = c .before .before .before .args in
+    omega (arith, c .rank .ensures, rank-within (a .time-table-idx) (a .indices .now))
+
+-- its list is as long
+ends : (c : tie.After-rank) → length (take (c .rank .result) (c .before .before .before .args .indices .now)) ≡ c .rank .result
+ends c = length-take-le (c .rank .result) (c .before .before .before .args .indices .now) (inside c)
+
+starts : (c : tie.After-find-start) → c .find-start .result ≤ c .before .before .before .before .rank .result
+starts c =
+    let at-rank = c .before .before .before .before in
+    let l = at-rank .before .before .before .args .indices .now in
+    omega (arith, c .find-start .ensures, ends at-rank, start-within (getD l (at-rank .rank .result - 1) 0) (take (at-rank .rank .result) l))
+
+returns-3 : tie.Need-returns-3
+returns-3 c =
+    let at-rank = c .before .before .before .before .before in
+    let a = at-rank .before .before .before .args in
+    let found = run-at (a .time-table-idx) (a .indices .now) (at-rank .rank .result) (omega arith) refl (c .before .find-start .ensures) (c .get .ensures) in
+    ap given (found ∙ ap (runUpTo (a .time-table-idx) (a .indices .now)) (at-rank .rank .ensures)) ∙ sym (search-given _ _ (at-rank .before .if1 .left))
+
+pub search-spec : {M : Type 1} → statement M
+search-spec =
+    tie.close
+    (tie.spec
+    (λ c. search needs)
+    returns
+    (λ c κs. search needs)
+    returns-2
+    (λ c. search needs)
+    (λ c. omega (arith, inside (c .before)))
+    (λ c. omega (arith, inside (c .before .before)))
+    (λ c. sym (ends (c .before .before .before)))
+    (λ c κs. omega (arith, ends (c .before .before .before), inside (c .before .before .before), c .before .before .before .before .if1 .left))
+    starts
+    (λ c. omega (arith, inside (c .before .before .before .before), c .before .before .before .before .before .if1 .left))
+    (λ c κs. search needs)
+    returns-3)

@@ -1,0 +1,53 @@
+-- Search: Look up in a list that is known not to fall. Halving finds something in every list, and this is what.
+-- Assumes nothing.
+use Prim.Native.Nat.{ℕ, zero, suc, _+_, _-_, _*_, _/_}
+use mathlib.Core.Bool.{cond}
+use mathlib.Core.List.{List, [], _∷_}
+use lib.Dec.{eqb, leb, ltb}
+use lib.ListN.{length, getD, take, drop}
+use Rattle.fst.specs.Refusal.{Reply, given, _⇐_, tried}
+use Rattle.fst.specs.Record.{maximum}
+use Rattle.offset.specs.Offset.{headOf, Place, none, at}
+
+-- how many indices are not above a sought one
+unfoldable pub notAbove : ℕ → List ℕ → ℕ
+notAbove s [] = 0
+notAbove s (i ∷ l) = cond (leb i s) (suc (notAbove s l)) (notAbove s l)
+
+-- the same by at most n halvings: up to 16 indices are counted; of more, the half is passed whose last index is not above, and else as many
+-- are left out at the end
+unfoldable pub halved : ℕ → ℕ → List ℕ → ℕ
+halved zero s l = notAbove s l
+halved (suc n) s l =
+    let half = length l / 2 in
+    cond (leb (length l) 16) (notAbove s l) (cond (leb (getD l (half - 1) 0) s) (half + halved n s (drop half l)) (halved n s (take (length l - half) l)))
+
+-- by as many as it takes
+unfoldable pub rank : ℕ → List ℕ → ℕ
+rank s l = halved (length l) s l
+
+-- where the last n indices begin, or 16 times as many, and so on k times: the first of these in front of which another index stands than i;
+-- else the list's first place
+unfoldable pub frontOf : ℕ → ℕ → ℕ → List ℕ → ℕ
+frontOf zero n i l = 0
+frontOf (suc k) n i l = cond (eqb (getD l (length l - (n + 1)) 0) i) (frontOf k (n * 16) i l) (length l - n)
+
+-- where the run of an index begins that a list ends in: behind the smaller ones, of which 0 has none
+unfoldable pub startOf : ℕ → List ℕ → ℕ
+startOf zero l = 0
+startOf (suc i) l =
+    let front = frontOf (length l) 1 (suc i) l in
+    front + rank i (drop front l)
+
+-- the run behind which every index is above the sought one
+unfoldable pub runUpTo : ℕ → List ℕ → ℕ → Place
+runUpTo s l zero = none
+runUpTo s l (suc last) =
+    let i = getD l last 0 in
+    let end = suc last in
+    let start = startOf i (take end l) in
+    at (record { start = start; elements = end - start; «time_match» = eqb i s; «next_index» = headOf (drop end l) })
+
+-- "2: list above the maximum". No index is tried for 11.
+unfoldable pub search : List ℕ → ℕ → Reply Place
+search indices sought = tried (2 ⇐ ltb maximum (length indices) ∷ []) (given (runUpTo sought indices (rank sought indices)))

@@ -1,0 +1,94 @@
+// The entries that hold at a time index, in a list that is known not to fall: Look up without its scan.
+ghost use mathlib.Core.Path.{_≡_};
+ghost use Prim.Native.Nat.{_≤_};
+ghost use lib.ListN.{length};
+ghost use Rattle.fst.specs.Record.{maximum};
+ghost use Rattle.offset.specs.Offset.{offsetOf};
+ghost use Rattle.search.specs.Halving.{notAbove, rank, frontOf, startOf, search};
+use fst::NextIndex;
+use fst::Refusal;
+use fst::record::MAXIMUM;
+use offset::DataOffset;
+use offset::OffsetAnswer;
+use offset::get;
+use offset::not_above;
+
+// The number of up to 16 indices that are not above the needle. All are compared, since a count that can end early is not vectorised.
+fn count(indices: &[u32], needle: u32) -> usize
+    requires { ⌜ length (now indices) ≤ 16 ⌝ }
+    ensures { λ r. ⌜ r ≡ notAbove needle (now (indices .entry)) ⌝ }
+{
+    let mut counted: u32 = 0;
+    let mut i = 0;
+    while i < indices.len() {
+        counted += (indices[i] <= needle) as u32;
+        i += 1;
+    }
+    counted as usize
+}
+
+// The number of indices that are not above the needle, by halving.
+fn rank(indices: &[u32], needle: u32) -> usize
+    ensures { λ r. ⌜ r ≡ rank needle (now (indices .entry)) ⌝ }
+{
+    let mut place = 0;
+    let mut size = indices.len();
+    while 16 < size {
+        let half = size / 2;
+        place += half * not_above(indices[place + half - 1], needle);
+        size -= half;
+    }
+    let end = place + size;
+    place + count(&indices[place..end], needle)
+}
+
+// Where those of the last indices begin that the run at the end is sought in. Most runs are short, and found near.
+fn find_front(indices: &[u32], index: u32) -> usize
+    requires { ⌜ length (now indices) ≤ maximum ⌝ }
+    ensures { λ r. ⌜ r ≡ frontOf (length (now (indices .entry))) 1 index (now (indices .entry)) ⌝ }
+{
+    let len = indices.len();
+    let mut reach = 1;
+    loop {
+        if len <= reach {
+            return 0;
+        }
+        if indices[len - reach - 1] != index {
+            return len - reach;
+        }
+        reach *= 16;
+    }
+}
+
+// Where the run of the index at the end begins.
+fn find_start(indices: &[u32], index: u32) -> usize
+    requires { ⌜ length (now indices) ≤ maximum ⌝ }
+    ensures { λ r. ⌜ r ≡ startOf index (now (indices .entry)) ⌝ }
+{
+    if index == 0 {
+        return 0;
+    }
+    let front = find_front(indices, index);
+    front + rank(&indices[front..], index - 1)
+}
+
+// Search: Look up's answer if no index falls, and some answer if one does.
+pub fn search(indices: &[u32], time_table_idx: u32) -> OffsetAnswer
+    ensures { λ r. ⌜ offsetOf r ≡ search (now (indices .entry)) «time_table_idx» ⌝ }
+{
+    if indices.len() > MAXIMUM as usize {
+        return OffsetAnswer::Refused(Refusal::BadRecord);
+    }
+    let end = rank(indices, time_table_idx);
+    if end == 0 {
+        return OffsetAnswer::Nothing;
+    }
+    let index = indices[end - 1];
+    let start = find_start(&indices[..end], index);
+    OffsetAnswer::At(DataOffset {
+        start: start,
+        elements: (end - start) as u32,
+        time_match: index == time_table_idx,
+        next_index: get(indices, end),
+    })
+}
