@@ -224,6 +224,10 @@ yoksimert_equal yoksimert_compare(
 /* Look up: the entries that hold at a time index. Refused: 2, 11. */
 yoksimert_offset yoksimert_look_up(const uint32_t *indices, size_t indices_len, uint32_t sought);
 
+/* Search: Look up's answer where no time index falls, in steps that grow as the logarithm of their number. Whether one falls is not tried:
+ * then the answer says nothing. Refused: 2. */
+yoksimert_offset yoksimert_search(const uint32_t *indices, size_t indices_len, uint32_t sought);
+
 /* Add a piece on the left, the most significant side: bits msb to lsb of an input, which is named by any number. Adjoining pieces merge.
  * Refused: 14, 12, 13. */
 yoksimert_joined yoksimert_concat_left(

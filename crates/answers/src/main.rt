@@ -8,7 +8,7 @@ use lines::has_word;
 // A longer line counts as one that came out otherwise, so that every list fits its buffer.
 const LONGEST: usize = 32768;
 
-// The place of a line's operation among the twelve, and 12 for any other.
+// The place of a line's operation among the thirteen, and 13 for any other.
 fn operation(line: &[u8]) -> usize {
     if has_word(line, 1, b"fresh") {
         return 0;
@@ -46,7 +46,10 @@ fn operation(line: &[u8]) -> usize {
     if has_word(line, 1, b"decimal") {
         return 11;
     }
-    12
+    if has_word(line, 1, b"search") {
+        return 12;
+    }
+    13
 }
 
 // Whether the call of a line comes out as stored.
@@ -67,6 +70,7 @@ fn agrees(operation: usize, line: &[u8]) -> bool {
         9 => calls::unsigned(line),
         10 => calls::signed(line),
         11 => calls::decimal(line),
+        12 => calls::search(line),
         _ => false,
     }
 }
@@ -158,12 +162,13 @@ fn report_all(agreed: &[u64], first: &[u64]) {
     report(b"unsigned", agreed, first, 9);
     report(b"signed", agreed, first, 10);
     report(b"decimal", agreed, first, 11);
-    report(b"other", agreed, first, 12);
+    report(b"search", agreed, first, 12);
+    report(b"other", agreed, first, 13);
 }
 
 fn main() {
-    let mut agreed = [0u64; 13];
-    let mut first = [0u64; 13];
+    let mut agreed = [0u64; 14];
+    let mut first = [0u64; 14];
     replay(&mut agreed, &mut first);
     report_all(&agreed, &first);
 }

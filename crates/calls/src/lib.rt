@@ -376,14 +376,14 @@ fn has_offset(line: &[u8], number: u8, found: bool, offset: DataOffset) -> bool 
         && has_next(line, next)
 }
 
-fn is_looked_up(line: &[u8], indices: &[u32]) -> bool {
+fn is_answer(line: &[u8], answer: OffsetAnswer) -> bool {
     let nowhere = DataOffset {
         start: 0,
         elements: 0,
         time_match: false,
         next_index: NextIndex::Absent,
     };
-    match offset::get_offset(indices, number_32(line, 3)) {
+    match answer {
         OffsetAnswer::At(offset) => has_offset(line, 0, true, offset),
         OffsetAnswer::Nothing => has_offset(line, 0, false, nowhere),
         OffsetAnswer::Refused(refusal) => has_offset(line, refusal.number(), false, nowhere),
@@ -393,5 +393,15 @@ fn is_looked_up(line: &[u8], indices: &[u32]) -> bool {
 pub fn look_up(line: &[u8]) -> bool {
     let mut indices = index_buffer();
     let count = read_indices(line, 2, &mut indices);
-    is_framed(line, 4, 12) && is_looked_up(line, &indices[..count])
+    is_framed(line, 4, 12)
+        && is_answer(
+            line,
+            offset::get_offset(&indices[..count], number_32(line, 3)),
+        )
+}
+
+pub fn search(line: &[u8]) -> bool {
+    let mut indices = index_buffer();
+    let count = read_indices(line, 2, &mut indices);
+    is_framed(line, 4, 12) && is_answer(line, search::search(&indices[..count], number_32(line, 3)))
 }

@@ -20,7 +20,7 @@ pub trait Operation: Clone + PartialEq + Debug + 'static {
     const NUMBERS: &'static [u8];
     /// The modules with the definitions that no operation listed before goes through.
     const DEFINITIONS: &'static [Module];
-    /// The document that asks for it. Stored answers stand in this order, so that those of a later document leave the
+    /// The document that asks for it, 0 for none. Stored answers stand in this order, so that those of a later document leave the
     /// earlier ones at their lines.
     const DOCUMENT: u8 = 1;
 

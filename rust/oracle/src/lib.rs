@@ -18,6 +18,7 @@ mod look_up;
 mod number;
 mod read;
 mod record;
+mod search;
 mod text;
 
 pub use add_change::{Change, add_change};
@@ -32,6 +33,7 @@ pub use look_up::{Offset, look_up};
 pub use number::{Form, number};
 pub use read::{Entry, Kind, read};
 pub use record::{Description, Encoding};
+pub use search::search;
 pub use text::text;
 
 /// The most entries that a record may have (document 01, A record).

@@ -1,10 +1,14 @@
 use crate::numbers::accepted;
 use oracle::{Offset, Refusal};
-use yoksimert::raw;
+use yoksimert::raw::{self, FlatOffset};
 
 /// Finds the entries of the greatest index not above the sought one.
 pub fn look_up(indices: &[u32], sought: u32) -> Result<Option<Offset>, Refusal> {
-    let answer = raw::look_up(indices, sought);
+    offset(raw::look_up(indices, sought))
+}
+
+/// The answer, in which what says nothing has to be 0.
+pub(super) fn offset(answer: FlatOffset) -> Result<Option<Offset>, Refusal> {
     if !answer.found {
         let rest = (answer.start, answer.elements, answer.time_match);
         assert_eq!(rest, (0, 0, false), "nothing found, and a place");

@@ -8,6 +8,7 @@ mod fresh;
 mod look_up;
 mod number;
 mod read;
+mod search;
 mod text;
 
 pub use add_change::add_change;
@@ -18,4 +19,5 @@ pub use fresh::{fresh, fresh_real, recorder_fresh};
 pub use look_up::look_up;
 pub use number::number;
 pub use read::read;
+pub use search::search;
 pub use text::text;

@@ -46,34 +46,17 @@ impl Operation for LookUp {
 
     #[cfg(wellen)]
     fn by_wellen(&self) -> Result<Verdict<Option<Offset>>, Refused> {
-        let events = Description::of(Encoding::Event, &self.indices);
-        let offset = Record::new(events, &[], &self.indices)?.look_up(self.sought)?;
-        Ok(Verdict::accepted(offset))
+        by_wellen(&self.indices, self.sought)
     }
 
-    /// wellen has 16 bits for the number of entries.
     fn is_wellens(answer: &Option<Offset>, wellens: &Option<Offset>) -> bool {
-        let shown = answer.map(|offset| Offset {
-            elements: offset.elements % 65_536,
-            ..offset
-        });
-        shown == *wellens
+        is_wellens(answer, wellens)
     }
 
     fn smaller(&self) -> Vec<Self> {
-        let (indices, sought) = (&self.indices, self.sought);
-        let half = indices.len() / 2;
-        let mut lists = vec![indices[half..].to_vec(), indices[..half].to_vec()];
-        for at in 0..indices.len().min(64) {
-            let mut list = indices.to_vec();
-            list.remove(at);
-            lists.push(list);
-        }
-        lists
-            .into_iter()
-            .filter(|list| list.len() < indices.len())
-            .map(|indices| LookUp { indices, sought })
-            .collect()
+        let sought = self.sought;
+        let lists = smaller_lists(&self.indices).into_iter();
+        lists.map(|indices| LookUp { indices, sought }).collect()
     }
 
     fn put(&self, out: &mut Fields) {
@@ -82,20 +65,7 @@ impl Operation for LookUp {
     }
 
     fn put_outcome(&self, outcome: &Outcome<Option<Offset>>, out: &mut Fields) {
-        let Ok(Some(Offset {
-            start,
-            elements,
-            time_match,
-            next_index,
-        })) = outcome.answer
-        else {
-            return out.push("0 0 0 0 0 0");
-        };
-        let (equal, has_next) = (u8::from(time_match), u8::from(next_index.is_some()));
-        let next = next_index.unwrap_or(0);
-        out.push(format_args!(
-            "1 {start} {elements} {equal} {has_next} {next}"
-        ));
+        put_offset(outcome, out);
     }
 
     fn parse(_: &str, fields: &mut Reader) -> Result<Self, String> {
@@ -106,12 +76,7 @@ impl Operation for LookUp {
     }
 
     fn equation(&self, outcome: &Outcome<Option<Offset>>) -> Option<String> {
-        let value = |answer: &Option<Offset>| {
-            let place = answer.as_ref().map(data_offset);
-            place.map_or("none".to_string(), |offset| format!("(at {offset})"))
-        };
-        let (list, reply) = (terms::list(&self.indices), terms::reply(outcome, value));
-        Some(format!("lookUp {list} {} ≡ {reply}", self.sought))
+        Some(equation("lookUp", &self.indices, self.sought, outcome))
     }
 
     fn ask_of_record(from: &mut Generator, used: &Used, to: &mut dyn Receiver) {
@@ -119,6 +84,67 @@ impl Operation for LookUp {
             from.look_up_around(&used.indices, to);
         }
     }
+}
+
+#[cfg(wellen)]
+pub(super) fn by_wellen(indices: &[u32], sought: u32) -> Result<Verdict<Option<Offset>>, Refused> {
+    let events = Description::of(Encoding::Event, indices);
+    let offset = Record::new(events, &[], indices)?.look_up(sought)?;
+    Ok(Verdict::accepted(offset))
+}
+
+/// wellen has 16 bits for the number of entries.
+pub(super) fn is_wellens(answer: &Option<Offset>, wellens: &Option<Offset>) -> bool {
+    let shown = answer.map(|offset| Offset {
+        elements: offset.elements % 65_536,
+        ..offset
+    });
+    shown == *wellens
+}
+
+/// Each half, and the list without one of its indices.
+pub(super) fn smaller_lists(indices: &[u32]) -> Vec<Vec<u32>> {
+    let half = indices.len() / 2;
+    let mut lists = vec![indices[half..].to_vec(), indices[..half].to_vec()];
+    for at in 0..indices.len().min(64) {
+        let mut list = indices.to_vec();
+        list.remove(at);
+        lists.push(list);
+    }
+    lists.retain(|list| list.len() < indices.len());
+    lists
+}
+
+pub(super) fn put_offset(outcome: &Outcome<Option<Offset>>, out: &mut Fields) {
+    let Ok(Some(Offset {
+        start,
+        elements,
+        time_match,
+        next_index,
+    })) = outcome.answer
+    else {
+        return out.push("0 0 0 0 0 0");
+    };
+    let (equal, has_next) = (u8::from(time_match), u8::from(next_index.is_some()));
+    let next = next_index.unwrap_or(0);
+    out.push(format_args!(
+        "1 {start} {elements} {equal} {has_next} {next}"
+    ));
+}
+
+/// Between a definition of a list and a sought index, and the outcome.
+pub(super) fn equation(
+    definition: &str,
+    indices: &[u32],
+    sought: u32,
+    outcome: &Outcome<Option<Offset>>,
+) -> String {
+    let value = |answer: &Option<Offset>| {
+        let place = answer.as_ref().map(data_offset);
+        place.map_or("none".to_string(), |offset| format!("(at {offset})"))
+    };
+    let (list, reply) = (terms::list(indices), terms::reply(outcome, value));
+    format!("{definition} {list} {sought} ≡ {reply}")
 }
 
 fn data_offset(offset: &Offset) -> String {

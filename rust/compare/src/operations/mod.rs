@@ -10,6 +10,7 @@ pub mod fresh;
 pub mod look_up;
 pub mod number;
 pub mod read;
+pub mod search;
 pub mod text;
 
 use crate::operation::Listed;
@@ -27,10 +28,11 @@ pub const OPERATIONS: &[Listed] = &[
     Listed::of::<number::Number<number::Unsigned>>(),
     Listed::of::<number::Number<number::Signed>>(),
     Listed::of::<number::Number<number::Decimal>>(),
+    Listed::of::<search::Search>(),
 ];
 
-/// The documents that ask for them, in the order of the stored answers.
-pub const DOCUMENTS: &[u8] = &[1, 2];
+/// The documents that ask for them, in the order of the stored answers, and 0 for what none asks for.
+pub const DOCUMENTS: &[u8] = &[1, 2, 0];
 
 /// Every number that an operation refuses with, once each, rising.
 pub fn numbers() -> Vec<u8> {

@@ -35,6 +35,7 @@ mod fresh;
 mod look_up;
 mod number;
 mod read;
+mod search;
 mod text;
 
 pub use add_change::{recorder_add_change, recorder_add_real};
@@ -47,6 +48,7 @@ pub use fresh::{FlatMade, fresh, fresh_real, recorder_fresh, recorder_fresh_real
 pub use look_up::{FlatOffset, look_up};
 pub use number::{FlatNumber, FlatSigned, decimal, signed, unsigned};
 pub use read::{FlatEntry, read};
+pub use search::search;
 pub use text::text;
 
 /// A record without its bytes and time indices. Other numbers than these are no description, and refused with 2.
