@@ -1,5 +1,4 @@
 //! A program in C that includes the header, is linked with the archive, and runs.
-#![cfg(archive)]
 
 use std::path::Path;
 use std::process::Command;
