@@ -57,6 +57,10 @@ pub type NonZeroTimeTableIdx = std::num::NonZeroU32;
 /// The most entries of a record.
 pub const MAXIMUM: usize = 1_048_576;
 
+/// The version of the archive's interface. A program with this crate does not link with an archive of another one: the linker then misses
+/// the function that has this number in its name.
+pub const VERSION: u32 = 1;
+
 /// The programs of the documents.
 #[cfg(doctest)]
 mod documents {

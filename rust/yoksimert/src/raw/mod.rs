@@ -36,6 +36,7 @@ mod look_up;
 mod number;
 mod read;
 mod text;
+mod version;
 
 pub use add_change::{recorder_add_change, recorder_add_real};
 pub use add_piece::{
@@ -48,6 +49,7 @@ pub use look_up::{FlatOffset, look_up};
 pub use number::{FlatNumber, FlatSigned, decimal, signed, unsigned};
 pub use read::{FlatEntry, read};
 pub use text::text;
+pub use version::version;
 
 /// A record without its bytes and time indices. Other numbers than these are no description, and refused with 2.
 #[repr(C)]
