@@ -21,10 +21,18 @@ fn main() {
         }
         Err(sentence) => println!("cargo::rustc-env=YOKSIMERT_STOP={sentence}"),
     }
+    println!("cargo::rustc-check-cfg=cfg(documents)");
+    if from_here("../../docs/FROM-WELLEN.md").is_file() {
+        println!("cargo::rustc-cfg=documents");
+    }
 }
 
 fn cargos(name: &str) -> String {
     env::var(name).unwrap_or_else(|error| panic!("cargo sets {name}: {error}"))
+}
+
+fn from_here(path: &str) -> PathBuf {
+    Path::new(&cargos("CARGO_MANIFEST_DIR")).join(path)
 }
 
 fn right_target() -> Result<(), String> {
@@ -44,9 +52,7 @@ fn folder() -> Result<PathBuf, String> {
     let named = env::var_os(VARIABLE).map(PathBuf::from);
     let folders = match &named {
         Some(folder) => vec![folder.clone()],
-        None => OWN
-            .map(|folder| Path::new(&cargos("CARGO_MANIFEST_DIR")).join(folder))
-            .to_vec(),
+        None => OWN.map(from_here).to_vec(),
     };
     let has_archive = |folder: &&PathBuf| folder.is_absolute() && folder.join(ARCHIVE).is_file();
     let found = folders.iter().find(has_archive);

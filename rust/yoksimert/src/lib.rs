@@ -61,12 +61,17 @@ pub const MAXIMUM: usize = 1_048_576;
 /// the function that has this number in its name.
 pub const VERSION: u32 = 1;
 
-/// The programs of the documents.
+/// The programs of the documents. `cfg(documents)`: the crate stands among them, and not by itself.
 #[cfg(doctest)]
 mod documents {
+    #[doc = include_str!("../README.md")]
+    mod readme {}
+
+    #[cfg(documents)]
     #[doc = include_str!("../../../docs/FROM-WELLEN.md")]
     mod from_wellen {}
 
+    #[cfg(documents)]
     #[doc = include_str!("../../../README.md")]
-    mod readme {}
+    mod readme_of_all {}
 }

@@ -4,7 +4,7 @@ use std::collections::{BTreeMap, BTreeSet};
 use std::fs;
 use std::path::{Path, PathBuf};
 
-const DOCUMENTS: [&str; 10] = [
+const DOCUMENTS: [&str; 12] = [
     "README.md",
     "docs/FORMAT.md",
     "docs/PROOFS.md",
@@ -13,8 +13,10 @@ const DOCUMENTS: [&str; 10] = [
     "docs/FROM-WELLEN.md",
     "docs/BENCHMARKS.md",
     "docs/LANDINGS.md",
+    "docs/PACKAGE.md",
     "crates/answers/README.md",
     "rust/compare/README.md",
+    "rust/yoksimert/README.md",
 ];
 const WIDEST: usize = 120;
 
