@@ -60,7 +60,7 @@ fn folder() -> Result<PathBuf, String> {
     watch(found.map_or(&folders, slice::from_ref));
     found.cloned().ok_or_else(|| match named {
         Some(folder) => format!(
-            "{VARIABLE} is not the absolute path of a folder that holds {ARCHIVE}: {}",
+            "{VARIABLE} is `{}`, which is not the absolute path of a folder that holds {ARCHIVE}",
             folder.display()
         ),
         None => format!(
