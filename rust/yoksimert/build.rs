@@ -21,6 +21,7 @@ fn main() {
         }
         Err(sentence) => println!("cargo::rustc-env=YOKSIMERT_STOP={sentence}"),
     }
+    // Their programs are doctests of the crate, where it stands beside them.
     println!("cargo::rustc-check-cfg=cfg(documents)");
     if from_here("../../docs/FROM-WELLEN.md").is_file() {
         println!("cargo::rustc-cfg=documents");
@@ -56,7 +57,7 @@ fn folder() -> Result<PathBuf, String> {
     };
     let has_archive = |folder: &&PathBuf| folder.is_absolute() && folder.join(ARCHIVE).is_file();
     let found = folders.iter().find(has_archive);
-    // What isn't there is looked for at each build, so only until one is found.
+    // cargo runs the script at each build while a watched file isn't there, so the others are not watched once one is found.
     watch(found.map_or(&folders, slice::from_ref));
     found.cloned().ok_or_else(|| match named {
         Some(folder) => format!(

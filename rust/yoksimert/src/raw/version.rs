@@ -5,12 +5,12 @@ unsafe extern "C" {
     safe fn yoksimert_version_1() -> u32;
 }
 
-/// An archive of another version has no function by this name, so a program that has this crate doesn't link with it, whatever it calls.
-/// A linker may drop any static that nothing reads, and ask no longer for what it named, but none in this section: the functions that are
-/// called before `main`. This one then answers to nobody.
+/// An archive of another version has no function by this name, so that no program with this crate links with it, whatever it calls. The
+/// linker may drop a static that nothing reads, and then it no longer looks for what that names; but none of this section, which lists the
+/// functions that are called before `main`. There this one answers to nobody.
 #[cfg(archive)]
 #[used]
-// SAFETY: a pointer to a function that takes what it is handed, in registers, for nothing.
+// SAFETY: what a function of this section is handed is in registers, which this one doesn't look at.
 #[unsafe(link_section = ".init_array")]
 static LINKED: extern "C" fn() -> u32 = yoksimert_version_1;
 

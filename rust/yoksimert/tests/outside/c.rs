@@ -7,7 +7,7 @@ use std::io::{Write, stderr};
 use std::path::Path;
 use std::process::Command;
 
-const OUTPUT: &str = "version 1 of 1\n7: 0001\nrefused: 6\n";
+const OUTPUT: &str = "7: 0001\nrefused: 6\n";
 
 /// A field of a pkg-config file, with its variables in place; `${pcfiledir}` is the file's folder.
 fn field(file: &Path, name: &str) -> String {

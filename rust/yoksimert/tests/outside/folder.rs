@@ -77,6 +77,16 @@ pub fn package(to: &Path) -> Command {
     command
 }
 
+/// The files below a folder, by their paths from it.
+pub fn files(folder: &Path) -> Vec<String> {
+    let mut find = Command::new("find");
+    find.args([".", "-type", "f", "-printf", "%P\\n"]);
+    let listed = accepted(find.current_dir(folder));
+    let mut all: Vec<_> = listed.lines().map(str::to_string).collect();
+    all.sort();
+    all
+}
+
 fn output(command: &mut Command) -> Output {
     command
         .output()

@@ -1,21 +1,9 @@
 //! The package itself.
 
-use crate::folder::{Outside, accepted, package, refused};
+use crate::folder::{Outside, accepted, files, package, refused};
 use std::fs;
 use std::path::Path;
 use std::process::Command;
-
-/// The files below a folder, by their paths from it.
-fn files(folder: &Path) -> Vec<String> {
-    let listed = accepted(
-        Command::new("find")
-            .args([".", "-type", "f", "-printf", "%P\\n"])
-            .current_dir(folder),
-    );
-    let mut all: Vec<_> = listed.lines().map(str::to_string).collect();
-    all.sort();
-    all
-}
 
 fn sums(package: &Path) -> String {
     fs::read_to_string(package.join("SHA256SUMS")).expect("the sums are there")

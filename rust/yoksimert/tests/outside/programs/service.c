@@ -6,7 +6,7 @@
 int main(void) {
     uint8_t bytes[8] = {0}, text[4];
     uint32_t indices[2] = {0};
-    printf("version %" PRIu32 " of %d\n", yoksimert_version(), YOKSIMERT_VERSION);
+    if (yoksimert_version() != YOKSIMERT_VERSION) return 1;
 
     yoksimert_description tariff = yoksimert_fresh(4).description;
     const uint8_t none[] = "zzzz", first[] = "0001", second[] = "0010";

@@ -1,7 +1,7 @@
 use yoksimert::{DerivedBitVecSignal, Refusal, SignalWriter, transform_signal};
 
 fn main() -> Result<(), Refusal> {
-    println!("version {}", yoksimert::raw::version());
+    assert_eq!(yoksimert::raw::version(), yoksimert::VERSION);
     let mut tariff = SignalWriter::new(4)?;
     tariff.add_change(0, "zzzz")?;
     tariff.add_change(7, "0001")?;
