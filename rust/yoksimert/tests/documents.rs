@@ -146,6 +146,18 @@ fn the_readme_names_every_crate() {
     }
 }
 
+/// The documents for services name the Rust that the crate's manifest asks for.
+#[test]
+fn the_least_rust_is_the_manifests() {
+    let manifest = file("rust/yoksimert/Cargo.toml");
+    let version = manifest.split("rust-version = \"").nth(1);
+    let version = version.and_then(|rest| rest.split('"').next());
+    let named = format!("Rust {}", version.expect("a version"));
+    for document in ["README.md", "docs/PACKAGE.md", "rust/yoksimert/README.md"] {
+        assert!(file(document).contains(&named), "{document}");
+    }
+}
+
 /// Each difference from wellen is held by the test that its row names.
 #[test]
 fn the_differences_are_tested() {

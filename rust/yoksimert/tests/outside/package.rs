@@ -1,9 +1,10 @@
 //! The package itself.
 
 use crate::folder::{Outside, accepted, files, package, refused};
-use std::fs;
+use std::os::unix::fs::PermissionsExt;
 use std::path::Path;
 use std::process::Command;
+use std::{env, fs};
 
 fn sums(package: &Path) -> String {
     fs::read_to_string(package.join("SHA256SUMS")).expect("the sums are there")
@@ -54,4 +55,56 @@ fn a_folder_that_is_there_is_left_alone() {
     let said = refused(&mut package(&there));
     assert!(said.ends_with("is there already\n"), "{said}");
     assert_eq!(files(&there), Vec::<String>::new());
+}
+
+/// What `./package` reads.
+const READ: [&str; 8] = [
+    "package",
+    "LICENSE",
+    "NOTICE",
+    "docs",
+    "include",
+    "rust/Cargo.toml",
+    "rust/yoksimert",
+    "target/staticlib/libyoksimert.a",
+];
+/// In place of the toolchain: it says that it would build, and is right or not.
+const RT: &str = "#!/bin/sh\necho \"$@\" >asked\necho not proved >&2\nexit \"$STATUS\"\n";
+
+/// `./package` in a copy of the repository.
+fn package_anew(outside: &Outside, status: &str) -> Command {
+    let path = env::var("PATH").expect("a path");
+    let mut command = Command::new(outside.path("package"));
+    command
+        .env("PATH", format!("{}:{path}", outside.path("bin").display()))
+        .env("STATUS", status);
+    command
+}
+
+#[test]
+fn the_archive_is_built_first() {
+    let outside = Outside::empty("built");
+    let root = Path::new(env!("CARGO_MANIFEST_DIR")).join("../..");
+    let mut copy = Command::new("cp");
+    copy.args(["-r", "--parents"])
+        .args(READ)
+        .arg(outside.path(""));
+    accepted(copy.current_dir(root));
+    let rt = outside.make_folder("bin").join("rt");
+    fs::write(&rt, RT).expect("the script is written");
+    fs::set_permissions(&rt, PermissionsExt::from_mode(0o755)).expect("it is ours");
+
+    accepted(&mut package_anew(&outside, "0"));
+    let asked = fs::read_to_string(outside.path("asked"));
+    assert_eq!(asked.expect("rt was called"), "staticlib yoksimert\n");
+    let old = outside.path("dist/old");
+    fs::write(&old, "").expect("dist is there");
+    let said = refused(&mut package_anew(&outside, "1"));
+    assert!(said.ends_with("not proved\n"), "{said}");
+    assert!(
+        old.is_file(),
+        "what was there is left where the build fails"
+    );
+    accepted(&mut package_anew(&outside, "0"));
+    assert!(!old.exists(), "dist is written anew");
 }
