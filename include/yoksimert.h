@@ -4,27 +4,8 @@
  * pointer and a number of elements; the pointer is valid for so many elements, and not null even where there are none. A slice that is
  * lent to be altered overlaps no other slice of the call. Starts count elements from the slice's beginning.
  *
- * An answer's number is 0 where the call is accepted, and else the number of the refusal in documents 01 and 02. On a refusal the slices
- * are as they were.
- *
- *  1 width above 4,096
- *  2 not a record, or not within a slice
- *  3 another kind of record
- *  4 length of a string
- *  5 foreign character
- *  6 index below the last one kept
- *  7 no room in a slice, or above the maximum of 1,048,576 entries
- *  8 no such entry
- *  9 an entry's mark is no set's, or above the largest set
- * 10 an entry has a code that is no level's
- * 11 a time index falls
- * 12 a piece's msb is below its lsb, or above 4,095
- * 13 a ninth input, a 65th piece, or a sum of widths above 4,096
- * 14 not a derivation, or not one of these inputs
- * 15 an input is empty, or doesn't start at index 0
- * 16 a width above 64, or, for packed decimal, not a multiple of 4
- * 17 a level that is neither 0 nor 1
- * 18 a digit of packed decimal is above 9
+ * An answer's number is 0 where the call is accepted, and else the number of the refusal in documents 01 and 02, which has a name below. On
+ * a refusal the slices are as they were.
  */
 #ifndef YOKSIMERT_H
 #define YOKSIMERT_H
@@ -36,6 +17,45 @@
 #ifdef __cplusplus
 extern "C" {
 #endif
+
+/* The version of this interface. An archive has one function that is named by its version, and answers it; a program that includes this
+ * header refers to the one of the header's version, called or not, so that it links with no archive of another. */
+#define YOKSIMERT_VERSION 1
+#define yoksimert_version yoksimert_version_1
+uint32_t yoksimert_version_1(void);
+
+#ifdef __has_attribute
+#if __has_attribute(retain)
+#define YOKSIMERT_KEPT __attribute__((used, retain))
+#elif __has_attribute(used)
+#define YOKSIMERT_KEPT __attribute__((used))
+#endif
+#endif
+#ifdef YOKSIMERT_KEPT
+static uint32_t (*const yoksimert_linked)(void) YOKSIMERT_KEPT = yoksimert_version;
+#endif
+
+/* The refusals. */
+enum {
+    YOKSIMERT_WIDTH_TOO_LARGE = 1, /* width above 4,096 */
+    YOKSIMERT_BAD_RECORD = 2, /* not a record, or not within a slice */
+    YOKSIMERT_WRONG_KIND = 3, /* another kind of record */
+    YOKSIMERT_WRONG_LENGTH = 4, /* length of a string */
+    YOKSIMERT_FOREIGN_CHARACTER = 5, /* foreign character */
+    YOKSIMERT_INDEX_BELOW_LAST = 6, /* index below the last one kept */
+    YOKSIMERT_NO_ROOM = 7, /* no room in a slice, or above the maximum of 1,048,576 entries */
+    YOKSIMERT_NO_SUCH_ENTRY = 8, /* no such entry */
+    YOKSIMERT_BAD_MARK = 9, /* an entry's mark is no set's, or above the largest set */
+    YOKSIMERT_BAD_CODE = 10, /* an entry has a code that is no level's */
+    YOKSIMERT_INDEX_FALLS = 11, /* a time index falls */
+    YOKSIMERT_BAD_RANGE = 12, /* a piece's msb is below its lsb, or above 4,095 */
+    YOKSIMERT_DERIVATION_FULL = 13, /* a ninth input, a 65th piece, or a sum of widths above 4,096 */
+    YOKSIMERT_BAD_DERIVATION = 14, /* not a derivation, or not one of these inputs */
+    YOKSIMERT_LATE_INPUT = 15, /* an input is empty, or doesn't start at index 0 */
+    YOKSIMERT_WRONG_WIDTH = 16, /* a width above 64, or, for packed decimal, not a multiple of 4 */
+    YOKSIMERT_NOT_BINARY = 17, /* a level that is neither 0 nor 1 */
+    YOKSIMERT_NOT_DECIMAL = 18 /* a digit of packed decimal is above 9 */
+};
 
 /* A record without its bytes and time indices, which the caller keeps and lends. Kind: 0 event, 1 real, 2 bit vector. Set: the largest
  * set, 0 for Two, 1 for Four, 2 for Nine. The width and the set of an event and of a real are 0. Other numbers are no description, and

@@ -1,10 +1,10 @@
-//! Of the build scripts: what the crates below found when they were built.
+//! Of the build scripts: whether wellen's source was there when the reference was built.
 
-/// `cfg(name)`: whether a crate below handed this variable to the build scripts of its dependents.
-pub fn flag(name: &str, variable: &str) {
-    println!("cargo::rustc-check-cfg=cfg({name})");
-    println!("cargo::rerun-if-env-changed={variable}");
-    if std::env::var_os(variable).is_some() {
-        println!("cargo::rustc-cfg={name}");
+/// `cfg(wellen)`: the crate `reference` hands this variable to the build scripts of its dependents.
+pub fn wellen() {
+    println!("cargo::rustc-check-cfg=cfg(wellen)");
+    println!("cargo::rerun-if-env-changed=DEP_WELLEN_PRESENT");
+    if std::env::var_os("DEP_WELLEN_PRESENT").is_some() {
+        println!("cargo::rustc-cfg=wellen");
     }
 }

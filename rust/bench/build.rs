@@ -1,5 +1,5 @@
-//! `cfg(wellen)`: whether the reference was built with wellen's source. `cfg(archive)` and `cfg(inner)`: whether the archives
-//! `libyoksimert.a` and `libbench.a` were there.
+//! `cfg(wellen)`: whether the reference was built with wellen's source. `cfg(inner)`: whether the archive
+//! `libbench.a` was there.
 
 #[path = "../present.rs"]
 mod present;
@@ -7,8 +7,7 @@ mod present;
 use std::path::Path;
 
 fn main() {
-    present::flag("wellen", "DEP_WELLEN_PRESENT");
-    present::flag("archive", "DEP_YOKSIMERT_PRESENT");
+    present::wellen();
     println!("cargo::rustc-check-cfg=cfg(inner)");
     let here = std::env::var("CARGO_MANIFEST_DIR").expect("cargo sets CARGO_MANIFEST_DIR");
     let folder = Path::new(&here).join("../../target/staticlib");

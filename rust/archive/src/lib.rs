@@ -3,11 +3,6 @@
 
 #![forbid(unsafe_code)]
 
-#[cfg(archive)]
 mod numbers;
-#[cfg(archive)]
 mod operations;
-#[cfg(archive)]
 pub use {numbers::decode, operations::*};
-
-pub use yoksimert::PRESENT;

@@ -1,23 +1,23 @@
 //! `bench [layout | add | records | derive]`: times of the proved functions beside wellen's, both at release, the best of several rounds.
 
-#[cfg(all(wellen, archive, inner))]
+#[cfg(all(wellen, inner))]
 mod by_hand;
-#[cfg(all(wellen, archive, inner))]
+#[cfg(all(wellen, inner))]
 mod derive;
-#[cfg(all(wellen, archive, inner))]
+#[cfg(all(wellen, inner))]
 mod inner;
-#[cfg(all(wellen, archive, inner))]
+#[cfg(all(wellen, inner))]
 mod layout;
-#[cfg(all(wellen, archive, inner))]
+#[cfg(all(wellen, inner))]
 mod numbers;
-#[cfg(all(wellen, archive, inner))]
+#[cfg(all(wellen, inner))]
 mod records;
-#[cfg(all(wellen, archive, inner))]
+#[cfg(all(wellen, inner))]
 mod strings;
-#[cfg(all(wellen, archive, inner))]
+#[cfg(all(wellen, inner))]
 mod timing;
 
-#[cfg(all(wellen, archive, inner))]
+#[cfg(all(wellen, inner))]
 fn main() {
     let arguments: Vec<String> = std::env::args().skip(1).collect();
     let part = match arguments.iter().map(String::as_str).collect::<Vec<_>>()[..] {
@@ -53,10 +53,10 @@ fn main() {
     }
 }
 
-#[cfg(not(all(wellen, archive, inner)))]
+#[cfg(not(all(wellen, inner)))]
 fn main() {
     eprintln!(
-        "bench: build the archives first (rt staticlib yoksimert, rt staticlib bench), and set WELLEN_SRC to the folder that holds wellen's src/fst.rs"
+        "bench: build the archive first (rt staticlib bench), and set WELLEN_SRC to the folder that holds wellen's src/fst.rs"
     );
     std::process::exit(2);
 }

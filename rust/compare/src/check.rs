@@ -1,4 +1,4 @@
-//! Each call through the oracle and, where these are there, through the archive and, in its domain, through wellen.
+//! Each call through the oracle, through the archive and, where wellen is there and in its domain, through wellen.
 
 use crate::by_wellen::{Verdict, verdict};
 use crate::generate::Receiver;
@@ -133,7 +133,7 @@ fn wellens<O: Operation>(call: &O) -> String {
 
 /// The archive takes every call of its operations, so none is left out.
 fn archive_disagrees<O: Operation>(call: &O, outcome: &Outcome<O::Answer>) -> bool {
-    cfg!(archive) && call.is_exported() && by_archive::outcome(call).as_ref() != Ok(outcome)
+    call.is_exported() && by_archive::outcome(call).as_ref() != Ok(outcome)
 }
 
 fn archives<O: Operation>(call: &O) -> String {

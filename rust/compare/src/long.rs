@@ -123,7 +123,7 @@ fn around(indices: &[u32], to: &mut dyn Receiver) {
 
 /// Records of the maximum length through the archive beside wellen's live writer, with a raise at the end. Says how many changes were
 /// made, or what disagrees.
-#[cfg(all(wellen, archive))]
+#[cfg(wellen)]
 pub fn longest_runs() -> Result<u64, String> {
     const RAISES: [(u32, [&str; 2]); 9] = [
         (1, ["x", "-"]),
@@ -147,7 +147,7 @@ pub fn longest_runs() -> Result<u64, String> {
     Ok(changes)
 }
 
-#[cfg(all(wellen, archive))]
+#[cfg(wellen)]
 mod full {
     use oracle::{Change, MAXIMUM, Refusal};
     use reference::Writer;

@@ -40,9 +40,7 @@ pub trait Operation: Clone + PartialEq + Debug + 'static {
         true
     }
 
-    fn by_archive(&self, _out: Slices) -> Result<Self::Answer, Refusal> {
-        unreachable!("the archive is missing")
-    }
+    fn by_archive(&self, out: Slices) -> Result<Self::Answer, Refusal>;
 
     /// Whether wellen is a reference for this call.
     fn is_in_domain(&self) -> bool {
@@ -194,7 +192,7 @@ impl<O: Operation> Case for Asked<O> {
     }
 
     fn is_exported(&self) -> bool {
-        cfg!(archive) && self.call.is_exported()
+        self.call.is_exported()
     }
 
     fn judge(&self) -> Option<char> {

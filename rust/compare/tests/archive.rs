@@ -1,5 +1,4 @@
 //! The archive takes every call of its operations, and agrees with the oracle.
-#![cfg(archive)]
 
 use compare::check::Checker;
 use compare::generate::{Generator, Size};

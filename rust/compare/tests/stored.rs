@@ -18,7 +18,6 @@ fn every_number_is_stored() {
     }
 }
 
-#[cfg(archive)]
 #[test]
 fn the_numbers_are_the_librarys() {
     let all: Vec<u8> = yoksimert::Refusal::ALL.iter().map(|r| r.number()).collect();

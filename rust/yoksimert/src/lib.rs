@@ -4,59 +4,49 @@
 //! from others. Every answer is computed by the archive; this crate keeps the vectors and turns numbers into types. A call that cannot
 //! be answered gives a [`Refusal`]; none panics.
 //!
-//! `build.rs` looks for the archive in `target/staticlib` of the repository, where `rt staticlib yoksimert` writes it.
-#![cfg_attr(
-    archive,
-    doc = r#"
-```
-use yoksimert::{DerivedBitVecSignal, Refusal, SignalWriter, transform_signal};
+//! The archive is looked for in the folder `YOKSIMERT_LIB_DIR`, or, where that is not set, where the repository or a package has it. Without
+//! it the build stops; the documentation is built all the same.
+//!
+//! ```
+//! use yoksimert::{DerivedBitVecSignal, Refusal, SignalWriter, transform_signal};
+//!
+//! # fn main() -> Result<(), Refusal> {
+//! let mut tariff = SignalWriter::new(4)?;
+//! tariff.add_change(0, "zzzz")?;
+//! tariff.add_change(7, "0001")?;
+//! assert_eq!(tariff.add_change(6, "0010"), Err(Refusal::IndexBelowLast));
+//! let tariff = tariff.finish();
+//!
+//! let (since, levels) = tariff.value_at(9)?.expect("a change at or before 9");
+//! assert_eq!((since, levels.to_string()), (7, "0001".to_string()));
+//!
+//! let low = DerivedBitVecSignal::new_slice(0, 1, 0)?;
+//! let low = transform_signal(&low, &[&tariff])?;
+//! assert_eq!(low.get_entry(1)?.to_string(), "01");
+//! # Ok(())
+//! # }
+//! ```
 
-# fn main() -> Result<(), Refusal> {
-let mut tariff = SignalWriter::new(4)?;
-tariff.add_change(0, "zzzz")?;
-tariff.add_change(7, "0001")?;
-assert_eq!(tariff.add_change(6, "0010"), Err(Refusal::IndexBelowLast));
-let tariff = tariff.finish();
-
-let (since, levels) = tariff.value_at(9)?.expect("a change at or before 9");
-assert_eq!((since, levels.to_string()), (7, "0001".to_string()));
-
-let low = DerivedBitVecSignal::new_slice(0, 1, 0)?;
-let low = transform_signal(&low, &[&tariff])?;
-assert_eq!(low.get_entry(1)?.to_string(), "01");
-# Ok(())
-# }
-```
-"#
-)]
 #![deny(unsafe_code)]
 #![warn(missing_docs)]
 
-#[cfg(archive)]
+// The sentence of build.rs that says why there is no archive to link.
+#[cfg(not(any(archive, doc)))]
+compile_error!(env!("YOKSIMERT_STOP"));
+
 mod derived;
-#[cfg(archive)]
 mod number;
-#[cfg(archive)]
 #[allow(unsafe_code, reason = "the calls through C's interface")]
 pub mod raw;
-#[cfg(archive)]
 mod refusal;
-#[cfg(archive)]
 mod signal;
-#[cfg(archive)]
 mod value;
-#[cfg(archive)]
 mod writer;
 
-#[cfg(archive)]
 pub use derived::{DerivedBitVecSignal, transform_signal};
-#[cfg(archive)]
 pub use refusal::Refusal;
-#[cfg(archive)]
 pub use signal::{DataOffset, FixedWidthEncoding, Signal};
-#[cfg(archive)]
 pub use value::{BitVecRef, SignalValueRef, States};
-#[cfg(archive)]
 pub use writer::{FstSignalValue, SignalWriter};
 
 /// A place in the list of times.
@@ -67,16 +57,21 @@ pub type NonZeroTimeTableIdx = std::num::NonZeroU32;
 /// The most entries of a record.
 pub const MAXIMUM: usize = 1_048_576;
 
-/// Whether the archive was there when this crate was built; without it the crate has no calls. Crates that depend on this one see it in
-/// their build scripts, as `DEP_YOKSIMERT_PRESENT`.
-pub const PRESENT: bool = cfg!(archive);
+/// The version of the archive's interface. A program with this crate does not link with an archive of another one: the linker then misses
+/// the function that has this number in its name.
+pub const VERSION: u32 = 1;
 
-/// The programs of the documents.
-#[cfg(all(doctest, archive))]
+/// The programs of the documents. `cfg(documents)`: the crate stands among them, and not by itself.
+#[cfg(doctest)]
 mod documents {
+    #[doc = include_str!("../README.md")]
+    mod readme {}
+
+    #[cfg(documents)]
     #[doc = include_str!("../../../docs/FROM-WELLEN.md")]
     mod from_wellen {}
 
+    #[cfg(documents)]
     #[doc = include_str!("../../../README.md")]
-    mod readme {}
+    mod readme_of_all {}
 }

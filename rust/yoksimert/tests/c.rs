@@ -1,5 +1,4 @@
-//! A program in C that includes the header, is linked with the archive, and runs.
-#![cfg(archive)]
+//! A program in C that includes the header, is linked with the archive, and runs; the header is C of 1999 and C++ of 2011.
 
 use std::path::Path;
 use std::process::Command;
@@ -24,13 +23,15 @@ w4: unsigned 0 10, signed 0 -6, decimal 18 0
 equal: start 0, 70000
 ";
 
+const STRICT: [&str; 4] = ["-Wall", "-Wextra", "-Werror", "-pedantic"];
+
 #[test]
 fn rows_from_c() {
     let here = Path::new(env!("CARGO_MANIFEST_DIR"));
     let program = Path::new(env!("CARGO_TARGET_TMPDIR")).join("rows");
-    let flags = ["-std=c11", "-Wall", "-Wextra", "-Werror", "-pedantic", "-I"];
     let compiled = Command::new("cc")
-        .args(flags)
+        .args(STRICT)
+        .args(["-std=c11", "-I"])
         .arg(here.join("../../include"))
         .arg(here.join("tests/rows.c"))
         .arg(here.join("../../target/staticlib/libyoksimert.a"))
@@ -43,4 +44,19 @@ fn rows_from_c() {
     let ran = Command::new(&program).output().expect("the program runs");
     assert!(ran.status.success());
     assert_eq!(String::from_utf8_lossy(&ran.stdout), EXPECTED);
+}
+
+#[test]
+fn the_header_is_plain() {
+    let header = Path::new(env!("CARGO_MANIFEST_DIR")).join("../../include/yoksimert.h");
+    for (language, standard) in [("c", "-std=c99"), ("c++", "-std=c++11")] {
+        let compiled = Command::new("cc")
+            .args(STRICT)
+            .args([standard, "-fsyntax-only", "-x", language])
+            .arg(&header)
+            .output()
+            .expect("cc, which links every Rust program, is there");
+        let said = String::from_utf8_lossy(&compiled.stderr);
+        assert!(compiled.status.success(), "{standard}: {said}");
+    }
 }

@@ -1,10 +1,11 @@
 //! The header, the Rust declarations and the Rattle source agree on every function's name, parameters and result, and on every struct's
-//! fields; so do the Rust declarations and the Rattle source of the functions that the benchmarks time. All three have the same numbers of
-//! refusals.
+//! fields; so do the Rust declarations and the Rattle source of the functions that the benchmarks time. All three have the same version, and
+//! the same numbers and names of refusals.
 
 use std::collections::BTreeMap;
 use std::fs;
 use std::path::Path;
+use yoksimert::{Refusal, VERSION, raw};
 
 /// A struct by its fields, or a function by its parameters and its result: names with types, the types in Rust's spelling.
 type Items = BTreeMap<String, Vec<(String, String)>>;
@@ -204,7 +205,12 @@ fn of_rust(text: &str) -> Items {
 }
 
 fn of_header() -> Items {
-    let text = flattened(&file("include/yoksimert.h"));
+    // A static is the program's that includes the header, and the preprocessor's lines are nobody's.
+    let text = file("include/yoksimert.h");
+    let declared = text
+        .lines()
+        .filter(|line| !line.starts_with('#') && !line.starts_with("static "));
+    let text = flattened(&declared.collect::<Vec<_>>().join("\n"));
     let mut items = Items::new();
     for item in between(&text, "typedef struct ", "}") {
         let (name, fields) = item.split_once('{').expect("fields");
@@ -244,19 +250,6 @@ fn the_benchmarks_texts_agree() {
     assert_eq!(of_rust(&file("rust/bench/src/inner.rs")), rattle);
 }
 
-/// Numbers with what stands behind them in the same line.
-fn numbered(text: &str) -> Vec<(u32, &str)> {
-    let lines = text.lines().filter_map(|line| {
-        let (number, rest) = line
-            .trim()
-            .trim_start_matches("* ")
-            .trim()
-            .split_once(' ')?;
-        Some((number.parse().ok()?, rest))
-    });
-    lines.collect()
-}
-
 /// `Refusal::Name => number` of Rattle, wherever in the crate it stands.
 fn refusals_of_rattle() -> Vec<(u32, String)> {
     let text = folder("crates/fst/src");
@@ -270,19 +263,57 @@ fn refusals_of_rattle() -> Vec<(u32, String)> {
     out
 }
 
+fn refusals() -> Vec<(u32, String)> {
+    let all = Refusal::ALL.iter();
+    all.map(|refusal| (u32::from(refusal.number()), format!("{refusal:?}")))
+        .collect()
+}
+
 #[test]
 fn the_numbers_of_refusals_agree() {
-    let rust = file("rust/yoksimert/src/refusal.rs");
-    let listed = numbered(between(&rust, "\nrefusals! {", "\n}")[0]);
-    let named: Vec<(u32, String)> = listed
-        .iter()
-        .map(|(number, rest)| (*number, rest.split(' ').next().unwrap_or_default().into()))
+    assert!(refusals().len() >= 18, "{:?}", refusals());
+    assert_eq!(refusals_of_rattle(), refusals());
+}
+
+/// `WidthTooLarge` is `YOKSIMERT_WIDTH_TOO_LARGE`.
+fn c_constant(name: &str) -> String {
+    let mut out = "YOKSIMERT".to_string();
+    for letter in name.chars() {
+        if letter.is_uppercase() {
+            out.push('_');
+        }
+        out.extend(letter.to_uppercase());
+    }
+    out
+}
+
+#[test]
+fn the_header_names_every_refusal() {
+    let text = flattened(&file("include/yoksimert.h"));
+    let listed = between(&text, "enum {", "}");
+    let listed: Vec<_> = listed.iter().flat_map(|list| entries(list, ',')).collect();
+    let all = refusals().into_iter();
+    let all: Vec<_> = all
+        .map(|(number, name)| format!("{} = {number}", c_constant(&name)))
         .collect();
-    assert!(named.len() >= 18, "{named:?}");
-    assert_eq!(refusals_of_rattle(), named);
+    assert_eq!(listed, all);
+}
+
+/// The number of the version stands in the header, in the crate and in the name of a function, which answers it.
+#[test]
+fn the_versions_agree() {
+    let function = format!("yoksimert_version_{VERSION}");
     let header = file("include/yoksimert.h");
-    let head = header.split("*/").next().unwrap_or_default();
-    let of_header: Vec<u32> = numbered(head).iter().map(|(number, _)| *number).collect();
-    let numbers: Vec<u32> = named.iter().map(|(number, _)| *number).collect();
-    assert_eq!(of_header, numbers);
+    for line in [
+        format!("#define YOKSIMERT_VERSION {VERSION}"),
+        format!("#define yoksimert_version {function}"),
+    ] {
+        assert!(header.lines().any(|of_header| of_header == line), "{line}");
+    }
+    let items = of_header().into_keys();
+    let versions: Vec<_> = items
+        .filter(|name| name.starts_with("yoksimert_version"))
+        .collect();
+    assert_eq!(versions, [function]);
+    assert_eq!(raw::version(), VERSION);
 }

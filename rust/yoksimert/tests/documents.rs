@@ -4,7 +4,7 @@ use std::collections::{BTreeMap, BTreeSet};
 use std::fs;
 use std::path::{Path, PathBuf};
 
-const DOCUMENTS: [&str; 10] = [
+const DOCUMENTS: [&str; 12] = [
     "README.md",
     "docs/FORMAT.md",
     "docs/PROOFS.md",
@@ -13,8 +13,10 @@ const DOCUMENTS: [&str; 10] = [
     "docs/FROM-WELLEN.md",
     "docs/BENCHMARKS.md",
     "docs/LANDINGS.md",
+    "docs/PACKAGE.md",
     "crates/answers/README.md",
     "rust/compare/README.md",
+    "rust/yoksimert/README.md",
 ];
 const WIDEST: usize = 120;
 
@@ -141,6 +143,18 @@ fn the_readme_names_every_crate() {
     let rattle = crates().into_iter().map(|name| format!("crates/{name}"));
     for folder in rattle.chain(rust) {
         assert!(text.contains(&format!("\n| `{folder}` |")), "{folder}");
+    }
+}
+
+/// The documents for services name the Rust that the crate's manifest asks for.
+#[test]
+fn the_least_rust_is_the_manifests() {
+    let manifest = file("rust/yoksimert/Cargo.toml");
+    let version = manifest.split("rust-version = \"").nth(1);
+    let version = version.and_then(|rest| rest.split('"').next());
+    let named = format!("Rust {}", version.expect("a version"));
+    for document in ["README.md", "docs/PACKAGE.md", "rust/yoksimert/README.md"] {
+        assert!(file(document).contains(&named), "{document}");
     }
 }
 

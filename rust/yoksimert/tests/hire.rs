@@ -1,5 +1,4 @@
 //! The example's output: all of it is stored, and the README shows its drawing.
-#![cfg(archive)]
 
 #[path = "../examples/hire/capture.rs"]
 mod capture;

@@ -1,5 +1,4 @@
 //! Numbers that are no description are refused with 2, and everything comes back as it was.
-#![cfg(archive)]
 
 use yoksimert::raw::{self, FlatDescription, FlatRecord};
 

@@ -39,7 +39,6 @@ impl Operation for AddChange {
         self.answer(oracle::add_change, out)
     }
 
-    #[cfg(archive)]
     fn by_archive(&self, out: Slices) -> Result<Description, Refusal> {
         self.answer(archive::add_change, out)
     }

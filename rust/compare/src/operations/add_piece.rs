@@ -45,7 +45,6 @@ impl Operation for AddPiece {
         oracle::add_piece(&self.derivation, self.side, self.name, self.msb, self.lsb)
     }
 
-    #[cfg(archive)]
     fn by_archive(&self, _: Slices) -> Result<Derivation, Refusal> {
         archive::add_piece(&self.derivation, self.side, self.name, self.msb, self.lsb)
     }

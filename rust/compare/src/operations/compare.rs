@@ -34,7 +34,6 @@ impl Operation for Compare {
         oracle::compare(&self.first.as_record(), &self.second.as_record())
     }
 
-    #[cfg(archive)]
     fn by_archive(&self, _: Slices) -> Result<bool, Refusal> {
         archive::compare(&self.first.as_record(), &self.second.as_record())
     }

@@ -27,7 +27,6 @@ impl Operation for Fresh {
     }
 
     /// By both calls that there are.
-    #[cfg(archive)]
     fn by_archive(&self, _: Slices) -> Result<Description, Refusal> {
         let made = archive::fresh(self.width);
         let lent = archive::recorder_fresh(self.width);

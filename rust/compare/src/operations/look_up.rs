@@ -35,7 +35,6 @@ impl Operation for LookUp {
         oracle::look_up(&self.indices, self.sought)
     }
 
-    #[cfg(archive)]
     fn by_archive(&self, _: Slices) -> Result<Option<Offset>, Refusal> {
         archive::look_up(&self.indices, self.sought)
     }

@@ -108,7 +108,6 @@ impl<F: Form> Operation for Number<F> {
         )
     }
 
-    #[cfg(archive)]
     fn by_archive(&self, _: Slices) -> Result<i128, Refusal> {
         let record = &self.record;
         archive::number(

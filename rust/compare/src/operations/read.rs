@@ -42,7 +42,6 @@ impl Operation for Read {
         )
     }
 
-    #[cfg(archive)]
     fn by_archive(&self, _: Slices) -> Result<Entry, Refusal> {
         let record = &self.record;
         archive::read(

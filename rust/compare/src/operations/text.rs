@@ -41,7 +41,6 @@ impl Operation for Text {
         )
     }
 
-    #[cfg(archive)]
     fn by_archive(&self, out: Slices) -> Result<(), Refusal> {
         let (record, start) = (&self.record, self.record.byte_start);
         archive::text(

@@ -37,6 +37,7 @@ mod number;
 mod read;
 mod search;
 mod text;
+mod version;
 
 pub use add_change::{recorder_add_change, recorder_add_real};
 pub use add_piece::{
@@ -50,6 +51,7 @@ pub use number::{FlatNumber, FlatSigned, decimal, signed, unsigned};
 pub use read::{FlatEntry, read};
 pub use search::search;
 pub use text::text;
+pub use version::version;
 
 /// A record without its bytes and time indices. Other numbers than these are no description, and refused with 2.
 #[repr(C)]

@@ -1,6 +1,5 @@
 //! The worked tables of docs/FORMAT.md: each row is replayed on the archive, and must say what the archive gives. Every number of
 //! every operation has a row that shows it.
-#![cfg(archive)]
 
 mod derivations;
 mod entries;

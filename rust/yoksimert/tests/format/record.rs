@@ -23,8 +23,8 @@ pub fn size_of(description: FlatDescription) -> usize {
         (0, _) => 0,
         (1, _) => 8,
         (_, 0) => width.div_ceil(8),
-        (_, 1) => width.div_ceil(4) + usize::from(width.is_multiple_of(4)),
-        (_, _) => width.div_ceil(2) + usize::from(width.is_multiple_of(2)),
+        (_, 1) => width.div_ceil(4) + usize::from(width % 4 == 0),
+        (_, _) => width.div_ceil(2) + usize::from(width % 2 == 0),
     }
 }
 

@@ -1,5 +1,4 @@
 //! The safe types: document 01's rows, growth to the maximum, and generated calls beside the oracle.
-#![cfg(archive)]
 
 mod derived;
 mod flat;

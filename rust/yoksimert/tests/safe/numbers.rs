@@ -98,7 +98,7 @@ fn expected(levels: &str) -> Answers {
         .map(|place| char::from_digit((word >> (4 * place)) as u32 & 15, 10))
         .collect();
     let decimal = match digits {
-        _ if !levels.len().is_multiple_of(4) => Err(Refusal::WrongWidth),
+        _ if levels.len() % 4 != 0 => Err(Refusal::WrongWidth),
         None => Err(Refusal::NotDecimal),
         Some(digits) => Ok(digits.parse().expect("digits")),
     };
@@ -164,11 +164,10 @@ fn another_level_at_any_place_is_refused() {
             let signal = of_levels(&levels.iter().collect::<String>());
             let answers = judged(&signal, 0);
             let wide = width > 64;
-            let [binary, decimal] =
-                [wide, wide || !width.is_multiple_of(4)].map(|wrong| match wrong {
-                    true => Err(Refusal::WrongWidth),
-                    false => Err(Refusal::NotBinary),
-                });
+            let [binary, decimal] = [wide, wide || width % 4 != 0].map(|wrong| match wrong {
+                true => Err(Refusal::WrongWidth),
+                false => Err(Refusal::NotBinary),
+            });
             assert_eq!(answers, [binary, binary, decimal], "{width} {place}");
             assert_converted(&signal, &answers);
         }

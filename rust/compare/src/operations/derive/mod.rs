@@ -49,7 +49,6 @@ impl Operation for Derive {
         self.inputs.len() <= MAX_INPUTS
     }
 
-    #[cfg(archive)]
     fn by_archive(&self, out: Slices) -> Result<Description, Refusal> {
         self.answer(archive::derive, out)
     }

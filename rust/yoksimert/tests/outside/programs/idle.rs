@@ -1,0 +1,4 @@
+// Calls nothing of the archive.
+fn main() {
+    println!("{}", yoksimert::MAXIMUM);
+}
