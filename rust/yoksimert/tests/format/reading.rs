@@ -1,6 +1,6 @@
 //! Read, Text, Numbers, Compare and Look up.
 
-use yoksimert::raw;
+use yoksimert::raw::{self, FlatOffset};
 
 use crate::record::record;
 use crate::table::{NOTHING, bytes_shown, number, numbers, quoted, set_named, span};
@@ -71,11 +71,24 @@ impl Replay for Comparing {
 }
 
 /// indices, sought, answer, start, entries, equal, next
-pub struct Lookups;
+pub struct Lookups {
+    name: &'static str,
+    call: fn(&[u32], u32) -> FlatOffset,
+}
+
+pub const LOOK_UP: Lookups = Lookups {
+    name: "Look up",
+    call: raw::look_up,
+};
+
+pub const SEARCH: Lookups = Lookups {
+    name: "Search",
+    call: raw::search,
+};
 
 impl Replay for Lookups {
     fn row(&mut self, cells: &[String]) -> (Vec<String>, Shown) {
-        let found = raw::look_up(&numbers(span(&cells[0])), number(&cells[1]));
+        let found = (self.call)(&numbers(span(&cells[0])), number(&cells[1]));
         let mut row = vec![cells[0].clone(), cells[1].clone()];
         if found.found {
             let equal = if found.time_match { "yes" } else { "no" };
@@ -98,6 +111,6 @@ impl Replay for Lookups {
             });
             row.extend([NOTHING; 4].map(str::to_string));
         }
-        (row, vec![("Look up", found.number)])
+        (row, vec![(self.name, found.number)])
     }
 }

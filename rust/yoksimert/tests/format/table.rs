@@ -61,10 +61,18 @@ pub fn number<N: std::str::FromStr>(word: &str) -> N {
 
 /// Words that are numbers; "5 × 3" is three fives.
 pub fn numbers(words: &str) -> Vec<u32> {
-    if let Some((word, times)) = words.split_once(" × ") {
-        return vec![number(word); number(times)];
+    let mut out = Vec::new();
+    let mut words = words.split_whitespace();
+    while let Some(word) = words.next() {
+        if word == "×" {
+            let (last, times) = (out.pop(), words.next());
+            let (last, times) = last.zip(times).expect("a number on each side of ×");
+            out.extend(vec![last; number(times)]);
+        } else {
+            out.push(number(word));
+        }
     }
-    words.split_whitespace().map(number).collect()
+    out
 }
 
 pub fn hex(words: &str) -> Vec<u8> {
