@@ -1,3 +1,3 @@
-pub mod Halving
+pub mod Quartering
 pub mod Searched
 pub mod Rising

@@ -20,7 +20,7 @@ use Rattle.fst.proofs.Refusals.{Passed, Result, through, stopped, result}
 use Rattle.fst.proofs.Records.{standing}
 use Rattle.runs.specs.Runs.{byValue, Call, leftIn, leaves, Run, after}
 use Rattle.offset.specs.Offset.{falls, lookUp}
-use Rattle.search.specs.Halving.{search}
+use Rattle.search.specs.Quartering.{search}
 use Rattle.search.proofs.Searched.{search-is-look-up}
 
 -- ---- one index more

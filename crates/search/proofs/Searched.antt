@@ -4,13 +4,15 @@ use mathlib.Core.Path.{_≡_, refl, sym, ap, _∙_}
 use mathlib.Core.Bool.{Bool, true, false, cond}
 use mathlib.Core.List.{List, [], _∷_}
 use Prim.Native.Nat.{ℕ, zero, suc, _+_, _-_, _*_, _/_, _≤_, _<_}
-use native.Mathlib.Nat.{not-suc-le-zero, le-of-suc-le-suc}
+use native.Mathlib.Nat.{not-suc-le-zero, le-of-suc-le-suc, suc-mul, mul-le-mul-right}
 use native.Mathlib.Omega.{arith}
 use borrow.Author.Tests.{leb-true, leb-false, eqb-false}
 use lib.Dec.{eqb, leb}
 use lib.ListN.{length, getD, take, drop, length-drop}
 use lib.Seq.{getD-drop, getD-take, length-take-le}
 use Rattle.value.specs.Level.{placeIn}
+use Rattle.value.specs.Slice.{part}
+use Rattle.value.proofs.Slices.{part-length, part-at}
 use Rattle.value.proofs.Tests.{by-le}
 use Rattle.fst.specs.Refusal.{given}
 use Rattle.fst.specs.Record.{maximum}
@@ -18,8 +20,8 @@ use Rattle.offset.specs.Offset.{falls, runOf, headOf, at, place, lookUp}
 use Rattle.offset.specs.Search.{Last}
 use Rattle.offset.proofs.Search.{rising, place-is, last-greatest, Carrying, run-is}
 use Rattle.offset.proofs.Offsets.{look-up-long, look-up-rising, place-empty, place-above, place-reached, place-found}
-use Rattle.search.specs.Halving.{notAbove, halved, rank, frontOf, startOf, runUpTo, search}
-use Rattle.search.proofs.Halving.{start-some, start-zero, search-long, search-given, run-none, run-at}
+use Rattle.search.specs.Quartering.{notAbove, ends, quartered, rank, frontOf, startOf, runUpTo, search}
+use Rattle.search.proofs.Quartering.{passed, three-at-most, start-some, start-zero, search-long, search-given, run-none, run-at}
 
 -- ---- a list in order, and where an index parts it
 
@@ -64,58 +66,90 @@ count-parts s (x ∷ l) o = go (leb x s) refl (count-parts s l (λ i j h k. o (s
           high = λ k h i. above k i;
         }
 
-module _ (s : ℕ) (l : List ℕ) (o : Ordered l) (m : ℕ) (some : 0 < m) (within : m ≤ length l) where
-  -- behind a half
-  parts-drop : (r : ℕ) → getD l (m - 1) 0 ≤ s → Parted s (drop m l) r → Parted s l (m + r)
-  parts-drop r h p =
+-- a part that the index parts, in front of which no index is above, and behind which all are
+module _ (s : ℕ) (l : List ℕ) (o : Ordered l) (p m : ℕ) (within : p + m ≤ length l) where
+  at-part : (k : ℕ) → p ≤ k → k < p + m → getD (part p m l) (k - p) 0 ≡ getD l k 0
+  at-part k h i =
+      let same : p + (k - p) ≡ k = omega arith in
+      part-at l p m (k - p) 0 (omega arith) ∙ ap (λ (n : ℕ). getD l n 0) same
+
+  ordered-part : Ordered (part p m l)
+  ordered-part i j h k =
+      let long = part-length l p m within in
+      rw (part-at l p m i 0 (omega arith), part-at l p m j 0 (omega arith)) (o (p + i) (p + j) (omega arith) (omega arith))
+
+  parts-part : (r : ℕ) → (0 < p → getD l (p - 1) 0 ≤ s) → (p + m < length l → s < getD l (p + m) 0) → Parted s (part p m l) r → Parted s l (p + r)
+  parts-part r below above q =
       record {
-        within = omega (arith, p .within, length-drop m l);
-        low = λ k i. by-le m k (λ j. omega (arith, p .low (k - m) (omega arith), at-drop k j)) (λ j. omega (arith, o k (m - 1) (omega arith) (omega arith)));
-        high = λ k i j. omega (arith, p .high (k - m) (omega arith) (omega (arith, length-drop m l)), at-drop k (omega arith));
+        within = omega (arith, q .within, long);
+        low = λ k h. by-le p k (λ i. omega (arith, q .low (k - p) (omega arith), at-part k i (omega (arith, q .within, long)))) (λ i. omega (arith, below (omega arith), o k (p - 1) (omega arith) (omega arith)));
+        high = λ k h i. by-le (p + m) k (λ j. omega (arith, above (omega arith), o (p + m) k j i)) (λ j. omega (arith, q .high (k - p) (omega arith) (omega (arith, long)), at-part k (omega arith) j));
       }
     where
-      at-drop : (k : ℕ) → m ≤ k → getD (drop m l) (k - m) 0 ≡ getD l k 0
-      at-drop k j =
-          let same : m + (k - m) ≡ k = omega arith in
-          getD-drop m l (k - m) 0 ∙ ap (λ (n : ℕ). getD l n 0) same
+      long : length (part p m l) ≡ m
+      long = part-length l p m within
 
-  -- without the end
-  parts-take : (r : ℕ) → s < getD l (m - 1) 0 → (n : ℕ) → m ≤ n + 1 → n ≤ length l → Parted s (take n l) r → Parted s l r
-  parts-take r h n i j p =
-      record {
-        within = omega (arith, p .within, long);
-        low = λ k q. omega (arith, p .low k q, getD-take n l k 0 (omega (arith, p .within, long)));
-        high = λ k q t. by-le n k (λ u. omega (arith, o (m - 1) k (omega arith) t)) (λ u. omega (arith, p .high k q (omega (arith, long)), getD-take n l k 0 u));
-      }
+-- as many quarters as have an end that is not above
+module _ (s : ℕ) (l : List ℕ) (o : Ordered l) (long : 16 < length l) where
+  abbrev q : ℕ
+  q = length l / 4
+
+  end-is : (j : ℕ) → j < 3 → getD (ends l) j 0 ≡ getD l (suc j * q - 1) 0
+  end-is zero h = let same : 0 + q - 1 ≡ 1 * q - 1 = omega arith in ap (λ (k : ℕ). getD l k 0) same
+  end-is (suc zero) h = let same : 0 + 2 * q - 1 ≡ 2 * q - 1 = omega arith in ap (λ (k : ℕ). getD l k 0) same
+  end-is (suc (suc zero)) h = let same : 0 + 3 * q - 1 ≡ 3 * q - 1 = omega arith in ap (λ (k : ℕ). getD l k 0) same
+  end-is (suc (suc (suc j))) h = absurd (omega arith)
+
+  ordered-ends : Ordered (ends l)
+  ordered-ends i j h k =
+      let more : suc i ≤ suc j = omega arith in
+      let up : suc i * q ≤ suc j * q = mul-le-mul-right q more in
+      let few : suc j * q ≤ 3 * q = mul-le-mul-right q k in
+      rw (end-is i (omega arith), end-is j k) (o (suc i * q - 1) (suc j * q - 1) (omega (arith, up)) (omega (arith, few)))
+
+  quarter-parts : (k r : ℕ) → Parted s (ends l) k → Parted s (part (k * q) (length l - 3 * q) l) r → Parted s l (k * q + r)
+  quarter-parts k r e t =
+      parts-part s l o (k * q) (length l - 3 * q) (omega (arith, few)) r
+      (λ h.
+      by-le k 0
+      (λ none.
+      let no : k * q ≤ 0 * q = mul-le-mul-right q none in
+      absurd (omega (arith, no)))
+      (λ some.
+      let same : suc (k - 1) ≡ k = omega arith in
+      let last : getD (ends l) (k - 1) 0 ≡ getD l (k * q - 1) 0 =
+      end-is (k - 1) (omega (arith, e .within)) ∙ ap (λ (n : ℕ). getD l (n * q - 1) 0) same in
+      omega (arith, last, e .low (k - 1) (omega arith))))
+      (λ h.
+      by-le 3 k
+      (λ all.
+      let most : 3 * q ≤ k * q = mul-le-mul-right q all in
+      absurd (omega (arith, most)))
+      (λ less.
+      let next : suc k * q ≡ k * q + q = suc-mul k q in
+      omega (arith, end-is k less, e .high k (omega arith) less, o (suc k * q - 1) (k * q + (length l - 3 * q)) (omega (arith, next)) h)))
+      t
     where
-      long : length (take n l) ≡ n
-      long = length-take-le n l j
+      few : k * q ≤ 3 * q
+      few = mul-le-mul-right q (e .within)
 
-halved-parts : (n s : ℕ) (l : List ℕ) → Ordered l → Parted s l (halved n s l)
-unfolding halved
-halved-parts zero s l o = count-parts s l o
-halved-parts (suc n) s l o =
-    go (leb (length l) 16) refl (leb (getD l (half - 1) 0) s) refl
-    (halved-parts n s (drop half l) (ordered-drop l half o))
-    (halved-parts n s (take (length l - half) l) (ordered-take l (length l - half) (omega arith) o))
+quartered-parts : (n s : ℕ) (l : List ℕ) → Ordered l → Parted s l (quartered n s l)
+unfolding quartered
+quartered-parts zero s l o = count-parts s l o
+quartered-parts (suc n) s l o =
+    go (leb (length l) 16) refl
+    (quartered-parts n s (part (passed s l) (length l - 3 * (length l / 4)) l) (ordered-part s l o (passed s l) (length l - 3 * (length l / 4)) (omega (arith, three-at-most s l))))
   where
-    half : ℕ
-    half = length l / 2
-
-    go : (b : Bool) → leb (length l) 16 ≡ b → (c : Bool) → leb (getD l (half - 1) 0) s ≡ c
-        → Parted s (drop half l) (halved n s (drop half l)) → Parted s (take (length l - half) l) (halved n s (take (length l - half) l))
-        → Parted s l (cond b (notAbove s l) (cond c (half + halved n s (drop half l)) (halved n s (take (length l - half) l))))
-    go true e c q p t = count-parts s l o
-    go false e true q p t =
-        let long = leb-false (length l) 16 e in
-        parts-drop s l o half (omega arith) (omega arith) _ (leb-true _ s q) p
-    go false e false q p t =
-        let long = leb-false (length l) 16 e in
-        parts-take s l o half (omega arith) (omega arith) _ (leb-false _ s q) (length l - half) (omega arith) (omega arith) t
+    go : (b : Bool) → leb (length l) 16 ≡ b → Parted s (part (passed s l) (length l - 3 * (length l / 4)) l) (quartered n s (part (passed s l) (length l - 3 * (length l / 4)) l))
+        → Parted s l (cond b (notAbove s l) (passed s l + quartered n s (part (passed s l) (length l - 3 * (length l / 4)) l)))
+    go true e t = count-parts s l o
+    go false e t =
+        let far = leb-false (length l) 16 e in
+        quarter-parts s l o far (notAbove s (ends l)) _ (count-parts s (ends l) (ordered-ends s l o far)) t
 
 rank-parts : (s : ℕ) (l : List ℕ) → Ordered l → Parted s l (rank s l)
 unfolding rank
-rank-parts s l o = halved-parts (length l) s l o
+rank-parts s l o = quartered-parts (length l) s l o
 
 -- ---- where the run at the end of a list in order begins
 
@@ -128,10 +162,10 @@ module _ (i : ℕ) (l : List ℕ) (o : Ordered l) (top : (k : ℕ) → k < lengt
   front-below : (turns n k : ℕ) → k < frontOf turns n i l → getD l k 0 < i
   unfolding frontOf
   front-below zero n k h = absurd (not-suc-le-zero h)
-  front-below (suc turns) n k h = go (eqb (getD l (length l - (n + 1)) 0) i) refl h (front-below turns (n * 16) k)
+  front-below (suc turns) n k h = go (eqb (getD l (length l - (n + 1)) 0) i) refl h (front-below turns (n * 8) k)
     where
-      go : (b : Bool) → eqb (getD l (length l - (n + 1)) 0) i ≡ b → k < cond b (frontOf turns (n * 16) i l) (length l - n)
-          → (k < frontOf turns (n * 16) i l → getD l k 0 < i) → getD l k 0 < i
+      go : (b : Bool) → eqb (getD l (length l - (n + 1)) 0) i ≡ b → k < cond b (frontOf turns (n * 8) i l) (length l - n)
+          → (k < frontOf turns (n * 8) i l → getD l k 0 < i) → getD l k 0 < i
       go true e h f = f h
       go false e h f =
           let at = length l - (n + 1) in

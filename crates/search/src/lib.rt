@@ -1,10 +1,10 @@
 // The entries that hold at a time index, in a list that is known not to fall: Look up without its scan.
 ghost use mathlib.Core.Path.{_≡_};
-ghost use Prim.Native.Nat.{_≤_};
-ghost use lib.ListN.{length};
+ghost use Prim.Native.Nat.{_≤_, _+_, _-_, _*_};
+ghost use lib.ListN.{length, getD};
 ghost use Rattle.fst.specs.Record.{maximum};
 ghost use Rattle.offset.specs.Offset.{offsetOf};
-ghost use Rattle.search.specs.Halving.{notAbove, rank, frontOf, startOf, search};
+ghost use Rattle.search.specs.Quartering.{notAbove, endsFrom, rank, frontOf, startOf, search};
 use fst::NextIndex;
 use fst::Refusal;
 use fst::record::MAXIMUM;
@@ -27,16 +27,28 @@ fn count(indices: &[u32], needle: u32) -> usize
     counted as usize
 }
 
-// The number of indices that are not above the needle, by halving.
+// How many of three quarters from a place on end in an index that is not above the needle.
+fn passed(indices: &[u32], place: usize, quarter: usize, needle: u32) -> usize
+    requires { ⌜ 1 ≤ quarter ⌝ }
+    requires { ⌜ place + 3 * quarter ≤ length (now indices) ⌝ }
+    ensures { λ r. ⌜ r ≡ notAbove needle (endsFrom place quarter (now (indices .entry))) ⌝ }
+{
+    let first = not_above(indices[place + quarter - 1], needle);
+    let second = not_above(indices[place + 2 * quarter - 1], needle);
+    let third = not_above(indices[place + 3 * quarter - 1], needle);
+    first + second + third
+}
+
+// The number of indices that are not above the needle, by quartering: the second half would wait for the first.
 fn rank(indices: &[u32], needle: u32) -> usize
     ensures { λ r. ⌜ r ≡ rank needle (now (indices .entry)) ⌝ }
 {
     let mut place = 0;
     let mut size = indices.len();
     while 16 < size {
-        let half = size / 2;
-        place += half * not_above(indices[place + half - 1], needle);
-        size -= half;
+        let quarter = size / 4;
+        place += passed(indices, place, quarter, needle) * quarter;
+        size -= 3 * quarter;
     }
     let end = place + size;
     place + count(&indices[place..end], needle)
@@ -56,19 +68,23 @@ fn find_front(indices: &[u32], index: u32) -> usize
         if indices[len - reach - 1] != index {
             return len - reach;
         }
-        reach *= 16;
+        reach *= 8;
     }
 }
 
 // Where the run of the index at the end begins.
 fn find_start(indices: &[u32], index: u32) -> usize
     requires { ⌜ length (now indices) ≤ maximum ⌝ }
+    requires { ⌜ getD (now indices) (length (now indices) - 1) 0 ≡ index ⌝ }
     ensures { λ r. ⌜ r ≡ startOf index (now (indices .entry)) ⌝ }
 {
     if index == 0 {
         return 0;
     }
     let front = find_front(indices, index);
+    if front + 1 == indices.len() {
+        return front;
+    }
     front + rank(&indices[front..], index - 1)
 }
 

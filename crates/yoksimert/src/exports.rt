@@ -5,7 +5,7 @@ ghost use Prim.Native.Nat.{ℕ};
 ghost use Rattle.fst.specs.Refusal.{Outcome};
 ghost use Rattle.fst.specs.Record.{lent, fresh, freshReal};
 ghost use Rattle.offset.specs.Offset.{lookUp};
-ghost use Rattle.search.specs.Halving.{search};
+ghost use Rattle.search.specs.Quartering.{search};
 ghost use Rattle.numbers.specs.Number.{unsigned, signed, decimal, flatNumber, flatSigned};
 ghost use Rattle.yoksimert.specs.Flat.{encoded, flatMade, flatOffset};
 ghost use Rattle.yoksimert.specs.Exports.{flatRead, flatText, flatReadNumber, flatCompare};

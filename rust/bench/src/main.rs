@@ -1,4 +1,4 @@
-//! `bench [layout | add | records | derive]`: times of the proved functions beside wellen's, both at release, the best of several rounds.
+//! `bench [layout | add | records | scroll | derive]`: times of the proved functions beside wellen's, both at release, the best of several rounds.
 
 #[cfg(all(wellen, inner))]
 mod by_hand;
@@ -13,6 +13,8 @@ mod numbers;
 #[cfg(all(wellen, inner))]
 mod records;
 #[cfg(all(wellen, inner))]
+mod scrolling;
+#[cfg(all(wellen, inner))]
 mod strings;
 #[cfg(all(wellen, inner))]
 mod timing;
@@ -22,9 +24,9 @@ fn main() {
     let arguments: Vec<String> = std::env::args().skip(1).collect();
     let part = match arguments.iter().map(String::as_str).collect::<Vec<_>>()[..] {
         [] => None,
-        [part @ ("layout" | "add" | "records" | "derive")] => Some(part),
+        [part @ ("layout" | "add" | "records" | "scroll" | "derive")] => Some(part),
         _ => {
-            eprintln!("usage: bench [layout | add | records | derive]");
+            eprintln!("usage: bench [layout | add | records | scroll | derive]");
             std::process::exit(2);
         }
     };
@@ -47,6 +49,10 @@ fn main() {
         records::compare();
         records::look_up();
         records::equal_indices();
+    }
+    if wanted("scroll") {
+        scrolling::look_up();
+        scrolling::texts();
     }
     if wanted("derive") {
         derive::derive();

@@ -194,6 +194,13 @@ impl Record {
         self.value(entry).to_bit_string()
     }
 
+    /// Every change with its text, by wellen's own iterator, in the same way.
+    pub fn each_text_unguarded(&self, mut each: impl FnMut(u32, Option<String>)) {
+        for (index, value) in self.0.iter_changes() {
+            each(index, value.to_bit_string());
+        }
+    }
+
     /// The number of an entry in the same way.
     pub fn unsigned_unguarded(&self, entry: u32) -> Option<u64> {
         match self.value(entry) {

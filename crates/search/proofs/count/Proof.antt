@@ -6,8 +6,8 @@ use native.Mathlib.Omega.{arith}
 use borrow.Author.Needs.{needs}
 use lib.Dec.{leb}
 use lib.ListN.{length, getD, drop}
-use Rattle.search.specs.Halving.{notAbove}
-use Rattle.search.proofs.Halving.{not-above-step, not-above-end, one-at-most}
+use Rattle.search.specs.Quartering.{notAbove}
+use Rattle.search.proofs.Quartering.{not-above-step, not-above-end, one-at-most}
 use Rattle.search.proofs.count.Statement.{statement}
 use Rattle.search.proofs.count.Tie as tie
 

@@ -4,7 +4,7 @@ use mathlib.Core.Path.{_≡_}
 use Prim.Native.Nat.{_-_}
 use native.Mathlib.Omega.{arith}
 use lib.ListN.{length}
-use Rattle.search.proofs.Halving.{Sought, sought-first, sought-all, sought-more, sought-here}
+use Rattle.search.proofs.Quartering.{Sought, sought-first, sought-all, sought-more, sought-here}
 use Rattle.search.proofs.find_front.Statement.{statement}
 use Rattle.search.proofs.find_front.Tie as tie
 

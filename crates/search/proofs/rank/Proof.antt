@@ -8,8 +8,8 @@ use borrow.Author.Needs.{needs}
 use lib.ListN.{length, take, drop}
 use Rattle.value.specs.Slice.{part}
 use Rattle.value.proofs.Slices.{part-length, part-all}
-use Rattle.search.specs.Halving.{notAbove, rank}
-use Rattle.search.proofs.Halving.{rank-half, rank-short, rank-within}
+use Rattle.search.specs.Quartering.{notAbove, rank}
+use Rattle.search.proofs.Quartering.{rank-turn, rank-short, rank-within}
 use Rattle.search.proofs.rank.Statement.{statement}
 use Rattle.search.proofs.rank.Tie as tie
 
@@ -23,21 +23,22 @@ abbrev μ-loop : tie.MeasureT-loop
 loop-holds : tie.Need-loop-holds Inv-loop μ-loop
 loop-holds c = (omega arith, (rw (part-all (c .before .args .indices .now), zero-add)))
 
--- the half that the loop goes on with
-half : (c : tie.After-not-above Inv-loop μ-loop) →
-    let at-loop = c .before .before .before in
+-- what the loop goes on with
+turn : (c : tie.After-passed Inv-loop μ-loop) →
+    let at-loop = c .before .before in
     let a = at-loop .before .before .args in
-    let place = at-loop .loop .place + at-loop .loop .size / 2 * c .not-above .result in
-    let size = at-loop .loop .size - at-loop .loop .size / 2 in
+    let quarter = at-loop .loop .size / 4 in
+    let place = at-loop .loop .place + c .passed .result * quarter in
+    let size = at-loop .loop .size - 3 * quarter in
     (place + size ≤ length (a .indices .now))
     × (place + rank (a .needle) (part place size (a .indices .now)) ≡ at-loop .loop .place + rank (a .needle) (part (at-loop .loop .place) (at-loop .loop .size) (a .indices .now)))
-half c =
-    let at-loop = c .before .before .before in
+turn c =
+    let at-loop = c .before .before in
     let a = at-loop .before .before .args in
-    rank-half (a .needle) (a .indices .now) (at-loop .loop .place) (at-loop .loop .size) (c .before .before .loop-test .taken) (at-loop .loop .inv .0) _ (c .not-above .ensures)
+    rank-turn (a .needle) (a .indices .now) (at-loop .loop .place) (at-loop .loop .size) (c .before .loop-test .taken) (at-loop .loop .inv .0) _ (c .passed .ensures)
 
 loop-again : tie.Need-loop-again Inv-loop μ-loop
-loop-again c = (half c .0, half c .1 ∙ c .before .before .before .loop .inv .1)
+loop-again c = (turn c .0, turn c .1 ∙ c .before .before .loop .inv .1)
 
 -- what is left when the loop has ended
 left : (c : tie.After-count-arg Inv-loop μ-loop) →
@@ -86,13 +87,10 @@ rank-spec =
     Inv-loop
     μ-loop
     loop-holds
-    (λ c. omega (arith, c .before .loop .inv .0))
-    (λ c. omega (arith, c .before .loop .inv .0))
-    (λ c. omega (arith, c .before .loop .inv .0))
-    (λ c. omega (arith, c .before .before .loop .inv .0))
-    (λ c κs. search needs)
-    (λ c. omega (arith, half c .0))
-    (λ c. omega (arith, half c .0))
+    (λ c κs. (omega arith, omega (arith, c .before .loop .inv .0)))
+    (λ c. omega (arith, turn c .0))
+    (λ c. omega (arith, turn c .0))
+    (λ c. omega arith)
     (λ c. omega arith)
     (λ c. omega arith)
     loop-again

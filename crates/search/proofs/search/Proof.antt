@@ -5,10 +5,10 @@ use Prim.Native.Nat.{_≤_, _-_}
 use native.Mathlib.Omega.{arith}
 use borrow.Author.Needs.{needs}
 use lib.ListN.{length, getD, take}
-use lib.Seq.{length-take-le}
+use lib.Seq.{length-take-le, getD-take}
 use Rattle.fst.specs.Refusal.{given}
-use Rattle.search.specs.Halving.{runUpTo}
-use Rattle.search.proofs.Halving.{rank-within, start-within, search-long, search-given, run-none, run-at}
+use Rattle.search.specs.Quartering.{runUpTo}
+use Rattle.search.proofs.Quartering.{rank-within, start-within, search-long, search-given, run-none, run-at}
 use Rattle.search.proofs.search.Statement.{statement}
 use Rattle.search.proofs.search.Tie as tie
 
@@ -29,6 +29,15 @@ inside c =
 -- its list is as long
 ends : (c : tie.After-rank) → length (take (c .rank .result) (c .before .before .before .args .indices .now)) ≡ c .rank .result
 ends c = length-take-le (c .rank .result) (c .before .before .before .args .indices .now) (inside c)
+
+find-start-requires : tie.Need-find-start-requires
+find-start-requires c κs =
+    let at-rank = c .before .before .before in
+    let l = at-rank .before .before .before .args .indices .now in
+    let end = at-rank .rank .result in (
+      omega (arith, ends at-rank, inside at-rank, at-rank .before .if1 .left),
+      rw (ends at-rank) (getD-take end l (end - 1) 0 (omega arith)),
+    )
 
 starts : (c : tie.After-find-start) → c .find-start .result ≤ c .before .before .before .before .rank .result
 starts c =
@@ -55,7 +64,7 @@ search-spec =
     (λ c. omega (arith, inside (c .before)))
     (λ c. omega (arith, inside (c .before .before)))
     (λ c. sym (ends (c .before .before .before)))
-    (λ c κs. omega (arith, ends (c .before .before .before), inside (c .before .before .before), c .before .before .before .before .if1 .left))
+    find-start-requires
     starts
     (λ c. omega (arith, inside (c .before .before .before .before), c .before .before .before .before .before .if1 .left))
     (λ c κs. search needs)

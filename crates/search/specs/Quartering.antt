@@ -1,10 +1,12 @@
--- Search: Look up in a list that is known not to fall. Halving finds something in every list, and this is what.
+-- Search: Look up in a list that is known not to fall. Quartering, which is halving twice at once, finds something in every list, and this is
+-- what.
 -- Assumes nothing.
 use Prim.Native.Nat.{ℕ, zero, suc, _+_, _-_, _*_, _/_}
 use mathlib.Core.Bool.{cond}
 use mathlib.Core.List.{List, [], _∷_}
 use lib.Dec.{eqb, leb, ltb}
 use lib.ListN.{length, getD, take, drop}
+use Rattle.value.specs.Slice.{part}
 use Rattle.fst.specs.Refusal.{Reply, given, _⇐_, tried}
 use Rattle.fst.specs.Record.{maximum}
 use Rattle.offset.specs.Offset.{headOf, Place, none, at}
@@ -14,23 +16,32 @@ unfoldable pub notAbove : ℕ → List ℕ → ℕ
 notAbove s [] = 0
 notAbove s (i ∷ l) = cond (leb i s) (suc (notAbove s l)) (notAbove s l)
 
--- the same by at most n halvings: up to 16 indices are counted; of more, the half is passed whose last index is not above, and else as many
--- are left out at the end
-unfoldable pub halved : ℕ → ℕ → List ℕ → ℕ
-halved zero s l = notAbove s l
-halved (suc n) s l =
-    let half = length l / 2 in
-    cond (leb (length l) 16) (notAbove s l) (cond (leb (getD l (half - 1) 0) s) (half + halved n s (drop half l)) (halved n s (take (length l - half) l)))
+-- the last indices of three parts of one length, from a place on
+abbrev pub endsFrom : ℕ → ℕ → List ℕ → List ℕ
+endsFrom place n l = getD l (place + n - 1) 0 ∷ getD l (place + 2 * n - 1) 0 ∷ getD l (place + 3 * n - 1) 0 ∷ []
+
+-- of a list's first three quarters, each rounded down
+abbrev pub ends : List ℕ → List ℕ
+ends l = endsFrom 0 (length l / 4) l
+
+-- the same by at most n quarterings: up to 16 indices are counted; of more, as many quarters are passed as have an end that is not above, and
+-- so many indices are looked at as three quarters leave
+unfoldable pub quartered : ℕ → ℕ → List ℕ → ℕ
+quartered zero s l = notAbove s l
+quartered (suc n) s l =
+    let quarter = length l / 4 in
+    let passed = notAbove s (ends l) * quarter in
+    cond (leb (length l) 16) (notAbove s l) (passed + quartered n s (part passed (length l - 3 * quarter) l))
 
 -- by as many as it takes
 unfoldable pub rank : ℕ → List ℕ → ℕ
-rank s l = halved (length l) s l
+rank s l = quartered (length l) s l
 
--- where the last n indices begin, or 16 times as many, and so on k times: the first of these in front of which another index stands than i;
+-- where the last n indices begin, or 8 times as many, and so on k times: the first of these in front of which another index stands than i;
 -- else the list's first place
 unfoldable pub frontOf : ℕ → ℕ → ℕ → List ℕ → ℕ
 frontOf zero n i l = 0
-frontOf (suc k) n i l = cond (eqb (getD l (length l - (n + 1)) 0) i) (frontOf k (n * 16) i l) (length l - n)
+frontOf (suc k) n i l = cond (eqb (getD l (length l - (n + 1)) 0) i) (frontOf k (n * 8) i l) (length l - n)
 
 -- where the run of an index begins that a list ends in: behind the smaller ones, of which 0 has none
 unfoldable pub startOf : ℕ → List ℕ → ℕ
