@@ -1,4 +1,4 @@
--- Laws of what halving finds, whatever the list.
+-- Laws of what quartering finds, whatever the list.
 -- Assumes nothing.
 use mathlib.Core.Path.{_≡_, refl, sym, ap, _∙_}
 use mathlib.Core.Bool.{Bool, true, false, cond}

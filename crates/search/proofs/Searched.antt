@@ -1,4 +1,4 @@
--- Where no index falls, what halving finds is Look up's answer.
+-- Where no index falls, what quartering finds is Look up's answer.
 -- Assumes nothing.
 use mathlib.Core.Path.{_≡_, refl, sym, ap, _∙_}
 use mathlib.Core.Bool.{Bool, true, false, cond}

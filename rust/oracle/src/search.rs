@@ -1,4 +1,4 @@
-//! Search: what halving finds in any list, and Look up's reply where no index falls. No document has it.
+//! Search: what quartering finds in any list, and Look up's reply where no index falls. No document has it.
 
 use crate::{MAXIMUM, Offset, Refusal, refuse_if};
 
@@ -21,24 +21,25 @@ pub fn search(indices: &[u32], sought: u32) -> Result<Option<Offset>, Refusal> {
     }))
 }
 
-/// How many indices are not above the sought one, as halving finds it.
+/// How many indices are not above the sought one, as quartering finds it.
 fn rank(indices: &[u32], sought: u32) -> usize {
-    let half = indices.len() / 2;
+    let count = |list: &[u32]| list.iter().filter(|&&index| index <= sought).count();
     if indices.len() <= 16 {
-        indices.iter().filter(|&&index| index <= sought).count()
-    } else if indices[half - 1] <= sought {
-        half + rank(&indices[half..], sought)
-    } else {
-        rank(&indices[..indices.len() - half], sought)
+        return count(indices);
     }
+    let quarter = indices.len() / 4;
+    let ends = [1, 2, 3].map(|quarters| indices[quarters * quarter - 1]);
+    let passed = count(&ends) * quarter;
+    let left = indices.len() - 3 * quarter;
+    passed + rank(&indices[passed..][..left], sought)
 }
 
-/// Where the run of the last index begins: among the last 1, 16, 256 .. indices in front of which another one stands.
+/// Where the run of the last index begins: among the last 1, 8, 64 .. indices in front of which another one stands.
 fn start(indices: &[u32], last: u32) -> usize {
     let Some(below) = last.checked_sub(1) else {
         return 0;
     };
-    let fronts = (0..).map(|turns| indices.len().saturating_sub(16_usize.pow(turns)));
+    let fronts = (0..).map(|turns| indices.len().saturating_sub(8_usize.pow(turns)));
     let front = fronts
         .take_while(|&front| front > 0)
         .find(|&front| indices[front - 1] != last)

@@ -43,7 +43,7 @@ const LONG_LIST_EVERY: usize = 4_000;
 
 pub struct Generator {
     pub(crate) random: Random,
-    size: Size,
+    pub(crate) size: Size,
 }
 
 impl Generator {

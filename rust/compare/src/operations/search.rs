@@ -1,7 +1,7 @@
 //! Search.
 
 use super::look_up::{self, equation, put_offset, smaller_lists};
-use crate::generate::{Generator, Receiver};
+use crate::generate::{Generator, Receiver, Size};
 use crate::operation::{Operation, Outcome, Slices};
 use crate::stored::{Fields, Module, Reader};
 use oracle::{MAXIMUM, Offset, Refusal};
@@ -77,7 +77,7 @@ impl Operation for Search {
     }
 
     fn ask_aside(from: &mut Generator, to: &mut dyn Receiver) {
-        let indices = from.list_to_halve();
+        let indices = from.list_to_search();
         for _ in 0..3 {
             let near = indices.get(from.random.below(indices.len() + 1)).copied();
             let sought = from.near(near.unwrap_or(0));
@@ -89,16 +89,23 @@ impl Operation for Search {
     }
 }
 
-/// Lengths around which a list is counted, halved, or searched for its run in a further reach.
-const TURNS: &[usize] = &[0, 1, 2, 15, 16, 17, 18, 31, 32, 33, 34, 64, 65, 256, 257, 258];
+/// Lengths around which a list is counted or quartered, or searched for its run in a further reach.
+const TURNS: &[usize] = &[
+    0, 1, 2, 8, 9, 10, 15, 16, 17, 18, 19, 20, 64, 65, 66, 67, 68, 512, 513, 514,
+];
 
 impl Generator {
     /// A list with runs of one entry, of some or of very many; one in four has indices without order.
-    fn list_to_halve(&mut self) -> Vec<u32> {
+    fn list_to_search(&mut self) -> Vec<u32> {
         let length = match self.random.below(8) {
             0 => self.random.pick(TURNS),
-            1 => self.random.below(600),
+            1 => self.random.below(1_500),
             _ => self.random.below(70),
+        };
+        // The checker computes a stored list by the definitions, and takes long for a long one.
+        let length = match self.size {
+            Size::Small => length.min(68),
+            Size::Full => length,
         };
         let steps: &[u32] = self.random.pick(&[
             &[0, 1][..],

@@ -7,7 +7,7 @@ unsafe extern "C" {
     fn yoksimert_search(indices: *const u32, indices_len: usize, sought: u32) -> FlatOffset;
 }
 
-/// Search: Look up's answer where no index falls, by halving. Where one falls, some answer. Refused: 2.
+/// Search: Look up's answer where no index falls, by quartering. Where one falls, some answer. Refused: 2.
 #[inline]
 #[must_use]
 pub fn search(indices: &[u32], sought: u32) -> FlatOffset {
