@@ -24,8 +24,8 @@ endsFrom place n l = getD l (place + n - 1) 0 ∷ getD l (place + 2 * n - 1) 0 �
 abbrev pub ends : List ℕ → List ℕ
 ends l = endsFrom 0 (length l / 4) l
 
--- the same by at most n quarterings: up to 16 indices are counted; of more, as many quarters are passed as have an end that is not above, and
--- so many indices are looked at as three quarters leave
+-- how many are not above, by at most n quarterings: up to 16 indices are counted; of more, as many quarters are passed as have an end that is
+-- not above, and so many indices are looked at as three quarters leave
 unfoldable pub quartered : ℕ → ℕ → List ℕ → ℕ
 quartered zero s l = notAbove s l
 quartered (suc n) s l =
@@ -50,7 +50,7 @@ startOf (suc i) l =
     let front = frontOf (length l) 1 (suc i) l in
     front + rank i (drop front l)
 
--- the run behind which every index is above the sought one
+-- the answer of a rank: none, or the run that ends there
 unfoldable pub runUpTo : ℕ → List ℕ → ℕ → Place
 runUpTo s l zero = none
 runUpTo s l (suc last) =
