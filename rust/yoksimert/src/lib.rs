@@ -33,7 +33,23 @@ assert_eq!(low.get_entry(1)?.to_string(), "01");
 #![warn(missing_docs)]
 
 #[cfg(archive)]
+mod bits;
+#[cfg(archive)]
+mod change;
+#[cfg(archive)]
+mod changes;
+#[cfg(archive)]
+mod checked;
+#[cfg(archive)]
+mod convert;
+#[cfg(archive)]
 mod derived;
+#[cfg(archive)]
+mod encoding;
+#[cfg(archive)]
+mod look_up;
+#[cfg(archive)]
+mod memory;
 #[cfg(archive)]
 mod number;
 #[cfg(archive)]
@@ -49,15 +65,27 @@ mod value;
 mod writer;
 
 #[cfg(archive)]
+pub use bits::{Bit, Bits};
+#[cfg(archive)]
+pub use change::{Added, FstSignalValue};
+#[cfg(archive)]
+pub use changes::Changes;
+#[cfg(archive)]
+pub use checked::Unsound;
+#[cfg(archive)]
 pub use derived::{DerivedBitVecSignal, transform_signal};
+#[cfg(archive)]
+pub use encoding::FixedWidthEncoding;
+#[cfg(archive)]
+pub use look_up::DataOffset;
 #[cfg(archive)]
 pub use refusal::Refusal;
 #[cfg(archive)]
-pub use signal::{DataOffset, FixedWidthEncoding, Signal};
+pub use signal::Signal;
 #[cfg(archive)]
 pub use value::{BitVecRef, SignalValueRef, States};
 #[cfg(archive)]
-pub use writer::{FstSignalValue, SignalWriter};
+pub use writer::{NotResumed, SignalWriter};
 
 /// A place in the list of times.
 pub type TimeTableIdx = u32;

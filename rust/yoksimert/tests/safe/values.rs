@@ -1,5 +1,6 @@
 //! Values: levels as numbers, reals, events, and which of them are equal.
 
+use crate::records;
 use yoksimert::{FixedWidthEncoding, Signal, SignalValueRef, SignalWriter, States};
 
 fn of_levels(levels: &str) -> Signal {
@@ -19,7 +20,7 @@ fn with<T>(levels: &str, take: impl FnOnce(SignalValueRef) -> T) -> T {
 /// A record of one entry, whatever its bytes are.
 fn stored(width: u32, max_states: States, bytes: &[u8]) -> Signal {
     let encoding = FixedWidthEncoding::BitVector { max_states, width };
-    Signal::new_fixed_len(vec![0], encoding, bytes.to_vec())
+    records::stored(vec![0], encoding, bytes.to_vec())
 }
 
 #[test]
