@@ -118,17 +118,8 @@ impl<'a> BitVecRef<'a> {
     #[must_use]
     #[inline]
     pub fn get_bit(&self, bit: u32) -> Option<Bit> {
-        if bit >= self.width {
-            return None;
-        }
-        let (digit, mask) = match self.states {
-            States::Two => (1, 0x1),
-            States::Four => (2, 0x3),
-            States::Nine => (4, 0xf),
-        };
-        let at = bit * digit;
-        let byte = self.data.iter().nth_back(at as usize / 8)?;
-        Bit::new(byte >> (at % 8) & mask)
+        let (states, bytes) = self.read();
+        picked(states, bytes, bit).filter(|_| bit < self.width())
     }
 
     /// The levels from the last of the string, bit 0, to the first.
@@ -136,14 +127,16 @@ impl<'a> BitVecRef<'a> {
     /// # Errors
     /// [`Refusal::BadCode`], which no record of a [`SignalWriter`](crate::SignalWriter) gives.
     pub fn iter_lsb_to_msb(&self) -> Result<Bits<'a>, Refusal> {
+        let (states, bytes) = self.read();
         // Sets Two and Four have a level for each code that their bits can hold.
-        if self.states == States::Nine {
+        if states == States::Nine {
             let entry = self.as_record();
             accepted(raw::compare(entry, entry).number)?;
         }
         Ok(Bits {
-            levels: *self,
-            bits: 0..self.width,
+            states,
+            bytes,
+            bits: 0..self.width(),
         })
     }
 
@@ -156,11 +149,25 @@ impl<'a> BitVecRef<'a> {
     }
 }
 
+/// A level of a set, by its number from the end of the bytes; none if they end before it or the code is no level's.
+#[inline]
+fn picked(states: States, bytes: &[u8], bit: u32) -> Option<Bit> {
+    let (digit, mask) = match states {
+        States::Two => (1, 0x1),
+        States::Four => (2, 0x3),
+        States::Nine => (4, 0xf),
+    };
+    let place = bit as usize * digit;
+    let byte = bytes.iter().nth_back(place / 8)?;
+    Bit::new(byte >> (place % 8) & mask)
+}
+
 /// The levels of an entry from bit 0 on; [`BitVecRef::iter_lsb_to_msb`] gives them.
-#[derive(Clone, Debug)]
+#[derive(Clone)]
 pub struct Bits<'a> {
-    /// Every code is a level's.
-    levels: BitVecRef<'a>,
+    states: States,
+    /// Every code in them is a level's.
+    bytes: &'a [u8],
     bits: Range<u32>,
 }
 
@@ -169,7 +176,7 @@ impl Iterator for Bits<'_> {
 
     #[inline]
     fn next(&mut self) -> Option<Bit> {
-        self.levels.get_bit(self.bits.next()?)
+        picked(self.states, self.bytes, self.bits.next()?)
     }
 
     #[inline]
@@ -179,22 +186,29 @@ impl Iterator for Bits<'_> {
 
     #[inline]
     fn nth(&mut self, n: usize) -> Option<Bit> {
-        self.levels.get_bit(self.bits.nth(n)?)
+        picked(self.states, self.bytes, self.bits.nth(n)?)
     }
 }
 
 impl DoubleEndedIterator for Bits<'_> {
     #[inline]
     fn next_back(&mut self) -> Option<Bit> {
-        self.levels.get_bit(self.bits.next_back()?)
+        picked(self.states, self.bytes, self.bits.next_back()?)
     }
 
     #[inline]
     fn nth_back(&mut self, n: usize) -> Option<Bit> {
-        self.levels.get_bit(self.bits.nth_back(n)?)
+        picked(self.states, self.bytes, self.bits.nth_back(n)?)
     }
 }
 
 impl ExactSizeIterator for Bits<'_> {}
 
 impl FusedIterator for Bits<'_> {}
+
+/// The levels that are left.
+impl Debug for Bits<'_> {
+    fn fmt(&self, f: &mut Formatter<'_>) -> fmt::Result {
+        f.debug_list().entries(self.clone()).finish()
+    }
+}

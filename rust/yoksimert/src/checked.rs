@@ -154,7 +154,7 @@ impl Signal {
     /// Looks at what isn't known yet.
     pub(crate) fn check(&mut self) -> Result<(), Unsound> {
         match self.known {
-            Known::Sound => {}
+            Known::Made | Known::Sound => {}
             Known::Rises => {
                 // Compare tests the mark and the codes of every entry that has a partner.
                 if let Err(refusal) = self.compare(self) {

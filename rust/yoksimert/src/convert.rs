@@ -86,7 +86,7 @@ impl TryFrom<SignalValueRef<'_>> for f64 {
 /// As [`Display`](std::fmt::Display).
 impl From<SignalValueRef<'_>> for String {
     fn from(value: SignalValueRef<'_>) -> Self {
-        value.to_string()
+        value.to_bit_string().unwrap_or_else(|| value.to_string())
     }
 }
 

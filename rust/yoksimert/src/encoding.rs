@@ -6,6 +6,9 @@ use crate::raw::FlatDescription;
 /// The most wires of a bit vector.
 pub(crate) const MAX_WIDTH: u32 = 4_096;
 
+/// The kind of a bit vector in a description.
+pub(crate) const BIT_VECTOR: u32 = 2;
+
 /// What the entries of a record are.
 #[derive(Clone, Copy, PartialEq, Eq, Hash, Debug)]
 pub enum FixedWidthEncoding {
@@ -61,7 +64,9 @@ impl FixedWidthEncoding {
         let (kind, width, set) = match self {
             Self::Event => (0, 0, 0),
             Self::Real => (1, 0, 0),
-            Self::BitVector { max_states, width } => (2, width, u32::from(max_states.mark())),
+            Self::BitVector { max_states, width } => {
+                (BIT_VECTOR, width, u32::from(max_states.mark()))
+            }
         };
         FlatDescription::new(kind, width, set, count)
     }

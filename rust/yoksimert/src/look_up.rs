@@ -31,7 +31,7 @@ impl Signal {
         let indices = self.time_indices();
         let answer = match self.known {
             Known::Falls => raw::look_up(indices, time_idx),
-            Known::Rises | Known::Sound => search(indices, time_idx),
+            _ => search(indices, time_idx),
         };
         accepted(answer.number)?;
         Ok(answer)

@@ -1,5 +1,6 @@
 //! Records and what is read of them, after wellen's src/signal/mod.rs.
 
+use crate::encoding::BIT_VECTOR;
 use crate::raw::{self, FlatDescription, FlatRecord};
 use crate::refusal::accepted;
 use crate::value::{BitVecRef, SignalValueRef, States};
@@ -37,15 +38,17 @@ pub struct Signal {
     pub(crate) known: Known,
 }
 
-/// What is known of a record whose lengths are right.
-#[derive(Clone, Copy, PartialEq, Eq, Debug)]
+/// What is known of a record whose lengths are right; each includes what stands above it, but for the first.
+#[derive(Clone, Copy, PartialEq, Eq, PartialOrd, Ord, Debug)]
 pub(crate) enum Known {
     /// A time index is below the one before it.
     Falls,
-    /// No time index falls; marks and codes were not looked at.
+    /// No time index falls.
     Rises,
-    /// No time index falls, and every entry can be read.
+    /// Every entry has a text. It may have spare bits too, which are a mark once the set is raised.
     Sound,
+    /// The archive laid out every entry.
+    Made,
 }
 
 impl Signal {
@@ -87,7 +90,7 @@ impl Signal {
             description,
             bytes: Vec::new(),
             time_indices: Vec::new(),
-            known: Known::Sound,
+            known: Known::Made,
         }
     }
 
@@ -188,25 +191,26 @@ impl Signal {
     /// [`Refusal::NoSuchEntry`]. [`Refusal::BadMark`] for a record that no writer made.
     #[inline]
     pub fn get_entry(&self, entry: usize) -> Result<SignalValueRef<'_>, Refusal> {
-        let entry = entry_number(entry);
+        let (entry, FlatDescription { kind, count, .. }) = (entry_number(entry), self.description);
+        let levels = SignalValueRef::BitVec(BitVecRef {
+            signal: self,
+            entry,
+        });
+        // Read refuses no entry of a sound record. Its answer is asked for when it is looked at.
+        if kind == BIT_VECTOR && self.known >= Known::Sound && entry < count {
+            return Ok(levels);
+        }
         let answer = raw::read(self.description, &self.bytes, 0, entry);
         accepted(answer.number)?;
-        let data = self.bytes.get(answer.start..).unwrap_or_default();
-        let data = data.get(..answer.length).ok_or(Refusal::UnknownAnswer)?;
-        Ok(match self.encoding() {
-            FixedWidthEncoding::Event => SignalValueRef::Event,
+        match self.encoding() {
+            FixedWidthEncoding::Event => Ok(SignalValueRef::Event),
             FixedWidthEncoding::Real => {
-                let real = data.try_into().map_err(|_| Refusal::UnknownAnswer)?;
-                SignalValueRef::Real(f64::from_le_bytes(real))
+                let part = self.bytes.get(answer.start..).unwrap_or_default();
+                let real = part.first_chunk().ok_or(Refusal::UnknownAnswer)?;
+                Ok(SignalValueRef::Real(f64::from_le_bytes(*real)))
             }
-            FixedWidthEncoding::BitVector { width, .. } => SignalValueRef::BitVec(BitVecRef {
-                signal: self,
-                entry,
-                width,
-                states: States::of_number(answer.set),
-                data,
-            }),
-        })
+            FixedWidthEncoding::BitVector { .. } => Ok(levels),
+        }
     }
 
     fn record(&self) -> FlatRecord<'_> {

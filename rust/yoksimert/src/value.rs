@@ -156,36 +156,50 @@ impl Display for SignalValueRef<'_> {
 #[derive(Clone, Copy)]
 pub struct BitVecRef<'a> {
     pub(crate) signal: &'a Signal,
+    /// Of an entry that Read accepts.
     pub(crate) entry: u32,
-    pub(crate) width: u32,
-    pub(crate) states: States,
-    pub(crate) data: &'a [u8],
 }
 
 impl<'a> BitVecRef<'a> {
     /// The number of levels.
     #[must_use]
+    #[inline]
     pub fn width(&self) -> u32 {
-        self.width
+        self.signal.description.width
     }
 
     /// The entry's own set.
     #[must_use]
+    #[inline]
     pub fn states(&self) -> States {
-        self.states
+        self.read().0
     }
 
     /// That part of the record's bytes which holds the levels. A mark that shares its first byte is included.
     #[must_use]
+    #[inline]
     pub fn bytes(&self) -> &'a [u8] {
-        self.data
+        self.read().1
+    }
+
+    /// The own set, and the part that holds the levels.
+    #[inline]
+    pub(crate) fn read(&self) -> (States, &'a [u8]) {
+        let Signal {
+            description, bytes, ..
+        } = self.signal;
+        let answer = raw::read(*description, bytes, 0, self.entry);
+        let part = bytes.get(answer.start..).unwrap_or_default();
+        let part = part.get(..answer.length).unwrap_or_default();
+        (States::of_number(answer.set), part)
     }
 
     /// The levels as a big-endian number, if the own set is Two. The bytes are the record's own: above the first level they may have
     /// bits that no [`SignalWriter`](crate::SignalWriter) stores, and that [`bit_string`](Self::bit_string) and `u64` leave out.
     #[must_use]
     pub fn be_bytes(&self) -> Option<&'a [u8]> {
-        (self.states == States::Two).then_some(self.data)
+        let (states, bytes) = self.read();
+        (states == States::Two).then_some(bytes)
     }
 
     /// One small letter or digit for each level.
@@ -193,7 +207,7 @@ impl<'a> BitVecRef<'a> {
     /// # Errors
     /// [`Refusal::BadCode`], which no record of a [`SignalWriter`](crate::SignalWriter) gives.
     pub fn bit_string(&self) -> Result<String, Refusal> {
-        let mut text = vec![0; self.width as usize];
+        let mut text = vec![0; self.width() as usize];
         self.write_bit_string(&mut text)?;
         String::from_utf8(text).map_err(|_| Refusal::UnknownAnswer)
     }
@@ -226,12 +240,11 @@ impl<'a> BitVecRef<'a> {
         }
     }
 
-    /// Shows the characters that `out` has room for.
+    /// Shows the characters, which `out` has room for; `?` for each where they are refused.
     fn show(&self, f: &mut Formatter<'_>, out: &mut [u8]) -> fmt::Result {
-        let width = self.width as usize;
+        let width = self.width() as usize;
         let written = self.write_bit_string(out).ok();
-        let text = written.and_then(|()| str::from_utf8(out.get(..width)?).ok());
-        match text {
+        match written.and_then(|()| str::from_utf8(out.get(..width)?).ok()) {
             Some(text) => f.pad(text),
             None => f.pad(&"?".repeat(width)),
         }
@@ -249,7 +262,7 @@ impl PartialEq for BitVecRef<'_> {
 /// The characters; `?` for each where [`BitVecRef::bit_string`] is refused.
 impl Display for BitVecRef<'_> {
     fn fmt(&self, f: &mut Formatter<'_>) -> fmt::Result {
-        match self.width {
+        match self.width() {
             ..=64 => self.show(f, &mut [0; 64]),
             _ => self.show(f, &mut [0; MAX_WIDTH as usize]),
         }
@@ -258,6 +271,6 @@ impl Display for BitVecRef<'_> {
 
 impl Debug for BitVecRef<'_> {
     fn fmt(&self, f: &mut Formatter<'_>) -> fmt::Result {
-        write!(f, "BitVecRef({self}, {:?})", self.states)
+        write!(f, "BitVecRef({self}, {:?})", self.states())
     }
 }

@@ -2,6 +2,7 @@
 
 use crate::memory::{doubled_length, lengthen};
 use crate::refusal::accepted;
+use crate::signal::Known;
 use crate::{
     Added, FixedWidthEncoding, FstSignalValue, MAXIMUM, Refusal, Signal, SignalValueRef, States,
     TimeTableIdx, Unsound, raw,
@@ -90,7 +91,8 @@ impl SignalWriter {
     }
 
     /// Goes on with a record, in its own vectors. If a writer made it, what follows is as if that writer had gone on; to any other sound
-    /// record changes are added in the same way.
+    /// record changes are added in the same way. Bits that such a record has beside its levels stay, and where a change raises the set
+    /// they may become bad marks.
     ///
     /// # Errors
     /// A record that [`Signal::checked`] would refuse is given back with what is wrong. What a writer, [`transform_signal`] or
@@ -98,10 +100,14 @@ impl SignalWriter {
     ///
     /// [`transform_signal`]: crate::transform_signal
     pub fn resume(mut signal: Signal) -> Result<Self, NotResumed> {
-        match signal.check() {
-            Ok(()) => Ok(Self { signal }),
-            Err(fault) => Err(NotResumed { fault, signal }),
+        if let Err(fault) = signal.check() {
+            return Err(NotResumed { fault, signal });
         }
+        if signal.known != Known::Made {
+            // A raise may turn spare bits into marks.
+            signal.known = Known::Rises;
+        }
+        Ok(Self { signal })
     }
 
     /// Makes room for so many changes more, in entries of the largest set so far. Without it, or where a change raises the set, the room
@@ -166,7 +172,7 @@ impl SignalWriter {
     /// The value of an entry, by its number from 0.
     ///
     /// # Errors
-    /// [`Refusal::NoSuchEntry`].
+    /// As [`Signal::get_entry`].
     pub fn get_entry(&self, entry: usize) -> Result<SignalValueRef<'_>, Refusal> {
         self.signal.get_entry(entry)
     }
@@ -174,7 +180,7 @@ impl SignalWriter {
     /// The last change kept, if there is one.
     ///
     /// # Errors
-    /// None; as [`Signal::last_change`] of a sound record.
+    /// As [`Signal::last_change`].
     pub fn last_change(&self) -> Result<Option<(TimeTableIdx, SignalValueRef<'_>)>, Refusal> {
         self.signal.last_change()
     }
