@@ -1,6 +1,7 @@
 //! The safe types: document 01's rows, growth to the maximum, and generated calls beside the oracle.
 #![cfg(archive)]
 
+mod bits;
 mod derived;
 mod flat;
 mod growth;
@@ -8,7 +9,10 @@ mod judged;
 mod numbers;
 mod random;
 mod records;
+mod resumed;
 mod rows;
 mod runs;
+mod scroll;
+mod stored;
 mod values;
 mod writer;
