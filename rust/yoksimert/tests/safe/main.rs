@@ -5,6 +5,7 @@ mod bits;
 mod derived;
 mod flat;
 mod growth;
+mod hostile;
 mod judged;
 mod numbers;
 mod random;
