@@ -95,6 +95,7 @@ impl<'a> SignalValueRef<'a> {
 
     /// The levels, unless it is a real or an event.
     #[must_use]
+    #[inline]
     pub fn as_bit_vec(&self) -> Option<BitVecRef<'a>> {
         match self {
             Self::BitVec(levels) => Some(*levels),
@@ -120,6 +121,7 @@ impl<'a> SignalValueRef<'a> {
 
     /// One character for each level; none for a real or an event, or where [`BitVecRef::bit_string`] is refused.
     #[must_use]
+    #[inline]
     pub fn to_bit_string(&self) -> Option<String> {
         self.as_bit_vec()?.bit_string().ok()
     }
@@ -206,6 +208,7 @@ impl<'a> BitVecRef<'a> {
     ///
     /// # Errors
     /// [`Refusal::BadCode`], which no record of a [`SignalWriter`](crate::SignalWriter) gives.
+    #[inline]
     pub fn bit_string(&self) -> Result<String, Refusal> {
         let mut text = vec![0; self.width() as usize];
         self.write_bit_string(&mut text)?;
