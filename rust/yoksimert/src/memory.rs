@@ -2,16 +2,17 @@
 
 use crate::Refusal;
 
-/// Zeros up to this length, which isn't below the vector's. On a refusal the vector is as it was.
+/// Zeros up to this length, unless the vector is as long already. On a refusal it is as it was.
 pub(crate) fn lengthen<T: Clone + Default>(
     elements: &mut Vec<T>,
     length: usize,
 ) -> Result<(), Refusal> {
-    // `resize` alone may keep more than is asked for, and aborts where memory is short.
-    let more = length.saturating_sub(elements.len());
-    let room = elements.try_reserve_exact(more);
-    room.map_err(|_| Refusal::OutOfMemory)?;
-    elements.resize(length, T::default());
+    if let Some(more) = length.checked_sub(elements.len()) {
+        // `resize` alone may keep more than is asked for, and aborts where memory is short.
+        let room = elements.try_reserve_exact(more);
+        room.map_err(|_| Refusal::OutOfMemory)?;
+        elements.resize(length, T::default());
+    }
     Ok(())
 }
 
@@ -51,6 +52,8 @@ mod tests {
         let lengths = [64, 128, 256, 512, 1_000, 1_000];
         assert_eq!(lengths.map(|_| grown(1_000)), lengths.map(|at| (at, at)));
         assert_eq!(grown(3_000), (2_000, 2_000));
+        assert_eq!(lengthen(&mut elements, 7), Ok(()));
+        assert_eq!(elements.len(), 2_000);
     }
 
     #[test]

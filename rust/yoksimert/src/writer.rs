@@ -120,14 +120,9 @@ impl SignalWriter {
         if count > MAXIMUM {
             return Err(Refusal::NoRoom);
         }
-        let bytes = count * self.signal.entry_size();
-        let Signal {
-            bytes: entries,
-            time_indices,
-            ..
-        } = &mut self.signal;
-        lengthen(time_indices, count.max(time_indices.len()))?;
-        lengthen(entries, bytes.max(entries.len()))
+        let size = self.signal.entry_size();
+        lengthen(&mut self.signal.time_indices, count)?;
+        lengthen(&mut self.signal.bytes, count * size)
     }
 
     /// The record so far, for whatever a [`Signal`] can be asked.
