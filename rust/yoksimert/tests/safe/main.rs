@@ -1,6 +1,7 @@
 //! The safe types: document 01's rows, growth to the maximum, and generated calls beside the oracle.
 #![cfg(archive)]
 
+mod anything;
 mod bits;
 mod derived;
 mod flat;

@@ -178,147 +178,96 @@ fn vectors_are_taken_as_by_the_oracle() {
 
 #[test]
 fn faults_are_told() {
-    let checked = |indices: &[u32], encoding, bytes: &[u8]| {
-        let fault = Signal::checked(indices.to_vec(), encoding, bytes.to_vec()).err();
-        fault.map(|fault| (fault, fault.to_string(), Refusal::from(fault)))
-    };
-    let nine = levels(States::Nine, 1);
-    let told = |fault: Unsound, text: &str| Some((fault, text.to_string(), fault.refusal()));
-    assert_eq!(
-        checked(&[0], levels(States::Two, 4_097), &[]),
-        told(Unsound::Width(4_097), "a width of 4097 is not 1 to 4,096")
-    );
+    let (nine, event) = (levels(States::Nine, 1), FixedWidthEncoding::Event);
+    let wide = levels(States::Two, 4_097);
     let short = Unsound::Length {
         entries: 2,
         expected: 2,
         found: 1,
     };
-    assert_eq!(
-        checked(&[0, 1], nine, &[0]),
-        told(short, "2 entries take 2 bytes, and 1 are there")
+    let (falls, mark, code) = (
+        Unsound::IndexFalls(3),
+        Unsound::BadMark(1),
+        Unsound::BadCode(2),
     );
-    assert_eq!(
-        checked(&[0, 1, 1, 0, 2, 1], nine, &[0x99; 6]),
-        told(
-            Unsound::IndexFalls(3),
-            "entry 3: the time index is below the one before it"
-        )
-    );
-    assert_eq!(
-        checked(&[0, 1, 2], nine, &[0, 0xc0, 0x89]),
-        told(
-            Unsound::BadMark(1),
-            "entry 1: the mark is no set's, or above the largest set"
-        )
-    );
-    assert_eq!(
-        checked(&[0, 1, 2], nine, &[0, 0x88, 0x89]),
-        told(Unsound::BadCode(2), "entry 2: a code is no level's")
-    );
-    let many = vec![0; MAXIMUM + 1];
-    assert_eq!(
-        checked(&many, FixedWidthEncoding::Event, &[]),
-        told(
-            Unsound::TooMany(MAXIMUM + 1),
-            "1048577 time indices are more than 1,048,576"
-        )
-    );
-    assert_eq!(checked(&[7; 3], FixedWidthEncoding::Event, &[]), None);
+    let (many, most) = (vec![0; MAXIMUM + 1], Unsound::TooMany(MAXIMUM + 1));
+    let rows: [(&[u32], _, &[u8], _, _); 6] = [
+        (
+            &[0],
+            wide,
+            &[],
+            Unsound::Width(4_097),
+            "a width of 4097 is ",
+        ),
+        (&many, event, &[], most, "1048577 time indices are more "),
+        (&[0, 1], nine, &[0], short, "2 entries take 2 bytes, and 1 "),
+        (
+            &[0, 1, 1, 0, 2, 1],
+            nine,
+            &[0x99; 6],
+            falls,
+            "entry 3: the time ",
+        ),
+        (
+            &[0, 1, 2],
+            nine,
+            &[0, 0xc0, 0x89],
+            mark,
+            "entry 1: the mark ",
+        ),
+        (&[0, 1, 2], nine, &[0, 0x88, 0x89], code, "entry 2: a code "),
+    ];
+    for (indices, encoding, bytes, fault, told) in rows {
+        let refused = Signal::checked(indices.to_vec(), encoding, bytes.to_vec());
+        assert_eq!(refused.err(), Some(fault));
+        assert!(fault.to_string().starts_with(told), "{fault}");
+        assert_eq!(Refusal::from(fault), fault.refusal());
+    }
+    assert!(Signal::checked(vec![7; 3], event, vec![]).is_ok());
 }
 
-/// A record and one like it: whether they are equal, and whether they are the same.
+/// A record of these bytes, at 0, 1, 2 and on.
+fn of_bytes(encoding: FixedWidthEncoding, bytes: &[u8]) -> Signal {
+    let size = encoding.bytes_per_entry().expect("the width stands");
+    let indices = (0..bytes.len() as u32 / size as u32).collect();
+    records::stored(indices, encoding, bytes.to_vec())
+}
+
+/// Whether two records are equal, and whether they are the same.
+fn alike(a: (FixedWidthEncoding, &[u8]), b: (FixedWidthEncoding, &[u8])) -> (bool, bool) {
+    let (a, b) = (of_bytes(a.0, a.1), of_bytes(b.0, b.1));
+    let answers = (a == b, a.same_record(&b));
+    assert_eq!((b == a, b.same_record(&a)), answers);
+    answers
+}
+
 #[test]
-fn equal_records_need_not_be_the_same() {
-    let stored = |encoding, bytes: &[u8]| {
-        let size = FixedWidthEncoding::bytes_per_entry(encoding).expect("the width stands");
-        let indices = (0..bytes.len() as u32 / size as u32).collect();
-        records::stored(indices, encoding, bytes.to_vec())
-    };
-    let (two, four, nine) = (
-        |width| levels(States::Two, width),
-        |width| levels(States::Four, width),
-        |width| levels(States::Nine, width),
-    );
-    let real = FixedWidthEncoding::Real;
-    let (nan, zero) = (f64::NAN.to_le_bytes(), 0f64.to_le_bytes());
-    for (what, a, b, equal, same) in [
-        (
-            "itself",
-            (two(9), &[1, 5][..]),
-            (two(9), &[1, 5][..]),
-            true,
-            true,
-        ),
-        ("a spare bit", (two(1), &[1]), (two(1), &[3]), true, false),
-        (
-            "a spare byte",
-            (nine(4), &[0, 0, 5]),
-            (nine(4), &[0, 9, 5]),
-            true,
-            false,
-        ),
-        (
-            "another largest set",
-            (four(3), &[0x61]),
-            (nine(3), &[0x40, 0x21]),
-            true,
-            false,
-        ),
-        (
-            "the same bytes under it",
-            (two(1), &[1]),
-            (four(1), &[1]),
-            true,
-            false,
-        ),
-        (
-            "another own set",
-            (four(1), &[0x01]),
-            (four(1), &[0x41]),
-            true,
-            false,
-        ),
-        (
-            "another width",
-            (two(1), &[1]),
-            (two(2), &[1]),
-            false,
-            false,
-        ),
-        ("NaN", (real, &nan), (real, &nan), false, true),
-        (
-            "the other zero",
-            (real, &zero),
-            (real, &(-0f64).to_le_bytes()),
-            true,
-            false,
-        ),
-        (
-            "none of another kind",
-            (two(1), &[]),
-            (real, &[]),
-            true,
-            false,
-        ),
-        (
-            "a bad code",
-            (nine(1), &[0x89]),
-            (nine(1), &[0x89]),
-            false,
-            true,
-        ),
-        (
-            "a bad mark",
-            (nine(1), &[0xc0]),
-            (nine(1), &[0xc0]),
-            false,
-            true,
-        ),
-    ] {
-        let (a, b) = (stored(a.0, a.1), stored(b.0, b.1));
-        assert_eq!((a == b, a.same_record(&b)), (equal, same), "{what}");
-        assert_eq!((b == a, b.same_record(&a)), (equal, same), "{what}");
-    }
+fn equal_levels_need_not_be_the_same_record() {
+    let two = |width| levels(States::Two, width);
+    let four = |width| levels(States::Four, width);
+    let nine = |width| levels(States::Nine, width);
+    let (both, equal, neither) = ((true, true), (true, false), (false, false));
+    assert_eq!(alike((two(9), &[1, 5]), (two(9), &[1, 5])), both);
+    assert_eq!(alike((two(1), &[1]), (two(1), &[3])), equal, "a spare bit");
+    let spare = alike((nine(4), &[0, 0, 5]), (nine(4), &[0, 9, 5]));
+    assert_eq!(spare, equal, "a spare byte");
+    let larger = alike((four(3), &[0x61]), (nine(3), &[0x40, 0x21]));
+    assert_eq!(larger, equal, "another largest set");
+    assert_eq!(alike((two(1), &[1]), (four(1), &[1])), equal, "equal bytes");
+    let own = alike((four(1), &[0x01]), (four(1), &[0x41]));
+    assert_eq!(own, equal, "another own set");
+    assert_eq!(alike((two(1), &[1]), (two(2), &[1])), neither, "widths");
+}
+
+#[test]
+fn the_same_record_need_not_be_equal() {
+    let (nine, real) = (levels(States::Nine, 1), FixedWidthEncoding::Real);
+    let (nan, zero, minus) = (f64::NAN.to_le_bytes(), [0; 8], (-0f64).to_le_bytes());
+    assert_eq!(alike((real, &nan), (real, &nan)), (false, true));
+    assert_eq!(alike((real, &zero), (real, &minus)), (true, false));
+    assert_eq!(alike((nine, &[0x89]), (nine, &[0x89])), (false, true));
+    assert_eq!(alike((nine, &[0xc0]), (nine, &[0xc0])), (false, true));
+    assert_eq!(alike((nine, &[]), (real, &[])), (true, false), "empty ones");
     let at = |index| records::stored(vec![index], FixedWidthEncoding::Event, vec![]);
     assert!(at(3).same_record(&at(3)) && !at(3).same_record(&at(4)));
 }
