@@ -4,6 +4,7 @@
 use crate::random::Random;
 use oracle::{Change, Description, Encoding, Form, Record};
 use std::collections::BTreeSet;
+use yoksimert::MAXIMUM;
 use yoksimert::raw::{self, FlatDescription, FlatRecord};
 
 pub const ROUNDS: u32 = 60_000;
@@ -276,5 +277,42 @@ fn lists_are_looked_up_or_refused() {
         assert_eq!(answer.found, found.is_some());
         assert_eq!(answer.start, found.map_or(0, |found| found.start));
         assert_eq!(answer.elements, found.map_or(0, |found| found.elements));
+    }
+}
+
+#[test]
+fn longer_lists_are_refused() {
+    let indices = vec![1; MAXIMUM + 1];
+    assert_eq!(raw::look_up(&indices[1..], 1).elements, MAXIMUM as u32);
+    assert_eq!(raw::look_up(&indices, 1).number, 2);
+    let events = |count| FlatRecord {
+        description: FlatDescription::new(0, 0, 0, count),
+        bytes: &[],
+        byte_start: 0,
+        indices: &indices,
+        index_start: 0,
+    };
+    let (longest, longer) = (events(MAXIMUM as u32), events(MAXIMUM as u32 + 1));
+    assert_eq!(raw::compare(longest, longest).number, 0);
+    assert_eq!(raw::compare(longest, longer).number, 2);
+    assert_eq!(raw::read(longest.description, &[], 0, 7).number, 0);
+    assert_eq!(raw::read(longer.description, &[], 0, 7).number, 2);
+}
+
+/// Whatever a recorder was, it is fresh or as it was.
+#[test]
+fn any_recorder_is_made_fresh() {
+    let mut random = Random::new(77);
+    for _ in 0..ROUNDS {
+        let (was, width) = (description(&mut random), number(&mut random, 5_000));
+        let mut recorder = was;
+        let answer = raw::recorder_fresh(&mut recorder, width);
+        let made = raw::fresh(width);
+        assert_eq!(answer, if width > 4_096 { 1 } else { 0 });
+        assert_eq!(made.number, answer);
+        let left = if answer == 0 { made.description } else { was };
+        assert_eq!(recorder, left);
+        assert_eq!(raw::recorder_fresh_real(&mut recorder), 0);
+        assert_eq!(recorder, raw::fresh_real());
     }
 }
