@@ -1,10 +1,9 @@
 //! Bit vectors put together from wires of others, after wellen's src/signal/transform.rs.
 
+use crate::memory::{doubled_length, room_for, zeros};
 use crate::raw::{self, FlatDerivation, FlatInput, FlatInputs, FlatJoined, FlatMade};
 use crate::refusal::accepted;
-use crate::signal::{FixedWidthEncoding, Signal, cut, entry_bound};
-use crate::writer::doubled_length;
-use crate::{MAXIMUM, Refusal, SignalWriter};
+use crate::{FixedWidthEncoding, MAXIMUM, Refusal, Signal, States};
 use std::iter::zip;
 
 const MAX_INPUTS: usize = 8;
@@ -126,17 +125,22 @@ impl DerivedBitVecSignal {
     /// The names of the signals, in the order in which [`transform_signal`] takes their records.
     #[must_use]
     pub fn inputs(&self) -> &[u32] {
-        &self.names[..self.derivation.input_count as usize]
+        let count = self.derivation.input_count as usize;
+        self.names.get(..count).unwrap_or_default()
     }
 
     /// The pieces from the most significant on: the signal's name, msb and lsb.
     pub fn pieces(&self) -> impl Iterator<Item = (u32, u32, u32)> {
-        let used = &self.pieces[..self.derivation.piece_count as usize];
-        used.iter().map(|packed| {
+        let used = self
+            .pieces
+            .iter()
+            .take(self.derivation.piece_count as usize);
+        used.map(|packed| {
             let (input, width) = (packed >> 48, (packed >> 32) as u16);
             let lsb = *packed as u32;
-            let msb = lsb + u32::from(width) - 1;
-            (self.names[input as usize], msb, lsb)
+            let msb = lsb.saturating_add(u32::from(width).saturating_sub(1));
+            let name = self.names.get(input as usize);
+            (name.copied().unwrap_or_default(), msb, lsb)
         })
     }
 }
@@ -145,9 +149,9 @@ impl DerivedBitVecSignal {
 /// the records of [`DerivedBitVecSignal::inputs`], in that order. A step that shows the levels and the set of the one before is dropped.
 ///
 /// # Errors
-/// Each is tried over all inputs before the next: [`Refusal::BadRecord`]; [`Refusal::BadDerivation`] if there is not one record for each
-/// input, or one is no bit vector or narrower than a piece; [`Refusal::LateInput`], [`Refusal::IndexFalls`], [`Refusal::BadMark`];
-/// [`Refusal::BadCode`] at a picked level; [`Refusal::NoRoom`] for more than 1,048,576 changes.
+/// Each is tried over all inputs before the next: [`Refusal::BadDerivation`] if there is not one record for each input, or one is no bit
+/// vector or narrower than a piece; [`Refusal::LateInput`], [`Refusal::IndexFalls`], [`Refusal::BadMark`]; [`Refusal::BadCode`] at a
+/// picked level; [`Refusal::NoRoom`] for more than 1,048,576 changes. [`Refusal::OutOfMemory`].
 ///
 /// ```
 /// use yoksimert::{DerivedBitVecSignal, Refusal, SignalWriter, transform_signal};
@@ -195,8 +199,8 @@ fn derive(
         names,
         pieces,
     } = transform;
-    let entry = entry_bound(derivation.width);
-    let (mut bytes, mut indices) = (vec![0; room * entry], vec![0; room]);
+    let entry = shared.derived_size(derivation.width);
+    let (mut bytes, mut time_indices) = (zeros(room * entry)?, zeros(room)?);
     let FlatMade {
         number,
         description,
@@ -208,10 +212,15 @@ fn derive(
         &shared.bytes,
         &shared.indices,
         &mut bytes,
-        &mut indices,
+        &mut time_indices,
     );
     accepted(number)?;
-    Ok(cut(description, bytes, indices))
+    let derived = Signal {
+        bytes,
+        time_indices,
+        ..Signal::empty(description)
+    };
+    Ok(derived.cut())
 }
 
 /// Records one behind the other in one byte slice and one index list, as Derive takes them.
@@ -223,44 +232,44 @@ struct Shared {
 
 impl Shared {
     fn new(signals: &[&Signal]) -> Result<Self, Refusal> {
-        // A record that reaches past its own bytes would reach into the next one's, so this is tried before they are joined.
-        let nothing = SignalWriter::new_event().finish();
-        for signal in signals {
-            signal.compare(&nothing)?;
-        }
         if signals.len() > MAX_INPUTS {
             return Err(Refusal::BadDerivation);
         }
+        let nothing = FixedWidthEncoding::Event.description(0);
         let mut shared = Self {
             inputs: FlatInputs {
                 count: signals.len() as u32,
                 inputs: [FlatInput {
-                    description: nothing.description(),
+                    description: nothing,
                     byte_start: 0,
                     index_start: 0,
                 }; MAX_INPUTS],
             },
-            bytes: Vec::new(),
-            indices: Vec::new(),
+            bytes: room_for(signals.iter().map(|signal| signal.bytes().len()).sum())?,
+            indices: room_for(signals.iter().map(|signal| signal.len()).sum())?,
         };
-        for (signal, at) in zip(signals, 0..) {
-            shared.push(at, signal);
+        for (input, signal) in zip(&mut shared.inputs.inputs, signals) {
+            *input = FlatInput {
+                description: signal.description,
+                byte_start: shared.bytes.len(),
+                index_start: shared.indices.len(),
+            };
+            shared.bytes.extend_from_slice(signal.bytes());
+            shared.indices.extend_from_slice(signal.time_indices());
         }
         Ok(shared)
-    }
-
-    fn push(&mut self, at: usize, signal: &Signal) {
-        self.inputs.inputs[at] = FlatInput {
-            description: signal.description(),
-            byte_start: self.bytes.len(),
-            index_start: self.indices.len(),
-        };
-        self.bytes.extend_from_slice(signal.bytes());
-        self.indices.extend_from_slice(signal.time_indices());
     }
 
     fn longest(&self) -> usize {
         let counts = self.inputs.inputs.iter().map(|i| i.description.count);
         counts.max().unwrap_or(0) as usize
+    }
+
+    /// The bytes of a derived entry of this width: its largest set is the largest of the inputs'.
+    fn derived_size(&self, width: u32) -> usize {
+        let sets = self.inputs.inputs.iter().map(|i| i.description.set);
+        let max_states = States::of_number(sets.max().unwrap_or(0));
+        let derived = FixedWidthEncoding::BitVector { max_states, width };
+        derived.bytes_per_entry().unwrap_or_default()
     }
 }

@@ -34,7 +34,15 @@
 #[cfg(not(any(archive, doc)))]
 compile_error!(env!("YOKSIMERT_STOP"));
 
+mod bits;
+mod change;
+mod changes;
+mod checked;
+mod convert;
 mod derived;
+mod encoding;
+mod look_up;
+mod memory;
 mod number;
 #[allow(unsafe_code, reason = "the calls through C's interface")]
 pub mod raw;
@@ -43,11 +51,17 @@ mod signal;
 mod value;
 mod writer;
 
+pub use bits::{Bit, Bits};
+pub use change::{Added, FstSignalValue};
+pub use changes::Changes;
+pub use checked::Unsound;
 pub use derived::{DerivedBitVecSignal, transform_signal};
+pub use encoding::FixedWidthEncoding;
+pub use look_up::DataOffset;
 pub use refusal::Refusal;
-pub use signal::{DataOffset, FixedWidthEncoding, Signal};
+pub use signal::Signal;
 pub use value::{BitVecRef, SignalValueRef, States};
-pub use writer::{FstSignalValue, SignalWriter};
+pub use writer::{NotResumed, SignalWriter};
 
 /// A place in the list of times.
 pub type TimeTableIdx = u32;

@@ -28,7 +28,7 @@ impl Signal {
     /// for a record that no writer made.
     #[inline]
     pub fn get_unsigned(&self, entry: usize) -> Result<u64, Refusal> {
-        let answer = raw::unsigned(self.description(), &self.bytes, 0, entry_number(entry));
+        let answer = raw::unsigned(self.description, &self.bytes, 0, entry_number(entry));
         accepted(answer.number)?;
         Ok(answer.value)
     }
@@ -52,7 +52,7 @@ impl Signal {
     /// As [`Signal::get_unsigned`].
     #[inline]
     pub fn get_signed(&self, entry: usize) -> Result<i64, Refusal> {
-        let answer = raw::signed(self.description(), &self.bytes, 0, entry_number(entry));
+        let answer = raw::signed(self.description, &self.bytes, 0, entry_number(entry));
         accepted(answer.number)?;
         Ok(answer.value)
     }
@@ -78,7 +78,7 @@ impl Signal {
     /// a digit above 9.
     #[inline]
     pub fn get_decimal(&self, entry: usize) -> Result<u64, Refusal> {
-        let answer = raw::decimal(self.description(), &self.bytes, 0, entry_number(entry));
+        let answer = raw::decimal(self.description, &self.bytes, 0, entry_number(entry));
         accepted(answer.number)?;
         Ok(answer.value)
     }

@@ -1,7 +1,9 @@
 //! What an entry holds, after wellen's src/signal/value.rs.
 
+use crate::encoding::MAX_WIDTH;
+use crate::raw::{self, FlatDescription, FlatRecord};
 use crate::refusal::accepted;
-use crate::{Refusal, Signal, raw};
+use crate::{Refusal, Signal};
 use std::fmt::{self, Debug, Display, Formatter};
 
 /// How many values a level may have.
@@ -23,13 +25,37 @@ impl States {
         self as u8
     }
 
+    /// The bits of a level.
+    #[inline]
+    pub(crate) fn bits(self) -> usize {
+        1 << self.mark()
+    }
+
     /// The archive gives no number above 2.
+    #[inline]
     pub(crate) fn of_number(number: u32) -> Self {
         match number {
             0 => Self::Two,
             1 => Self::Four,
             _ => Self::Nine,
         }
+    }
+}
+
+/// The set of a mark.
+///
+/// ```
+/// use yoksimert::{Refusal, States};
+///
+/// assert_eq!(States::try_from(2), Ok(States::Nine));
+/// assert_eq!(States::try_from(3), Err(Refusal::BadMark));
+/// ```
+impl TryFrom<u8> for States {
+    type Error = Refusal;
+
+    fn try_from(mark: u8) -> Result<Self, Refusal> {
+        let sets = [Self::Two, Self::Four, Self::Nine];
+        sets.get(usize::from(mark)).copied().ok_or(Refusal::BadMark)
     }
 }
 
@@ -75,6 +101,7 @@ impl<'a> SignalValueRef<'a> {
 
     /// The levels, unless it is a real or an event.
     #[must_use]
+    #[inline]
     pub fn as_bit_vec(&self) -> Option<BitVecRef<'a>> {
         match self {
             Self::BitVec(levels) => Some(*levels),
@@ -100,6 +127,7 @@ impl<'a> SignalValueRef<'a> {
 
     /// One character for each level; none for a real or an event, or where [`BitVecRef::bit_string`] is refused.
     #[must_use]
+    #[inline]
     pub fn to_bit_string(&self) -> Option<String> {
         self.as_bit_vec()?.bit_string().ok()
     }
@@ -136,46 +164,61 @@ impl Display for SignalValueRef<'_> {
 #[derive(Clone, Copy)]
 pub struct BitVecRef<'a> {
     pub(crate) signal: &'a Signal,
+    /// Of an entry that Read accepts.
     pub(crate) entry: u32,
-    pub(crate) width: u32,
-    pub(crate) states: States,
-    pub(crate) data: &'a [u8],
 }
 
 impl<'a> BitVecRef<'a> {
     /// The number of levels.
     #[must_use]
+    #[inline]
     pub fn width(&self) -> u32 {
-        self.width
+        self.signal.description.width
     }
 
     /// The entry's own set.
     #[must_use]
+    #[inline]
     pub fn states(&self) -> States {
-        self.states
+        self.read().0
     }
 
     /// That part of the record's bytes which holds the levels. A mark that shares its first byte is included.
     #[must_use]
+    #[inline]
     pub fn bytes(&self) -> &'a [u8] {
-        self.data
+        self.read().1
+    }
+
+    /// The own set, and the part that holds the levels.
+    #[inline]
+    pub(crate) fn read(&self) -> (States, &'a [u8]) {
+        let Signal {
+            description, bytes, ..
+        } = self.signal;
+        let answer = raw::read(*description, bytes, 0, self.entry);
+        let part = bytes.get(answer.start..).unwrap_or_default();
+        let part = part.get(..answer.length).unwrap_or_default();
+        (States::of_number(answer.set), part)
     }
 
     /// The levels as a big-endian number, if the own set is Two. The bytes are the record's own: above the first level they may have
     /// bits that no [`SignalWriter`](crate::SignalWriter) stores, and that [`bit_string`](Self::bit_string) and `u64` leave out.
     #[must_use]
     pub fn be_bytes(&self) -> Option<&'a [u8]> {
-        (self.states == States::Two).then_some(self.data)
+        let (states, bytes) = self.read();
+        (states == States::Two).then_some(bytes)
     }
 
     /// One small letter or digit for each level.
     ///
     /// # Errors
     /// [`Refusal::BadCode`], which no record of a [`SignalWriter`](crate::SignalWriter) gives.
+    #[inline]
     pub fn bit_string(&self) -> Result<String, Refusal> {
-        let mut text = vec![0; self.width as usize];
+        let mut text = vec![0; self.width() as usize];
         self.write_bit_string(&mut text)?;
-        Ok(text.into_iter().map(char::from).collect())
+        String::from_utf8(text).map_err(|_| Refusal::UnknownAnswer)
     }
 
     /// Writes the characters into the first bytes of `out`, and leaves the rest as it is.
@@ -183,147 +226,81 @@ impl<'a> BitVecRef<'a> {
     /// # Errors
     /// [`Refusal::BadCode`], which no record of a [`SignalWriter`](crate::SignalWriter) gives; [`Refusal::NoRoom`] if `out` is shorter
     /// than the width.
+    #[inline]
     pub fn write_bit_string(&self, out: &mut [u8]) -> Result<(), Refusal> {
-        let Signal { bytes, .. } = self.signal;
-        accepted(raw::text(
-            self.signal.description(),
-            bytes,
-            0,
-            self.entry,
-            out,
-        ))
+        let Signal {
+            description, bytes, ..
+        } = self.signal;
+        accepted(raw::text(*description, bytes, 0, self.entry, out))
+    }
+
+    #[inline]
+    pub(crate) fn new(signal: &'a Signal, entry: u32) -> Self {
+        Self { signal, entry }
+    }
+
+    /// Whether a bit is set in front of the levels that isn't the mark's.
+    pub(crate) fn has_spare_bits(&self) -> bool {
+        let (signal, (states, _)) = (self.signal, self.read());
+        let (size, entry) = (signal.entry_size(), self.entry as usize);
+        let bytes = signal.bytes.get(entry * size..(entry + 1) * size);
+        let front = (size * 8).saturating_sub(self.width() as usize * states.bits());
+        let marked = signal.max_states() != Some(States::Two);
+        let mut bytes = bytes.unwrap_or_default().iter().enumerate();
+        bytes.any(|(at, byte)| {
+            let in_front = front.saturating_sub(at * 8).min(8);
+            let levels = 0xff_u8.checked_shr(in_front as u32).unwrap_or(0);
+            let mark = if marked && at == 0 { 0xc0 } else { 0 };
+            byte & !(levels | mark) != 0
+        })
+    }
+
+    /// The entry as a record of its own, at time index 0.
+    pub(crate) fn as_record(&self) -> FlatRecord<'a> {
+        let signal = self.signal;
+        FlatRecord {
+            description: FlatDescription {
+                count: 1,
+                ..signal.description
+            },
+            bytes: &signal.bytes,
+            byte_start: self.entry as usize * signal.entry_size(),
+            indices: &[0],
+            index_start: 0,
+        }
+    }
+
+    /// Shows the characters, which `out` has room for; `?` for each where they are refused.
+    fn show(&self, f: &mut Formatter<'_>, out: &mut [u8]) -> fmt::Result {
+        let width = self.width() as usize;
+        let written = self.write_bit_string(out).ok();
+        match written.and_then(|()| str::from_utf8(out.get(..width)?).ok()) {
+            Some(text) => f.pad(text),
+            None => f.pad(&"?".repeat(width)),
+        }
     }
 }
 
-/// Equal texts are of equal widths. Where [`BitVecRef::bit_string`] is refused, a value differs from itself.
+/// Equal levels are of equal widths, whatever the sets. Where [`BitVecRef::bit_string`] is refused, a value differs from itself.
 impl PartialEq for BitVecRef<'_> {
     fn eq(&self, other: &Self) -> bool {
-        matches!((self.bit_string(), other.bit_string()), (Ok(a), Ok(b)) if a == b)
-    }
-}
-
-/// As [`BitVecRef::unsigned`]: an error if there are more than 64 levels, or others than `0` and `1`.
-impl TryFrom<BitVecRef<'_>> for u64 {
-    type Error = ();
-
-    #[inline]
-    fn try_from(value: BitVecRef<'_>) -> Result<Self, ()> {
-        value.unsigned().map_err(|_| ())
-    }
-}
-
-/// As [`BitVecRef::signed`]: an error if there are more than 64 levels, or others than `0` and `1`.
-impl TryFrom<BitVecRef<'_>> for i64 {
-    type Error = ();
-
-    #[inline]
-    fn try_from(value: BitVecRef<'_>) -> Result<Self, ()> {
-        value.signed().map_err(|_| ())
-    }
-}
-
-/// An error for an event, for a real that is no whole number of 64 bits, and where the levels are no number.
-impl TryFrom<SignalValueRef<'_>> for u64 {
-    type Error = ();
-
-    fn try_from(value: SignalValueRef<'_>) -> Result<Self, ()> {
-        match value {
-            SignalValueRef::Event => Err(()),
-            SignalValueRef::BitVec(levels) => levels.try_into(),
-            SignalValueRef::Real(real) => {
-                let number = u64::try_from(real as u128).map_err(|_| ())?;
-                if number as f64 == real {
-                    Ok(number)
-                } else {
-                    Err(())
-                }
-            }
-        }
-    }
-}
-
-/// An error for an event, for a real that is no whole number of 64 bits with a sign, and where the levels are no number.
-impl TryFrom<SignalValueRef<'_>> for i64 {
-    type Error = ();
-
-    fn try_from(value: SignalValueRef<'_>) -> Result<Self, ()> {
-        match value {
-            SignalValueRef::Event => Err(()),
-            SignalValueRef::BitVec(levels) => levels.try_into(),
-            SignalValueRef::Real(real) => {
-                let number = i64::try_from(real as i128).map_err(|_| ())?;
-                if number as f64 == real {
-                    Ok(number)
-                } else {
-                    Err(())
-                }
-            }
-        }
-    }
-}
-
-/// An error for an event, and where the levels are no number or one that no double is.
-impl TryFrom<SignalValueRef<'_>> for f64 {
-    type Error = ();
-
-    fn try_from(value: SignalValueRef<'_>) -> Result<Self, ()> {
-        match value {
-            SignalValueRef::Event => Err(()),
-            SignalValueRef::BitVec(levels) => {
-                let number = u64::try_from(levels)?;
-                let real = number as f64;
-                if real as u128 == u128::from(number) {
-                    Ok(real)
-                } else {
-                    Err(())
-                }
-            }
-            SignalValueRef::Real(real) => Ok(real),
-        }
-    }
-}
-
-/// As [`Display`].
-impl From<SignalValueRef<'_>> for String {
-    fn from(value: SignalValueRef<'_>) -> Self {
-        value.to_string()
-    }
-}
-
-/// Whether a single level is `1`; an error if it is neither that nor `0`, or there are others.
-impl TryFrom<BitVecRef<'_>> for bool {
-    type Error = ();
-
-    fn try_from(value: BitVecRef<'_>) -> Result<Self, ()> {
-        match value.bit_string().as_deref() {
-            Ok("0") => Ok(false),
-            Ok("1") => Ok(true),
-            _ => Err(()),
-        }
-    }
-}
-
-/// An error for a real or an event, and where the levels are not a single `0` or `1`.
-impl TryFrom<SignalValueRef<'_>> for bool {
-    type Error = ();
-
-    fn try_from(value: SignalValueRef<'_>) -> Result<Self, ()> {
-        value.as_bit_vec().ok_or(())?.try_into()
+        let answer = raw::compare(self.as_record(), other.as_record());
+        answer.number == 0 && answer.equal
     }
 }
 
 /// The characters; `?` for each where [`BitVecRef::bit_string`] is refused.
 impl Display for BitVecRef<'_> {
     fn fmt(&self, f: &mut Formatter<'_>) -> fmt::Result {
-        match self.bit_string() {
-            Ok(text) => f.pad(&text),
-            Err(_) => f.pad(&"?".repeat(self.width as usize)),
+        match self.width() {
+            ..=64 => self.show(f, &mut [0; 64]),
+            _ => self.show(f, &mut [0; MAX_WIDTH as usize]),
         }
     }
 }
 
 impl Debug for BitVecRef<'_> {
     fn fmt(&self, f: &mut Formatter<'_>) -> fmt::Result {
-        write!(f, "BitVecRef({self}, {:?})", self.states)
+        write!(f, "BitVecRef({self}, {:?})", self.states())
     }
 }

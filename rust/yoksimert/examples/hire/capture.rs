@@ -1,6 +1,6 @@
 //! A capture, read line by line into one record for each signal.
 
-use yoksimert::{Refusal, Signal, SignalWriter};
+use yoksimert::{Added, Refusal, Signal, SignalWriter};
 
 /// A signal's name and its record.
 pub struct Lead {
@@ -70,7 +70,7 @@ impl Reader {
         index: &str,
         name: &str,
         levels: &str,
-    ) -> Result<Result<(), Refusal>, String> {
+    ) -> Result<Result<Added, Refusal>, String> {
         let index = index.parse().map_err(|_| "not a time index")?;
         let lead = self.writers.iter_mut().find(|lead| lead.0 == name);
         let (_, _, writer) = lead.ok_or("not a signal")?;

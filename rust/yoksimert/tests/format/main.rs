@@ -51,7 +51,9 @@ fn replay_of(table: &Table) -> Option<Box<dyn Replay>> {
         "record, entry, form, number, value" => Box::new(reading::Counting),
         "first, second, answer" => Box::new(reading::Comparing),
         "indices, sought, answer, start, entries, equal, next" => Box::new(reading::LOOK_UP),
-        "searched indices, sought, answer, start, entries, equal, next" => Box::new(reading::SEARCH),
+        "searched indices, sought, answer, start, entries, equal, next" => {
+            Box::new(reading::SEARCH)
+        }
         "call, number, width, names, pieces, packed" => Box::new(derivations::Pieces::new()),
         "inputs, pieces, lent, number, largest set, indices, bytes" => {
             Box::new(derivations::Deriving)

@@ -1,7 +1,8 @@
 //! The vectors grow to the maximum and no further.
 
+use crate::records;
 use yoksimert::{
-    FixedWidthEncoding, MAXIMUM, Refusal, Signal, SignalValueRef, SignalWriter, States,
+    Added, FixedWidthEncoding, MAXIMUM, Refusal, Signal, SignalValueRef, SignalWriter, States,
 };
 
 #[test]
@@ -9,13 +10,13 @@ fn a_record_grows_to_the_maximum() {
     let mut writer = SignalWriter::new(2).expect("the width stands");
     for time_idx in 0..MAXIMUM as u32 - 1 {
         let string = ["01", "10"][time_idx as usize % 2];
-        assert_eq!(writer.add_change(time_idx, string), Ok(()));
+        assert_eq!(writer.add_change(time_idx, string), Ok(Added::Kept));
     }
     // The raise lays out every entry anew, in twice the bytes.
-    assert_eq!(writer.add_change(u32::MAX, "u-"), Ok(()));
+    assert_eq!(writer.add_change(u32::MAX, "u-"), Ok(Added::Kept));
     assert_eq!(writer.len(), MAXIMUM);
     assert_eq!(writer.add_change(u32::MAX, "00"), Err(Refusal::NoRoom));
-    assert_eq!(writer.add_change(u32::MAX, "U-"), Ok(()), "a repeat");
+    assert_eq!(writer.add_change(u32::MAX, "U-"), Ok(Added::Dropped));
 
     let signal = writer.finish();
     assert_eq!(signal.max_states(), Some(States::Nine));
@@ -29,7 +30,7 @@ fn a_record_grows_to_the_maximum() {
 fn events_grow_to_the_maximum() {
     let mut writer = SignalWriter::new_event();
     for _ in 0..MAXIMUM {
-        assert_eq!(writer.add_change(3, ""), Ok(()));
+        assert_eq!(writer.add_change(3, ""), Ok(Added::Kept));
     }
     assert_eq!(writer.add_change(3, "1"), Err(Refusal::NoRoom));
     let signal = writer.finish();
@@ -56,7 +57,7 @@ fn every_change_at_an_index_is_counted() {
             } else {
                 "z"
             };
-            assert_eq!(writer.add_change(3, level), Ok(()));
+            assert_eq!(writer.add_change(3, level), Ok(Added::Kept));
         }
         let signal = writer.finish();
         let offset = signal.get_offset(3).expect("no index falls");
@@ -80,7 +81,7 @@ fn every_change_at_an_index_is_counted() {
 fn an_offset_of_a_longer_record_ends_with_the_record() {
     let events = |count| {
         let time_indices = vec![3; count];
-        Signal::new_fixed_len(time_indices, FixedWidthEncoding::Event, vec![])
+        records::stored(time_indices, FixedWidthEncoding::Event, vec![])
     };
     let offset = events(70_000).get_offset(3).expect("no index falls");
     let offset = offset.expect("there are events");
@@ -93,7 +94,8 @@ fn an_offset_of_a_longer_record_ends_with_the_record() {
 fn reals_grow_to_the_maximum() {
     let mut writer = SignalWriter::new_real();
     for number in 0..MAXIMUM as u32 {
-        assert_eq!(writer.add_change(number, f64::from(number)), Ok(()));
+        let answer = writer.add_change(number, f64::from(number));
+        assert_eq!(answer, Ok(Added::Kept));
     }
     assert_eq!(writer.add_change(u32::MAX, 0.5), Err(Refusal::NoRoom));
     assert_eq!(writer.finish().bytes().len(), 8 * MAXIMUM);
@@ -110,7 +112,7 @@ fn no_width_lacks_room() {
                 let level = levels.as_bytes()[at];
                 let mut string = vec![level; width as usize];
                 string[0] = levels.as_bytes()[at.saturating_sub(time_idx as usize % 2)];
-                assert_eq!(writer.add_change(time_idx, &string[..]), Ok(()));
+                assert!(writer.add_change(time_idx, &string[..]).is_ok());
             }
             let signal = writer.finish();
             let last = levels[levels.len() - 1..].repeat(width as usize - 1);
@@ -137,11 +139,8 @@ fn a_longer_list_is_no_record() {
         let time_indices = vec![1; length];
         Signal::new_fixed_len(time_indices, FixedWidthEncoding::Event, vec![])
     };
-    let (longest, longer) = (signal(MAXIMUM), signal(MAXIMUM + 1));
+    let longest = signal(MAXIMUM).expect("it has the maximum");
     assert_eq!(longest.get_entry(7), Ok(SignalValueRef::Event));
     assert_eq!(longest.compare(&longest), Ok(true));
-    assert_eq!(longer.get_offset(1), Err(Refusal::BadRecord));
-    assert_eq!(longer.value_at(1), Err(Refusal::BadRecord));
-    assert_eq!(longer.get_entry(7), Err(Refusal::BadRecord));
-    assert_eq!(longest.compare(&longer), Err(Refusal::BadRecord));
+    assert_eq!(signal(MAXIMUM + 1).err(), Some(Refusal::BadRecord));
 }

@@ -1,15 +1,16 @@
 //! The rows and edges of document 01, each beside what it prints.
 
+use crate::records;
 use yoksimert::{
-    DerivedBitVecSignal, FixedWidthEncoding, Refusal, Signal, SignalValueRef, SignalWriter, States,
-    transform_signal,
+    Added, DerivedBitVecSignal, FixedWidthEncoding, Refusal, Signal, SignalValueRef, SignalWriter,
+    States, transform_signal,
 };
 
 /// The record of these strings, at 0, 1, 2 and on.
 fn recorded(width: u32, strings: &[&str]) -> Signal {
     let mut writer = SignalWriter::new(width).expect("the width stands");
     for (string, time_idx) in strings.iter().zip(0..) {
-        assert_eq!(writer.add_change(time_idx, *string), Ok(()), "{string}");
+        assert!(writer.add_change(time_idx, *string).is_ok(), "{string}");
     }
     writer.finish()
 }
@@ -44,8 +45,12 @@ fn row_2_keeps_one_change() {
 #[test]
 fn row_8_judges_by_the_last_index_kept() {
     let mut writer = SignalWriter::new(1).expect("the width stands");
-    for (time_idx, string) in [(5, "0"), (10, "0"), (7, "1")] {
-        assert_eq!(writer.add_change(time_idx, string), Ok(()));
+    for (time_idx, string, added) in [
+        (5, "0", Added::Kept),
+        (10, "0", Added::Dropped),
+        (7, "1", Added::Kept),
+    ] {
+        assert_eq!(writer.add_change(time_idx, string), Ok(added));
     }
     assert_eq!(writer.add_change(6, "0"), Err(Refusal::IndexBelowLast));
     let signal = writer.finish();
@@ -54,7 +59,7 @@ fn row_8_judges_by_the_last_index_kept() {
 }
 
 fn events(time_indices: &[u32]) -> Signal {
-    Signal::new_fixed_len(time_indices.to_vec(), FixedWidthEncoding::Event, vec![])
+    records::stored(time_indices.to_vec(), FixedWidthEncoding::Event, vec![])
 }
 
 #[test]
@@ -77,7 +82,7 @@ fn rows_9_to_11_are_looked_up_so() {
 fn row_12_keeps_equal_levels_of_another_set() {
     let mut writer = SignalWriter::new(2).expect("the width stands");
     for (time_idx, string) in [(0, "x1"), (4, "01")] {
-        assert_eq!(writer.add_change(time_idx, string), Ok(()));
+        assert_eq!(writer.add_change(time_idx, string), Ok(Added::Kept));
     }
     let slice = DerivedBitVecSignal::new_slice(1, 0, 0).expect("the range stands");
     let derived = transform_signal(&slice, &[&writer.finish()]).expect("the record stands");
@@ -95,9 +100,9 @@ fn widths_end_at_4096() {
 #[test]
 fn both_zeros_are_kept() {
     let mut writer = SignalWriter::new_real();
-    assert_eq!(writer.add_change(0, 0.0), Ok(()));
-    assert_eq!(writer.add_change(1, -0.0), Ok(()));
-    assert_eq!(writer.add_change(2, -0.0), Ok(()));
+    assert_eq!(writer.add_change(0, 0.0), Ok(Added::Kept));
+    assert_eq!(writer.add_change(1, -0.0), Ok(Added::Kept));
+    assert_eq!(writer.add_change(2, -0.0), Ok(Added::Dropped));
     assert_eq!(writer.finish().time_indices(), [0, 1]);
 }
 
@@ -108,7 +113,7 @@ fn equal_levels_are_equal_under_other_largest_sets() {
         max_states: States::Nine,
         width: 3,
     };
-    let nine = Signal::new_fixed_len(vec![0], encoding, vec![0x40, 0x21]);
+    let nine = records::stored(vec![0], encoding, vec![0x40, 0x21]);
     assert_eq!(four.compare(&nine), Ok(true));
     assert_eq!(four, nine);
     assert_ne!(four, recorded(3, &["x00"]));

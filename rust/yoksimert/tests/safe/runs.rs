@@ -4,7 +4,7 @@ use crate::judged;
 use crate::random::Random;
 use oracle::{Change, Description};
 use std::collections::BTreeSet;
-use yoksimert::{FstSignalValue, SignalWriter};
+use yoksimert::{Added, FstSignalValue, SignalWriter};
 
 const RUNS: u32 = 4_000;
 const LONGEST: u32 = 40;
@@ -51,10 +51,14 @@ impl Judge {
         }
     }
 
-    fn add(&mut self, index: u32, change: &Change) -> Result<(), oracle::Refusal> {
-        let (bytes, indices) = (&mut self.bytes, &mut self.indices);
+    fn add(&mut self, index: u32, change: &Change) -> Result<Added, oracle::Refusal> {
+        let (bytes, indices, before) = (&mut self.bytes, &mut self.indices, self.next.count);
         self.next = oracle::add_change(self.next, bytes, 0, indices, 0, index, change)?;
-        Ok(())
+        Ok(if self.next.count == before {
+            Added::Dropped
+        } else {
+            Added::Kept
+        })
     }
 }
 

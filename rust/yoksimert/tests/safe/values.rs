@@ -1,5 +1,7 @@
 //! Values: levels as numbers, reals, events, and which of them are equal.
 
+use crate::random::Random;
+use crate::records;
 use yoksimert::{FixedWidthEncoding, Signal, SignalValueRef, SignalWriter, States};
 
 fn of_levels(levels: &str) -> Signal {
@@ -19,7 +21,7 @@ fn with<T>(levels: &str, take: impl FnOnce(SignalValueRef) -> T) -> T {
 /// A record of one entry, whatever its bytes are.
 fn stored(width: u32, max_states: States, bytes: &[u8]) -> Signal {
     let encoding = FixedWidthEncoding::BitVector { max_states, width };
-    Signal::new_fixed_len(vec![0], encoding, bytes.to_vec())
+    records::stored(vec![0], encoding, bytes.to_vec())
 }
 
 #[test]
@@ -115,6 +117,30 @@ fn values_are_equal_by_kind_and_levels() {
     let narrow = stored(2, States::Four, &[0x42]);
     let raised = stored(2, States::Nine, &[0x40, 0x02]);
     assert_eq!(value(&narrow), value(&raised));
+}
+
+/// Every entry beside every other, of two records at a time.
+#[test]
+fn values_are_equal_by_their_texts() {
+    let mut random = Random::new(81);
+    let mut equals = 0;
+    for _ in 0..20_000 {
+        let [a, b] = [0; 2].map(|_| records::signal(&mut random));
+        for (a, b) in [(&a, &a), (&a, &b)] {
+            for (_, x) in a.iter_changes().flatten() {
+                for (_, y) in b.iter_changes().flatten() {
+                    let (Some(x), Some(y)) = (x.as_bit_vec(), y.as_bit_vec()) else {
+                        continue;
+                    };
+                    let texts = (x.bit_string(), y.bit_string());
+                    let equal = matches!(&texts, (Ok(x), Ok(y)) if x == y);
+                    assert_eq!(x == y, equal, "{texts:?}");
+                    equals += u32::from(equal);
+                }
+            }
+        }
+    }
+    assert!(equals > 20_000, "{equals}");
 }
 
 #[test]

@@ -1,6 +1,7 @@
 //! What a writer says of itself, and the values that it takes.
 
-use yoksimert::{FixedWidthEncoding, FstSignalValue, Refusal, Signal, SignalWriter, States};
+use crate::records;
+use yoksimert::{Added, FixedWidthEncoding, FstSignalValue, Refusal, SignalWriter, States};
 
 fn bits(max_states: States, width: u32) -> FixedWidthEncoding {
     FixedWidthEncoding::BitVector { max_states, width }
@@ -18,7 +19,12 @@ fn a_writer_tells_its_length_and_encoding() {
         ("01h", 3, States::Nine),
         ("000", 4, States::Nine),
     ] {
-        assert_eq!(writer.add_change(7, string), Ok(()));
+        let added = if writer.len() == length {
+            Added::Dropped
+        } else {
+            Added::Kept
+        };
+        assert_eq!(writer.add_change(7, string), Ok(added));
         assert_eq!((writer.len(), writer.is_empty()), (length, false));
         assert_eq!(writer.encoding(), bits(states, 3));
     }
@@ -43,9 +49,9 @@ fn a_writer_tells_its_length_and_encoding() {
 #[test]
 fn events_and_reals_have_no_sets() {
     let mut event = SignalWriter::new_event();
-    assert_eq!(event.add_change(1, "1"), Ok(()));
+    assert_eq!(event.add_change(1, "1"), Ok(Added::Kept));
     let mut real = SignalWriter::new_real();
-    assert_eq!(real.add_change(1, 1.0), Ok(()));
+    assert_eq!(real.add_change(1, 1.0), Ok(Added::Kept));
     for signal in [event.finish(), real.finish()] {
         assert_eq!(signal.max_states(), None);
         let told = format!("{signal:?}");
@@ -56,7 +62,7 @@ fn events_and_reals_have_no_sets() {
 #[test]
 fn the_first_time_index_is_told() {
     let signal = |time_indices: &[u32]| {
-        Signal::new_fixed_len(time_indices.to_vec(), FixedWidthEncoding::Event, vec![])
+        records::stored(time_indices.to_vec(), FixedWidthEncoding::Event, vec![])
     };
     assert_eq!(signal(&[3, 5, 9]).get_first_time_idx(), Some(3));
     assert_eq!(signal(&[]).get_first_time_idx(), None);
@@ -67,17 +73,18 @@ fn the_first_time_index_is_told() {
 fn values_are_taken_in_many_forms() {
     let mut writer = SignalWriter::new(2).expect("the width stands");
     let (string, vector) = ("01".to_string(), b"10".to_vec());
-    assert_eq!(writer.add_change(0, "00"), Ok(()));
-    assert_eq!(writer.add_change(1, &string), Ok(()));
-    assert_eq!(writer.add_change(2, &vector), Ok(()));
+    assert_eq!(writer.add_change(0, "00"), Ok(Added::Kept));
+    assert_eq!(writer.add_change(1, &string), Ok(Added::Kept));
+    assert_eq!(writer.add_change(2, &vector), Ok(Added::Kept));
     assert_eq!(
         writer.add_change(3, &vector[..0]),
         Err(Refusal::WrongLength)
     );
-    assert_eq!(writer.add_change(3, b"11"), Ok(()));
-    for (time_idx, value) in (4..).zip(&[FstSignalValue::String(b"x1"), "X1".into()]) {
-        assert_eq!(writer.add_change(time_idx, value), Ok(()));
-    }
+    assert_eq!(writer.add_change(3, b"11"), Ok(Added::Kept));
+    let value = &FstSignalValue::String(b"x1");
+    assert_eq!(writer.add_change(4, value), Ok(Added::Kept));
+    let value = &FstSignalValue::from("X1");
+    assert_eq!(writer.add_change(5, value), Ok(Added::Dropped));
     let signal = writer.finish();
     let texts = signal.iter_changes().map(|change| {
         let (_, value) = change.expect("the entry is read");
@@ -87,7 +94,8 @@ fn values_are_taken_in_many_forms() {
     assert_eq!(texts, ["00", "01", "10", "11", "x1"]);
     assert_eq!(signal.time_indices(), [0, 1, 2, 3, 4]);
     let mut real = SignalWriter::new_real();
-    assert_eq!(real.add_change(0, FstSignalValue::Real(2.5)), Ok(()));
-    assert_eq!(real.add_change(0, 3.5), Ok(()));
+    let added = real.add_change(0, FstSignalValue::Real(2.5));
+    assert_eq!(added, Ok(Added::Kept));
+    assert_eq!(real.add_change(0, 3.5), Ok(Added::Kept));
     assert_eq!(real.len(), 2);
 }
