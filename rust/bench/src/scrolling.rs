@@ -8,7 +8,8 @@ use yoksimert::{Signal, SignalWriter};
 
 const MILLION: usize = 1_000_000;
 
-/// The indices sought in a round, few and many: every round seeks the same, and the processor learns how the jumps of a few searches go.
+/// The indices sought in a round, few and many: every round seeks the same, and the processor learns how the jumps of a few searches go, but
+/// not those of many without order.
 const SEEKS: [u32; 2] = [20, 10_000];
 
 /// ns a look-up in a record that a writer made.
@@ -34,8 +35,16 @@ fn look_up_in(entries: u32, run: u32, seeks: u32) {
     let span = indices.last().map_or(0, |last| last - 5 + 3);
     let [ours, theirs] = in_turn(|| {
         [
-            seek(span, seeks, |sought| ours.get_offset(sought)),
-            seek(span, seeks, |sought| theirs.look_up_unguarded(sought)),
+            seek(span, seeks, |sought| {
+                let offset = ours.get_offset(sought).expect("no index falls")?;
+                let next = offset.next_index.map_or(0, u32::from);
+                Some(told(offset.start, offset.elements, offset.time_match, next))
+            }),
+            seek(span, seeks, |sought| {
+                let offset = theirs.look_up_unguarded(sought)?;
+                let next = offset.next_index.unwrap_or(0);
+                Some(told(offset.start, offset.elements, offset.time_match, next))
+            }),
         ]
     });
     let run = run.min(entries);
@@ -58,14 +67,25 @@ fn wellens_events(indices: &[u32]) -> reference::Record {
     reference::Record::new(description, &[], indices).expect("wellen takes the record")
 }
 
+/// All of an answer as one number: a copy of it would wait for its single stores.
+fn told(start: usize, elements: u32, time_match: bool, next: u32) -> usize {
+    start ^ elements as usize ^ usize::from(time_match) ^ next as usize
+}
+
 /// ns of a call, of so many that seek indices from 5 on without order.
-fn seek<T>(span: u32, seeks: u32, call: impl Fn(u32) -> T) -> f64 {
-    let sought = |seek: u32| 5 + seek.wrapping_mul(2_654_435_761) % span;
+fn seek(span: u32, seeks: u32, call: impl Fn(u32) -> Option<usize>) -> f64 {
+    let mut state = 0_u64;
+    let sought = (0..seeks).map(|_| {
+        state = state.wrapping_mul(6_364_136_223_846_793_005);
+        state = state.wrapping_add(1_442_695_040_888_963_407);
+        5 + (state >> 33) as u32 % span
+    });
+    let sought: Vec<u32> = sought.collect();
     let time = best(
         || (),
         || {
-            for number in 0..seeks {
-                black_box(call(black_box(sought(number))));
+            for index in &sought {
+                black_box(call(black_box(*index)));
             }
         },
     );
