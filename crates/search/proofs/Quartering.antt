@@ -1,24 +1,25 @@
 -- Laws of what quartering finds, whatever the list.
 -- Assumes nothing.
 use mathlib.Core.Path.{_≡_, refl, sym, ap, _∙_}
-use mathlib.Core.Bool.{Bool, true, false, cond}
+use mathlib.Core.Bool.{Bool, true, false, cond, _&&_}
 use mathlib.Core.List.{List, [], _∷_}
-use Prim.Native.Nat.{ℕ, zero, suc, _+_, _-_, _*_, _/_, _≤_, _<_}
-use native.Mathlib.Nat.{not-suc-le-zero, mul-le-mul-right}
+use Prim.Native.Nat.{ℕ, zero, suc, _+_, _-_, _*_, _/_, _≤_, _<_, min}
+use native.Mathlib.Nat.{not-suc-le-zero, mul-le-mul-right, add-zero}
 use native.Mathlib.Numerals.{add-one}
 use native.Mathlib.Omega.{arith}
 use mir.Val.{boolByte}
-use borrow.Author.Tests.{leb-false, le-leb, lt-leb, le-ltb, lt-ltb, eq-eqb, ne-eqb}
-use lib.Dec.{eqb, leb}
-use lib.ListN.{length, getD, take, drop, length-drop}
-use lib.Seq.{drop-cons}
+use borrow.Author.Tests.{leb-false, le-leb, lt-leb, le-ltb, lt-ltb, ltb-true, eq-eqb, ne-eqb}
+use lib.Dec.{eqb, leb, ltb}
+use lib.ListN.{length, getD, take, drop, length-take, length-drop}
+use lib.Seq.{drop-cons, take-all}
 use Rattle.value.specs.Slice.{part}
 use Rattle.value.proofs.Slices.{part-length, part-at, part-part}
+use Rattle.value.proofs.Tests.{by-le}
 use Rattle.fst.specs.Refusal.{refused, given, tried}
 use Rattle.fst.specs.Record.{maximum}
 use Rattle.fst.specs.declared.NextIndex.{NextIndex}
 use Rattle.offset.specs.Offset.{headOf, none, at}
-use Rattle.search.specs.Quartering.{notAbove, endsFrom, ends, quartered, rank, frontOf, startOf, runUpTo, search}
+use Rattle.search.specs.Quartering.{notAbove, endsFrom, ends, quartered, rank, reachOf, startOf, runUpTo, search}
 
 -- ---- a count
 
@@ -166,101 +167,121 @@ module _ (s : ℕ) (l : List ℕ) (place size : ℕ) (long : 16 < size) (inside 
       rank-long s now (omega (arith, size-is)) ∙ rw (on, sum, size-is) in
       (omega (arith, most), omega (arith, same))
 
--- ---- where a run is sought
+-- ---- in how many indices a run is looked for
 
-front-all : (k n i : ℕ) (l : List ℕ) → length l ≤ n → frontOf k n i l ≡ 0
-unfolding frontOf
-front-all zero n i l h = refl
-front-all (suc k) n i l h = go (eqb (getD l (length l - (n + 1)) 0) i) (front-all k (n * 8) i l (omega arith))
-  where
-    go : (b : Bool) → frontOf k (n * 8) i l ≡ 0 → cond b (frontOf k (n * 8) i l) (length l - n) ≡ 0
-    go true e = e
-    go false e = omega arith
+reach-stops : (k n i : ℕ) (l : List ℕ) (end : ℕ) → end ≤ n → reachOf k n i l end ≡ n
+unfolding reachOf
+reach-stops zero n i l end h = refl
+reach-stops (suc k) n i l end h = rw (le-ltb n end h)
 
-front-same : (k n i : ℕ) (l : List ℕ) → getD l (length l - n - 1) 0 ≡ i → frontOf (suc k) n i l ≡ frontOf k (n * 8) i l
-unfolding frontOf
-front-same k n i l e =
-    let at : length l - (n + 1) ≡ length l - n - 1 = omega arith in
-    rw (at, eq-eqb (getD l (length l - n - 1) 0) i e)
+module _ (k n i : ℕ) (l : List ℕ) (end : ℕ) (h : n < end) where
+  in-front : end - (n + 1) ≡ end - n - 1
+  in-front = omega arith
 
-front-here : (k n i : ℕ) (l : List ℕ) → (getD l (length l - n - 1) 0 ≡ i → ⊥) → frontOf (suc k) n i l ≡ length l - n
-unfolding frontOf
-front-here k n i l e =
-    let at : length l - (n + 1) ≡ length l - n - 1 = omega arith in
-    rw (at, ne-eqb (getD l (length l - n - 1) 0) i e)
+  reach-same : getD l (end - n - 1) 0 ≡ i → reachOf (suc k) n i l end ≡ reachOf k (n * 8) i l end
+  unfolding reachOf
+  reach-same e = rw (in-front, lt-ltb n end h, eq-eqb (getD l (end - n - 1) 0) i e)
 
--- what the last n indices leave to seek
-pub record Sought (n i : ℕ) (l : List ℕ) : Type 0 where
+  reach-here : (getD l (end - n - 1) 0 ≡ i → ⊥) → reachOf (suc k) n i l end ≡ n
+  unfolding reachOf
+  reach-here e = rw (in-front, lt-ltb n end h, ne-eqb (getD l (end - n - 1) 0) i e)
+
+-- what is left to look for when n are not enough
+pub record Sought (n i : ℕ) (l : List ℕ) (end : ℕ) : Type 0 where
   pub some : 1 ≤ n
   pub left : ℕ
-  pub enough : length l ≤ n + left
-  pub same : frontOf left n i l ≡ frontOf (length l) 1 i l
+  pub enough : end ≤ n + left
+  pub same : reachOf left n i l end ≡ reachOf end 1 i l end
 
-pub sought-first : (i : ℕ) (l : List ℕ) → Sought 1 i l
-sought-first i l = record { some = omega arith; left = length l; enough = omega arith; same = refl }
+pub sought-first : (i : ℕ) (l : List ℕ) (end : ℕ) → Sought 1 i l end
+sought-first i l end = record { some = omega arith; left = end; enough = omega arith; same = refl }
 
-module _ {n i : ℕ} {l : List ℕ} (b : Sought n i l) where
-  pub sought-all : length l ≤ n → 0 ≡ frontOf (length l) 1 i l
-  sought-all h = sym (front-all (b .left) n i l h) ∙ b .same
+module _ {n i : ℕ} {l : List ℕ} {end : ℕ} (b : Sought n i l end) where
+  pub sought-all : end ≤ n → n ≡ reachOf end 1 i l end
+  sought-all h = sym (reach-stops (b .left) n i l end h) ∙ b .same
 
-  one-left : n < length l → suc (b .left - 1) ≡ b .left
+  one-left : n < end → suc (b .left - 1) ≡ b .left
   one-left h = omega (arith, b .enough)
 
-  pub sought-more : n < length l → getD l (length l - n - 1) 0 ≡ i → Sought (n * 8) i l
+  pub sought-more : n < end → getD l (end - n - 1) 0 ≡ i → Sought (n * 8) i l end
   sought-more h e =
       record {
         some = omega (arith, b .some);
         left = b .left - 1;
         enough = omega (arith, b .some, b .enough);
-        same = sym (front-same (b .left - 1) n i l e) ∙ ap (λ (k : ℕ). frontOf k n i l) (one-left h) ∙ b .same;
+        same = sym (reach-same (b .left - 1) n i l end h e) ∙ ap (λ (k : ℕ). reachOf k n i l end) (one-left h) ∙ b .same;
       }
 
-  pub sought-here : n < length l → (getD l (length l - n - 1) 0 ≡ i → ⊥) → length l - n ≡ frontOf (length l) 1 i l
-  sought-here h e = sym (front-here (b .left - 1) n i l e) ∙ ap (λ (k : ℕ). frontOf k n i l) (one-left h) ∙ b .same
+  pub sought-here : n < end → (getD l (end - n - 1) 0 ≡ i → ⊥) → n ≡ reachOf end 1 i l end
+  sought-here h e = sym (reach-here (b .left - 1) n i l end h e) ∙ ap (λ (k : ℕ). reachOf k n i l end) (one-left h) ∙ b .same
 
-pub front-within : (k n i : ℕ) (l : List ℕ) → frontOf k n i l ≤ length l
-unfolding frontOf
-front-within zero n i l = omega arith
-front-within (suc k) n i l = go (eqb (getD l (length l - (n + 1)) 0) i) (front-within k (n * 8) i l)
+reach-within : (k n i : ℕ) (l : List ℕ) (end : ℕ) → 1 ≤ n → n ≤ 8 * end → (1 ≤ reachOf k n i l end) × (reachOf k n i l end ≤ 8 * end)
+unfolding reachOf
+reach-within zero n i l end a h = (a, h)
+reach-within (suc k) n i l end a h =
+    go (ltb n end) refl (eqb (getD l (end - (n + 1)) 0) i) (λ less. reach-within k (n * 8) i l end (omega arith) (omega (arith, less)))
   where
-    go : (b : Bool) → frontOf k (n * 8) i l ≤ length l → cond b (frontOf k (n * 8) i l) (length l - n) ≤ length l
-    go true h = h
-    go false h = omega arith
+    go : (b : Bool) → ltb n end ≡ b → (c : Bool) → (n < end → (1 ≤ reachOf k (n * 8) i l end) × (reachOf k (n * 8) i l end ≤ 8 * end))
+        → (1 ≤ cond (b && c) (reachOf k (n * 8) i l end) n) × (cond (b && c) (reachOf k (n * 8) i l end) n ≤ 8 * end)
+    go true e true f = f (ltb-true n end e)
+    go true e false f = (a, h)
+    go false e c f = (a, h)
 
-pub start-within : (i : ℕ) (l : List ℕ) → startOf i l ≤ length l
-unfolding startOf
-start-within zero l = omega arith
-start-within (suc i) l =
-    let front = frontOf (length l) 1 (suc i) l in
-    omega (arith, front-within (length l) 1 (suc i) l, rank-within i (drop front l), length-drop front l)
+pub reach-bounds : (i : ℕ) (l : List ℕ) (end : ℕ) → 1 ≤ end → (1 ≤ reachOf end 1 i l end) × (reachOf end 1 i l end ≤ 8 * end)
+reach-bounds i l end h = reach-within end 1 i l end (omega arith) (omega arith)
 
 -- ---- the definitions by cases
 
-pub start-zero : (i : ℕ) (l : List ℕ) → i ≡ 0 → 0 ≡ startOf i l
+pub start-zero : (i : ℕ) (l : List ℕ) (end : ℕ) → i ≡ 0 → 0 ≡ startOf i l end
 unfolding startOf
-start-zero zero l e = refl
-start-zero (suc i) l e = absurd (omega arith)
+start-zero zero l end e = refl
+start-zero (suc i) l end e = absurd (omega arith)
 
-pub start-some : (i : ℕ) (l : List ℕ) → 0 < i
-    → let front = frontOf (length l) 1 i l in
-    startOf i l ≡ front + rank (i - 1) (drop front l)
+pub start-some : (i : ℕ) (l : List ℕ) (end : ℕ) → 0 < i
+    → let n = reachOf end 1 i l end in
+    startOf i l end ≡ end - n + rank (i - 1) (part (end - n) n l)
 unfolding startOf
-start-some zero l h = absurd (not-suc-le-zero h)
-start-some (suc i) l h =
+start-some zero l end h = absurd (not-suc-le-zero h)
+start-some (suc i) l end h =
     let less : suc i - 1 ≡ i = omega arith in
     rw less
 
+-- as many as there are, if there are fewer
+pub window : (p n : ℕ) (l : List ℕ) → take (min (p + n) (length l) - p) (drop p l) ≡ part p n l
+unfolding part
+window p n l =
+    by-le (p + n) (length l)
+    (λ h.
+    let all : min (p + n) (length l) - p ≡ n = omega arith in
+    ap (λ (m : ℕ). take m (drop p l)) all)
+    (λ h.
+    take-all (min (p + n) (length l) - p) (drop p l) (omega (arith, length-drop p l)) ∙ sym (take-all n (drop p l) (omega (arith, length-drop p l))))
+
+part-within : (p n : ℕ) (l : List ℕ) → length (part p n l) ≤ n
+unfolding part
+part-within p n l = omega (arith, length-take n (drop p l))
+
+pub start-within : (i : ℕ) (l : List ℕ) (end : ℕ) → 1 ≤ end → end ≤ length l → startOf i l end ≤ end + 8 * end
+start-within i l end some h = by-le i 0 (λ none-less. omega (arith, start-zero i l end (omega arith))) (λ k. there k)
+  where
+    there : 0 < i → startOf i l end ≤ end + 8 * end
+    there k =
+        let n = reachOf end 1 i l end in
+        let p = part (end - n) n l in
+        omega (arith, start-some i l end k, rank-within (i - 1) p, part-within (end - n) n l, reach-bounds i l end some .1)
+
 -- where it is the last index alone
-pub start-alone : (i : ℕ) (l : List ℕ) (front : ℕ) → 0 < i → front ≡ frontOf (length l) 1 i l → front + 1 ≡ length l → getD l (length l - 1) 0 ≡ i
-    → front ≡ startOf i l
-start-alone i l front some e last own =
-    let at : length l - 1 ≡ front = omega arith in
-    let above : leb (getD l front 0) (i - 1) ≡ false = lt-leb (getD l front 0) (i - 1) (omega (arith, rw at at own)) in
-    let short = rank-short (i - 1) (drop front l) (omega (arith, length-drop front l)) in
-    let step : notAbove (i - 1) (drop front l) ≡ 0 + notAbove (i - 1) (drop (front + 1) l) = rw above at (not-above-step (i - 1) l front (omega arith)) in
-    let none-less : rank (i - 1) (drop front l) ≡ 0 = omega (arith, short, step, not-above-end (i - 1) l (front + 1) (omega arith)) in
-    let is : startOf i l ≡ front + rank (i - 1) (drop front l) = rw e (start-some i l some) in
-    omega (arith, is, none-less)
+pub start-alone : (i : ℕ) (l : List ℕ) (end : ℕ) → 0 < i → 1 ≤ end → end ≤ length l → 1 ≡ reachOf end 1 i l end → getD l (end - 1) 0 ≡ i
+    → end - 1 ≡ startOf i l end
+start-alone i l end some one h e own =
+    let is : startOf i l end ≡ end - 1 + rank (i - 1) (part (end - 1) 1 l) =
+    start-some i l end some ∙ ap (λ (n : ℕ). end - n + rank (i - 1) (part (end - n) n l)) (sym e) in
+    let long : length (part (end - 1) 1 l) ≡ 1 = part-length l (end - 1) 1 (omega arith) in
+    let first : getD (part (end - 1) 1 l) 0 0 ≡ i = part-at l (end - 1) 1 0 0 (omega arith) ∙ ap (λ (k : ℕ). getD l k 0) (add-zero (end - 1)) ∙ own in
+    let above : leb (getD (part (end - 1) 1 l) 0 0) (i - 1) ≡ false = lt-leb _ (i - 1) (omega (arith, first)) in
+    let step : notAbove (i - 1) (part (end - 1) 1 l) ≡ 0 + notAbove (i - 1) (drop 1 (part (end - 1) 1 l)) = rw above at (not-above-step (i - 1) (part (end - 1) 1 l) 0 (omega (arith, long))) in
+    let rest = not-above-end (i - 1) (part (end - 1) 1 l) 1 (omega (arith, long)) in
+    omega (arith, is, step, rest, rank-short (i - 1) (part (end - 1) 1 l) (omega (arith, long)))
 
 pub search-long : (l : List ℕ) (s : ℕ) → maximum < length l → search l s ≡ refused 2
 unfolding search tried
@@ -275,11 +296,11 @@ unfolding runUpTo
 run-none s l zero e = refl
 run-none s l (suc end) e = absurd (omega arith)
 
-pub run-at : (s : ℕ) (l : List ℕ) (end : ℕ) {index start : ℕ} {next : NextIndex} → 0 < end
-    → index ≡ getD l (end - 1) 0 → start ≡ startOf index (take end l) → next ≡ headOf (drop end l)
-    → at (record { start = start; elements = end - start; «time_match» = eqb index s; «next_index» = next }) ≡ runUpTo s l end
+pub run-at : (s : ℕ) (l : List ℕ) (end : ℕ) {index start n : ℕ} {next : NextIndex} → 0 < end
+    → index ≡ getD l (end - 1) 0 → start ≡ startOf index l end → n ≡ end - start → next ≡ headOf (drop end l)
+    → at (record { start = start; elements = n; «time_match» = eqb index s; «next_index» = next }) ≡ runUpTo s l end
 unfolding runUpTo
-run-at s l zero h e f g = absurd (not-suc-le-zero h)
-run-at s l (suc last) h e f g =
+run-at s l zero h e f g k = absurd (not-suc-le-zero h)
+run-at s l (suc last) h e f g k =
     let less : suc last - 1 ≡ last = omega arith in
-    rw (← (e ∙ ap (λ (k : ℕ). getD l k 0) less), ← f, ← g)
+    rw (← (e ∙ ap (λ (j : ℕ). getD l j 0) less), ← f, ← g, ← k)

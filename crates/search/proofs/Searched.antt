@@ -1,15 +1,14 @@
 -- Where no index falls, what quartering finds is Look up's answer.
 -- Assumes nothing.
 use mathlib.Core.Path.{_≡_, refl, sym, ap, _∙_}
-use mathlib.Core.Bool.{Bool, true, false, cond}
+use mathlib.Core.Bool.{Bool, true, false, cond, _&&_}
 use mathlib.Core.List.{List, [], _∷_}
-use Prim.Native.Nat.{ℕ, zero, suc, _+_, _-_, _*_, _/_, _≤_, _<_}
+use Prim.Native.Nat.{ℕ, zero, suc, _+_, _-_, _*_, _/_, _≤_, _<_, min}
 use native.Mathlib.Nat.{not-suc-le-zero, le-of-suc-le-suc, suc-mul, mul-le-mul-right}
 use native.Mathlib.Omega.{arith}
-use borrow.Author.Tests.{leb-true, leb-false, eqb-false}
-use lib.Dec.{eqb, leb}
-use lib.ListN.{length, getD, take, drop, length-drop}
-use lib.Seq.{getD-drop, getD-take, length-take-le}
+use borrow.Author.Tests.{leb-true, leb-false, ltb-false, eqb-false}
+use lib.Dec.{eqb, leb, ltb}
+use lib.ListN.{length, getD, drop, length-take, length-drop}
 use Rattle.value.specs.Level.{placeIn}
 use Rattle.value.specs.Slice.{part}
 use Rattle.value.proofs.Slices.{part-length, part-at}
@@ -20,22 +19,13 @@ use Rattle.offset.specs.Offset.{falls, runOf, headOf, at, place, lookUp}
 use Rattle.offset.specs.Search.{Last}
 use Rattle.offset.proofs.Search.{rising, place-is, last-greatest, Carrying, run-is}
 use Rattle.offset.proofs.Offsets.{look-up-long, look-up-rising, place-empty, place-above, place-reached, place-found}
-use Rattle.search.specs.Quartering.{notAbove, ends, quartered, rank, frontOf, startOf, runUpTo, search}
+use Rattle.search.specs.Quartering.{notAbove, ends, quartered, rank, reachOf, startOf, runUpTo, search}
 use Rattle.search.proofs.Quartering.{passed, three-at-most, start-some, start-zero, search-long, search-given, run-none, run-at}
 
 -- ---- a list in order, and where an index parts it
 
 abbrev Ordered : List ℕ → Type 0
 Ordered l = (i j : ℕ) → i ≤ j → j < length l → getD l i 0 ≤ getD l j 0
-
-ordered-drop : (l : List ℕ) (n : ℕ) → Ordered l → Ordered (drop n l)
-ordered-drop l n o i j h k =
-    rw (getD-drop n l i 0, getD-drop n l j 0) (o (n + i) (n + j) (omega arith) (omega (arith, length-drop n l)))
-
-ordered-take : (l : List ℕ) (n : ℕ) → n ≤ length l → Ordered l → Ordered (take n l)
-ordered-take l n s o i j h k =
-    let long = length-take-le n l s in
-    rw (getD-take n l i 0 (omega arith), getD-take n l j 0 (omega arith)) (o i j h (omega arith))
 
 -- the first r indices are not above s, and the others are
 record Parted (s : ℕ) (l : List ℕ) (r : ℕ) : Type 0 where
@@ -151,46 +141,65 @@ rank-parts : (s : ℕ) (l : List ℕ) → Ordered l → Parted s l (rank s l)
 unfolding rank
 rank-parts s l o = quartered-parts (length l) s l o
 
--- ---- where the run at the end of a list in order begins
+-- ---- where a run begins
 
--- smaller indices, and then the run
-record Begins (i : ℕ) (l : List ℕ) (start : ℕ) : Type 0 where
+part-long : (l : List ℕ) (p n : ℕ) → length (part p n l) ≡ min n (length l - p)
+unfolding part
+part-long l p n = length-take n (drop p l) ∙ ap (min n) (length-drop p l)
+
+ordered-window : (l : List ℕ) → Ordered l → (p n : ℕ) → Ordered (part p n l)
+ordered-window l o p n i j h k =
+    let long = part-long l p n in
+    rw (part-at l p n i 0 (omega arith), part-at l p n j 0 (omega arith)) (o (p + i) (p + j) (omega arith) (omega arith))
+
+-- the run of an index that ends at a place begins behind smaller indices
+record Begins (i : ℕ) (l : List ℕ) (end start : ℕ) : Type 0 where
   before : (k : ℕ) → k < start → getD l k 0 < i
-  from : (k : ℕ) → start ≤ k → k < length l → i ≤ getD l k 0
+  from : (k : ℕ) → start ≤ k → k < end → i ≤ getD l k 0
 
-module _ (i : ℕ) (l : List ℕ) (o : Ordered l) (top : (k : ℕ) → k < length l → getD l k 0 ≤ i) where
-  front-below : (turns n k : ℕ) → k < frontOf turns n i l → getD l k 0 < i
-  unfolding frontOf
-  front-below zero n k h = absurd (not-suc-le-zero h)
-  front-below (suc turns) n k h = go (eqb (getD l (length l - (n + 1)) 0) i) refl h (front-below turns (n * 8) k)
+module _ (i : ℕ) (l : List ℕ) (o : Ordered l) (end : ℕ) (some : 1 ≤ end) (within : end ≤ length l) (last : getD l (end - 1) 0 ≡ i) where
+  top : (k : ℕ) → k < end → getD l k 0 ≤ i
+  top k h = omega (arith, last, o k (end - 1) (omega arith) (omega arith))
+
+  -- what stands in front of where it is looked for
+  reach-below : (turns n k : ℕ) → 1 ≤ n → end ≤ n + turns → k < end - reachOf turns n i l end → getD l k 0 < i
+  unfolding reachOf
+  reach-below zero n k one enough h = absurd (omega arith)
+  reach-below (suc turns) n k one enough h =
+      go (ltb n end) refl (eqb (getD l (end - (n + 1)) 0) i) refl h (reach-below turns (n * 8) k (omega arith) (omega arith))
     where
-      go : (b : Bool) → eqb (getD l (length l - (n + 1)) 0) i ≡ b → k < cond b (frontOf turns (n * 8) i l) (length l - n)
-          → (k < frontOf turns (n * 8) i l → getD l k 0 < i) → getD l k 0 < i
-      go true e h f = f h
-      go false e h f =
-          let at = length l - (n + 1) in
+      go : (b : Bool) → ltb n end ≡ b → (c : Bool) → eqb (getD l (end - (n + 1)) 0) i ≡ c → k < end - cond (b && c) (reachOf turns (n * 8) i l end) n
+          → (k < end - reachOf turns (n * 8) i l end → getD l k 0 < i) → getD l k 0 < i
+      go true e true d h f = f h
+      go true e false d h f =
+          let at = end - (n + 1) in
           by-le i (getD l at 0)
-          (λ j. absurd (eqb-false _ i e (omega (arith, top at (omega arith)))))
+          (λ j. absurd (eqb-false _ i d (omega (arith, top at (omega arith)))))
           (λ j. omega (arith, o k at (omega arith) (omega arith)))
+      go false e c d h f = absurd (omega (arith, ltb-false n end e))
 
-  start-begins : Begins i l (startOf i l)
+  start-begins : Begins i l end (startOf i l end)
   start-begins = by-le i 0 zero-begins some-begins
     where
-      zero-begins : i ≤ 0 → Begins i l (startOf i l)
+      zero-begins : i ≤ 0 → Begins i l end (startOf i l end)
       zero-begins h =
-          let none-less : 0 ≡ startOf i l = start-zero i l (omega arith) in
+          let none-less : 0 ≡ startOf i l end = start-zero i l end (omega arith) in
           record { before = λ k j. absurd (omega arith); from = λ k j q. omega arith }
 
-      some-begins : 0 < i → Begins i l (startOf i l)
+      some-begins : 0 < i → Begins i l end (startOf i l end)
       some-begins h =
-          let front = frontOf (length l) 1 i l in
-          let p = rank-parts (i - 1) (drop front l) (ordered-drop l front o) in
-          let is = start-some i l h in
-          let at-drop : (k : ℕ) → front ≤ k → getD (drop front l) (k - front) 0 ≡ getD l k 0 =
-          λ k j. let same : front + (k - front) ≡ k = omega arith in getD-drop front l (k - front) 0 ∙ ap (λ (n : ℕ). getD l n 0) same in
+          let n = reachOf end 1 i l end in
+          let p = end - n in
+          let q = rank-parts (i - 1) (part p n l) (ordered-window l o p n) in
+          let is = start-some i l end h in
+          let long = part-long l p n in
+          let there : (k : ℕ) → p ≤ k → k - p < n → getD (part p n l) (k - p) 0 ≡ getD l k 0 =
+          λ k j m.
+          let same : p + (k - p) ≡ k = omega arith in
+          part-at l p n (k - p) 0 m ∙ ap (λ (x : ℕ). getD l x 0) same in
           record {
-            before = λ k j. by-le front k (λ q. omega (arith, p .low (k - front) (omega arith), at-drop k q)) (λ q. front-below (length l) 1 k q);
-            from = λ k j q. omega (arith, p .high (k - front) (omega arith) (omega (arith, length-drop front l)), at-drop k (omega arith));
+            before = λ k j. by-le p k (λ m. omega (arith, q .low (k - p) (omega arith), there k m (omega (arith, q .within, long)))) (λ m. reach-below end 1 k (omega arith) (omega arith) m);
+            from = λ k j m. omega (arith, q .high (k - p) (omega arith) (omega (arith, long)), there k (omega arith) (omega arith));
           }
 
 -- ---- Look up's answer
@@ -222,37 +231,21 @@ module _ (l : List ℕ) (s : ℕ) (f : falls l ≡ false) where
           above = λ k h. parted .high k (omega arith);
         }
 
-    abbrev upTo : List ℕ
-    upTo = take end l
-
-    long : length upTo ≡ end
-    long = length-take-le end l (parted .within)
-
-    at-take : (k : ℕ) → k < end → getD upTo k 0 ≡ getD l k 0
-    at-take k h = getD-take end l k 0 h
-
     abbrev start : ℕ
-    start = startOf i upTo
+    start = startOf i l end
 
-    begins : Begins i upTo start
-    begins =
-        start-begins i upTo (ordered-take l end (parted .within) ordered)
-        (λ k h. omega (arith, at-take k (omega (arith, long)), ordered k (end - 1) (omega (arith, long)) (last .within)))
+    begins : Begins i l end start
+    begins = start-begins i l ordered end some (parted .within) refl
 
     early : start < end
-    early = by-le end start (λ h. absurd (omega (arith, begins .before (end - 1) (omega arith), at-take (end - 1) (omega arith)))) (λ h. h)
+    early = by-le end start (λ h. absurd (omega (arith, begins .before (end - 1) (omega arith)))) (λ h. h)
 
     first : start ≡ placeIn l i
     first =
         sym
         (place-is l i start (omega (arith, early, last .within))
-        (omega (
-          arith,
-          begins .from start (omega arith) (omega (arith, early, long)),
-          at-take start early,
-          ordered start (end - 1) (omega (arith, early)) (last .within),
-        ))
-        (λ k h e. omega (arith, begins .before k h, at-take k (omega (arith, early)))))
+        (omega (arith, begins .from start (omega arith) early, ordered start (end - 1) (omega (arith, early)) (last .within)))
+        (λ k h e. omega (arith, begins .before k h)))
 
     run : Carrying l i (placeIn l i) (runOf i (drop (placeIn l i) l))
     run = run-is l f i (end - 1) (last .within) refl
@@ -277,7 +270,7 @@ module _ (l : List ℕ) (s : ℕ) (f : falls l ≡ false) where
 
     found : runUpTo s l (rank s l) ≡ place s l
     found =
-        sym (run-at s l end some refl refl refl)
+        sym (run-at s l end some refl refl refl refl)
         ∙ ap at (place-found s l (last-greatest f last) first elements next)
         ∙ sym (place-reached s l (omega (arith, parted .within)) (parted .low 0 some))
 

@@ -2,10 +2,10 @@
 -- what.
 -- Assumes nothing.
 use Prim.Native.Nat.{ℕ, zero, suc, _+_, _-_, _*_, _/_}
-use mathlib.Core.Bool.{cond}
+use mathlib.Core.Bool.{cond, _&&_}
 use mathlib.Core.List.{List, [], _∷_}
 use lib.Dec.{eqb, leb, ltb}
-use lib.ListN.{length, getD, take, drop}
+use lib.ListN.{length, getD, drop}
 use Rattle.value.specs.Slice.{part}
 use Rattle.fst.specs.Refusal.{Reply, given, _⇐_, tried}
 use Rattle.fst.specs.Record.{maximum}
@@ -37,18 +37,18 @@ quartered (suc n) s l =
 unfoldable pub rank : ℕ → List ℕ → ℕ
 rank s l = quartered (length l) s l
 
--- where the last n indices begin, or 8 times as many, and so on k times: the first of these in front of which another index stands than i;
--- else the list's first place
-unfoldable pub frontOf : ℕ → ℕ → ℕ → List ℕ → ℕ
-frontOf zero n i l = 0
-frontOf (suc k) n i l = cond (eqb (getD l (length l - (n + 1)) 0) i) (frontOf k (n * 8) i l) (length l - n)
+-- in how many indices the run of i is looked for that ends at a place: n, or 8 times as many, and so on, at most k times, until another index
+-- stands in front of these
+unfoldable pub reachOf : ℕ → ℕ → ℕ → List ℕ → ℕ → ℕ
+reachOf zero n i l end = n
+reachOf (suc k) n i l end = cond (ltb n end && eqb (getD l (end - (n + 1)) 0) i) (reachOf k (n * 8) i l end) n
 
--- where the run of an index begins that a list ends in: behind the smaller ones, of which 0 has none
-unfoldable pub startOf : ℕ → List ℕ → ℕ
-startOf zero l = 0
-startOf (suc i) l =
-    let front = frontOf (length l) 1 (suc i) l in
-    front + rank i (drop front l)
+-- where that run begins: behind the smaller indices, of which 0 has none
+unfoldable pub startOf : ℕ → List ℕ → ℕ → ℕ
+startOf zero l end = 0
+startOf (suc i) l end =
+    let n = reachOf end 1 (suc i) l end in
+    end - n + rank i (part (end - n) n l)
 
 -- the answer of a rank: none, or the run that ends there
 unfoldable pub runUpTo : ℕ → List ℕ → ℕ → Place
@@ -56,7 +56,7 @@ runUpTo s l zero = none
 runUpTo s l (suc last) =
     let i = getD l last 0 in
     let end = suc last in
-    let start = startOf i (take end l) in
+    let start = startOf i l end in
     at (record { start = start; elements = end - start; «time_match» = eqb i s; «next_index» = headOf (drop end l) })
 
 -- "2: list above the maximum". No index is tried for 11.

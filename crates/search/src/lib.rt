@@ -1,10 +1,10 @@
 // The entries that hold at a time index, in a list that is known not to fall: Look up without its scan.
 ghost use mathlib.Core.Path.{_≡_};
-ghost use Prim.Native.Nat.{_≤_, _+_, _-_, _*_};
+ghost use Prim.Native.Nat.{_≤_, _+_, _-_, _*_, min};
 ghost use lib.ListN.{length, getD};
 ghost use Rattle.fst.specs.Record.{maximum};
 ghost use Rattle.offset.specs.Offset.{offsetOf};
-ghost use Rattle.search.specs.Quartering.{notAbove, endsFrom, rank, frontOf, startOf, search};
+ghost use Rattle.search.specs.Quartering.{notAbove, endsFrom, rank, reachOf, startOf, search};
 use fst::NextIndex;
 use fst::Refusal;
 use fst::record::MAXIMUM;
@@ -54,38 +54,55 @@ fn rank(indices: &[u32], needle: u32) -> usize
     place + count(&indices[place..end], needle)
 }
 
-// Where those of the last indices begin that the run at the end is sought in. Most runs are short, and found near.
-fn find_front(indices: &[u32], index: u32) -> usize
-    requires { ⌜ length (now indices) ≤ maximum ⌝ }
-    ensures { λ r. ⌜ r ≡ frontOf (length (now (indices .entry))) 1 index (now (indices .entry)) ⌝ }
+// The difference, or 0 where there is none.
+fn less(a: usize, b: usize) -> usize
+    ensures { λ r. ⌜ r ≡ a - b ⌝ }
 {
-    let len = indices.len();
+    if b < a { a - b } else { 0 }
+}
+
+fn lesser(a: usize, b: usize) -> usize
+    ensures { λ r. ⌜ r ≡ min a b ⌝ }
+{
+    if a < b { a } else { b }
+}
+
+// In how many indices up to an end the run there is looked for. Most runs are short, and found near.
+fn find_reach(indices: &[u32], end: usize, index: u32) -> usize
+    requires { ⌜ end ≤ length (now indices) ⌝ }
+    requires { ⌜ length (now indices) ≤ maximum ⌝ }
+    ensures { λ r. ⌜ r ≡ reachOf end 1 index (now (indices .entry)) end ⌝ }
+{
     let mut reach = 1;
     loop {
-        if len <= reach {
-            return 0;
+        if end <= reach {
+            return reach;
         }
-        if indices[len - reach - 1] != index {
-            return len - reach;
+        if indices[end - reach - 1] != index {
+            return reach;
         }
         reach *= 8;
     }
 }
 
-// Where the run of the index at the end begins.
-fn find_start(indices: &[u32], index: u32) -> usize
+// Where the run of the index in front of an end begins.
+fn find_start(indices: &[u32], end: usize, index: u32) -> usize
+    requires { ⌜ 1 ≤ end ⌝ }
+    requires { ⌜ end ≤ length (now indices) ⌝ }
     requires { ⌜ length (now indices) ≤ maximum ⌝ }
-    requires { ⌜ getD (now indices) (length (now indices) - 1) 0 ≡ index ⌝ }
-    ensures { λ r. ⌜ r ≡ startOf index (now (indices .entry)) ⌝ }
+    requires { ⌜ getD (now indices) (end - 1) 0 ≡ index ⌝ }
+    ensures { λ r. ⌜ r ≡ startOf index (now (indices .entry)) end ⌝ }
 {
     if index == 0 {
         return 0;
     }
-    let front = find_front(indices, index);
-    if front + 1 == indices.len() {
-        return front;
+    let reach = find_reach(indices, end, index);
+    if reach == 1 {
+        return end - 1;
     }
-    front + rank(&indices[front..], index - 1)
+    let front = less(end, reach);
+    let behind = lesser(front + reach, indices.len());
+    front + rank(&indices[front..behind], index - 1)
 }
 
 // Search: Look up's answer if no index falls, and some answer if one does.
@@ -100,10 +117,10 @@ pub fn search(indices: &[u32], time_table_idx: u32) -> OffsetAnswer
         return OffsetAnswer::Nothing;
     }
     let index = indices[end - 1];
-    let start = find_start(&indices[..end], index);
+    let start = find_start(indices, end, index);
     OffsetAnswer::At(DataOffset {
         start: start,
-        elements: (end - start) as u32,
+        elements: less(end, start) as u32,
         time_match: index == time_table_idx,
         next_index: get(indices, end),
     })

@@ -18,14 +18,17 @@ pub fn look_up() {
     println!(
         "| entries | of one index | sought in a round | yoksimert | wellen | wellen / yoksimert |\n|---|---|---|---|---|---|"
     );
-    for run in [1, 3, 20, MILLION as u32] {
-        for entries in [10, 1_000, MILLION as u32] {
+    let lengths = [10, 1_000, MILLION as u32];
+    for run in [1, 3, 20] {
+        for entries in lengths.into_iter().filter(|entries| run < *entries) {
             for seeks in SEEKS {
-                // wellen goes over a run one by one.
-                let seeks = if run >= entries { seeks.min(20) } else { seeks };
                 look_up_in(entries, run, seeks);
             }
         }
+    }
+    // wellen goes over a run one by one.
+    for entries in lengths {
+        look_up_in(entries, entries, 20);
     }
 }
 
@@ -47,7 +50,6 @@ fn look_up_in(entries: u32, run: u32, seeks: u32) {
             }),
         ]
     });
-    let run = run.min(entries);
     println!(
         "| {entries} | {run} | {seeks} | {ours:.1} | {theirs:.1} | {:.2} |",
         theirs / ours

@@ -12,10 +12,10 @@ pub fn search(indices: &[u32], sought: u32) -> Result<Option<Offset>, Refusal> {
     let Some(&found) = indices[..end].last() else {
         return Ok(None);
     };
-    let start = start(&indices[..end], found);
+    let start = start(indices, end, found);
     Ok(Some(Offset {
         start,
-        elements: (end - start) as u32,
+        elements: end.saturating_sub(start) as u32,
         time_match: found == sought,
         next_index: indices.get(end).copied(),
     }))
@@ -34,15 +34,16 @@ fn rank(indices: &[u32], sought: u32) -> usize {
     passed + rank(&indices[passed..][..left], sought)
 }
 
-/// Where the run of the last index begins: among the last 1, 8, 64 .. indices in front of which another one stands.
-fn start(indices: &[u32], last: u32) -> usize {
-    let Some(below) = last.checked_sub(1) else {
+/// Where the run of an index begins that ends at `end`: among 1, 8, 64 .. indices up to there, the least number in front of which another
+/// one stands or none does.
+fn start(indices: &[u32], end: usize, index: u32) -> usize {
+    let Some(below) = index.checked_sub(1) else {
         return 0;
     };
-    let fronts = (0..).map(|turns| indices.len().saturating_sub(8_usize.pow(turns)));
-    let front = fronts
-        .take_while(|&front| front > 0)
-        .find(|&front| indices[front - 1] != last)
-        .unwrap_or(0);
-    front + rank(&indices[front..], below)
+    let reaches = (0..).map(|turns| 8_usize.pow(turns));
+    let mut enough = reaches.filter(|&n| end <= n || indices[end - n - 1] != index);
+    let reach = enough.next().expect("one is as many as there are");
+    let front = end.saturating_sub(reach);
+    let behind = indices.len().min(front + reach);
+    front + rank(&indices[front..behind], below)
 }

@@ -1,14 +1,13 @@
 -- `search::search` meets its contract.
 -- Assumes nothing.
 use mathlib.Core.Path.{_≡_, refl, sym, ap, _∙_}
-use Prim.Native.Nat.{_≤_, _-_}
+use Prim.Native.Nat.{_≤_}
 use native.Mathlib.Omega.{arith}
 use borrow.Author.Needs.{needs}
-use lib.ListN.{length, getD, take}
-use lib.Seq.{length-take-le, getD-take}
+use lib.ListN.{length}
 use Rattle.fst.specs.Refusal.{given}
 use Rattle.search.specs.Quartering.{runUpTo}
-use Rattle.search.proofs.Quartering.{rank-within, start-within, search-long, search-given, run-none, run-at}
+use Rattle.search.proofs.Quartering.{rank-within, search-long, search-given, run-none, run-at}
 use Rattle.search.proofs.search.Statement.{statement}
 use Rattle.search.proofs.search.Tie as tie
 
@@ -26,30 +25,17 @@ inside c =
     let a = c .before .before .before .args in
     omega (arith, c .rank .ensures, rank-within (a .time-table-idx) (a .indices .now))
 
--- its list is as long
-ends : (c : tie.After-rank) → length (take (c .rank .result) (c .before .before .before .args .indices .now)) ≡ c .rank .result
-ends c = length-take-le (c .rank .result) (c .before .before .before .args .indices .now) (inside c)
-
 find-start-requires : tie.Need-find-start-requires
 find-start-requires c κs =
-    let at-rank = c .before .before .before in
-    let l = at-rank .before .before .before .args .indices .now in
-    let end = at-rank .rank .result in (
-      omega (arith, ends at-rank, inside at-rank, at-rank .before .if1 .left),
-      rw (ends at-rank) (getD-take end l (end - 1) 0 (omega arith)),
-    )
-
-starts : (c : tie.After-find-start) → c .find-start .result ≤ c .before .before .before .before .rank .result
-starts c =
-    let at-rank = c .before .before .before .before in
-    let l = at-rank .before .before .before .args .indices .now in
-    omega (arith, c .find-start .ensures, ends at-rank, start-within (getD l (at-rank .rank .result - 1) 0) (take (at-rank .rank .result) l))
+    let at-rank = c .before .before in
+    (omega arith, (inside at-rank, (at-rank .before .if1 .left, refl)))
 
 returns-3 : tie.Need-returns-3
 returns-3 c =
     let at-rank = c .before .before .before .before .before in
     let a = at-rank .before .before .before .args in
-    let found = run-at (a .time-table-idx) (a .indices .now) (at-rank .rank .result) (omega arith) refl (c .before .find-start .ensures) (c .get .ensures) in
+    let found =
+    run-at (a .time-table-idx) (a .indices .now) (at-rank .rank .result) (omega arith) refl (c .before .before .find-start .ensures) (c .before .less .ensures) (c .get .ensures) in
     ap given (found ∙ ap (runUpTo (a .time-table-idx) (a .indices .now)) (at-rank .rank .ensures)) ∙ sym (search-given _ _ (at-rank .before .if1 .left))
 
 pub search-spec : {M : Type 1} → statement M
@@ -63,9 +49,8 @@ search-spec =
     (λ c. search needs)
     (λ c. omega (arith, inside (c .before)))
     (λ c. omega (arith, inside (c .before .before)))
-    (λ c. sym (ends (c .before .before .before)))
     find-start-requires
-    starts
-    (λ c. omega (arith, inside (c .before .before .before .before), c .before .before .before .before .before .if1 .left))
+    (λ c κs. search needs)
+    (λ c. omega (arith, c .less .ensures, inside (c .before .before .before .before), c .before .before .before .before .before .if1 .left))
     (λ c κs. search needs)
     returns-3)
