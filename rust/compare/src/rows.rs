@@ -7,6 +7,7 @@ use crate::operations::derive::Derive;
 use crate::operations::fresh::Fresh;
 use crate::operations::look_up::LookUp;
 use crate::operations::number::in_every_form;
+use crate::operations::search::Search;
 use crate::record::{LentRecord, cut};
 use oracle::{Change, Derivation, Description, Encoding, Input, MAX_WIDTH, MAXIMUM, Side, States};
 use reference::Used;
@@ -150,9 +151,14 @@ fn numbers(to: &mut dyn Receiver) {
 pub fn long_edges(to: &mut dyn Receiver) {
     for count in [MAXIMUM - 1, MAXIMUM, MAXIMUM + 1] {
         let indices = vec![1; count as usize + 1];
+        let (list, sought) = (indices[1..].to_vec(), 1);
+        to.call(Search {
+            indices: list.clone(),
+            sought,
+        });
         to.call(LookUp {
-            indices: indices[1..].to_vec(),
-            sought: 1,
+            indices: list,
+            sought,
         });
         add(lent(Encoding::Event, count, &[], &indices), text(""), to);
     }

@@ -103,7 +103,7 @@ impl Coverage {
     }
 }
 
-/// Every number of every operation. Look up's 2 needs a list above the maximum, which the edges have.
+/// Every number of every operation. 2 of Look up and of Search needs a list above the maximum, which the edges have.
 fn all_numbers() -> BTreeSet<(&'static str, u8)> {
     let mut out = BTreeSet::new();
     for operation in OPERATIONS {
@@ -113,6 +113,7 @@ fn all_numbers() -> BTreeSet<(&'static str, u8)> {
         }
     }
     out.remove(&("lookup", 2));
+    out.remove(&("search", 2));
     out
 }
 

@@ -274,7 +274,7 @@ impl<'a> BitVecRef<'a> {
     fn show(&self, f: &mut Formatter<'_>, out: &mut [u8]) -> fmt::Result {
         let width = self.width() as usize;
         let written = self.write_bit_string(out).ok();
-        match written.and_then(|()| str::from_utf8(out.get(..width)?).ok()) {
+        match written.and_then(|()| std::str::from_utf8(out.get(..width)?).ok()) {
             Some(text) => f.pad(text),
             None => f.pad(&"?".repeat(width)),
         }

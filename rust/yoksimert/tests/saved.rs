@@ -66,11 +66,9 @@ fn save(folder: &Path, signal: &Signal) -> io::Result<()> {
 
 /// As naively: what is there of an index that was cut is left out.
 fn indices_of(stored: &[u8]) -> Vec<u32> {
-    let (whole, _) = stored.as_chunks();
-    whole
-        .iter()
-        .map(|index| u32::from_le_bytes(*index))
-        .collect()
+    let whole = stored.chunks_exact(4);
+    let indices = whole.map(|index| u32::from_le_bytes(index.try_into().expect("four bytes")));
+    indices.collect()
 }
 
 fn load(folder: &Path) -> io::Result<Result<Signal, Unsound>> {
