@@ -21,6 +21,7 @@ w2: unsigned 17 0, signed 17 0, decimal 16 0
 w4: unsigned 17 0, signed 17 0, decimal 17 0
 w4: unsigned 0 10, signed 0 -6, decimal 18 0
 equal: start 0, 70000
+searched: start 0, 70000
 ";
 
 const STRICT: [&str; 4] = ["-Wall", "-Wextra", "-Werror", "-pedantic"];

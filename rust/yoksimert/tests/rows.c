@@ -91,5 +91,7 @@ int main(void) {
     static const uint32_t equal_indices[70000] = {0};
     offset = yoksimert_look_up(equal_indices, 70000, 5);
     printf("equal: start %zu, %u\n", offset.start, offset.elements);
+    offset = yoksimert_search(equal_indices, 70000, 5);
+    printf("searched: start %zu, %u\n", offset.start, offset.elements);
     return 0;
 }
