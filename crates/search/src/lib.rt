@@ -39,7 +39,7 @@ fn passed(indices: &[u32], place: usize, quarter: usize, needle: u32) -> usize
     first + second + third
 }
 
-// The number of indices that are not above the needle, by quartering: the second half would wait for the first.
+// The number of indices that are not above the needle, by quartering: of two halvings the second would wait for the first.
 fn rank(indices: &[u32], needle: u32) -> usize
     ensures { λ r. ⌜ r ≡ rank needle (now (indices .entry)) ⌝ }
 {
