@@ -38,12 +38,13 @@ unfoldable pub rank : ℕ → List ℕ → ℕ
 rank s l = quartered (length l) s l
 
 -- in how many indices the run of i is looked for that ends at a place: n, or 8 times as many, and so on, at most k times, until another index
--- stands in front of these
+-- or none stands in front of so many
 unfoldable pub reachOf : ℕ → ℕ → ℕ → List ℕ → ℕ → ℕ
 reachOf zero n i l end = n
 reachOf (suc k) n i l end = cond (ltb n end && eqb (getD l (end - (n + 1)) 0) i) (reachOf k (n * 8) i l end) n
 
--- where that run begins: behind the smaller indices, of which 0 has none
+-- where that run begins: behind the smaller ones of so many indices, of which 0 has none. Those behind the run's end are no smaller, unless
+-- one falls.
 unfoldable pub startOf : ℕ → List ℕ → ℕ → ℕ
 startOf zero l end = 0
 startOf (suc i) l end =

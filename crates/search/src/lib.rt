@@ -67,7 +67,7 @@ fn lesser(a: usize, b: usize) -> usize
     if a < b { a } else { b }
 }
 
-// In how many indices up to an end the run there is looked for. Most runs are short, and found near.
+// In how many indices the run is looked for that ends at a place. Most runs are short, and found near.
 fn find_reach(indices: &[u32], end: usize, index: u32) -> usize
     requires { ⌜ end ≤ length (now indices) ⌝ }
     requires { ⌜ length (now indices) ≤ maximum ⌝ }

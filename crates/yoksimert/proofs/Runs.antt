@@ -16,7 +16,7 @@ use Rattle.fst.specs.Record.{Lent, Held, maxWidth, largestIn, heldIn, keptOf}
 use Rattle.fst.specs.Change.{Change, addChange}
 use Rattle.runs.specs.Runs.{byValue, Call, leftIn, leaves, Run, freshHeld, after, fed, historyOf, historyLaidOut, Seen, Same}
 use Rattle.offset.specs.Offset.{falls}
-use Rattle.search.proofs.Rising.{emptyHeld, run-rises}
+use Rattle.search.proofs.Rising.{Rises, emptyHeld, run-rises, run-keeps-rising}
 use Rattle.runs.proofs.Demand3.{fresh-gives, run-is-laid-out, run-counts, demand-3}
 use Rattle.yoksimert.specs.declared.FlatDescription.{FlatDescription}
 use Rattle.yoksimert.specs.Flat.{encoded}
@@ -83,6 +83,12 @@ same-iff k l = (
 
 -- ---- no index falls
 
+-- from a record that doesn't fall, such as one that a service goes on with
+pub flat-run-keeps-rising : (k : Held Description) → Rises k → (cs : List Call) → Run byNumbers (flatHeld k) cs
+    → falls ((after byNumbers (flatHeld k) cs) .indices) ≡ false
+flat-run-keeps-rising k h cs r = rw (after-by k cs) (run-keeps-rising k h cs (run-of k cs r) .rises)
+
+-- from Fresh, of whatever kind and width
 pub flat-run-rises : (e : Encoding) (cs : List Call) → Run byNumbers (flatHeld (emptyHeld e)) cs
     → falls ((after byNumbers (flatHeld (emptyHeld e)) cs) .indices) ≡ false
 flat-run-rises e cs r = rw (after-by (emptyHeld e) cs) (run-rises e cs (run-of (emptyHeld e) cs r))

@@ -34,8 +34,8 @@ fn rank(indices: &[u32], sought: u32) -> usize {
     passed + rank(&indices[passed..][..left], sought)
 }
 
-/// Where the run of an index begins that ends at `end`: among 1, 8, 64 .. indices up to there, the least number in front of which another
-/// one stands or none does.
+/// Where the run of an index begins that ends at `end`. It is looked for in 1, 8, 64 .. indices, the least number that has another index or
+/// none in front of it up to there; if there are fewer up to there, in so many from the list's first on.
 fn start(indices: &[u32], end: usize, index: u32) -> usize {
     let Some(below) = index.checked_sub(1) else {
         return 0;

@@ -39,7 +39,8 @@ pub enum Unsound {
 }
 
 impl Unsound {
-    /// The refusal of the call that would meet the fault.
+    /// The refusal of the call that would meet the fault; of spare bits, which [`SignalWriter::resume`](crate::SignalWriter::resume) alone
+    /// looks at, [`Refusal::BadRecord`].
     #[must_use]
     pub fn refusal(self) -> Refusal {
         match self {
@@ -136,10 +137,11 @@ impl From<Unsound> for Refusal {
 impl Signal {
     /// The record of these time indices and bytes, if it is sound: the lengths are right, no time index falls, and every entry has a
     /// mark and codes that can be read. No call on such a record gives [`Refusal::BadRecord`], [`Refusal::IndexFalls`],
-    /// [`Refusal::BadMark`] or [`Refusal::BadCode`]. Bits beside the levels are no fault, as nothing reads them.
+    /// [`Refusal::BadMark`] or [`Refusal::BadCode`]. Bits beside the levels are no fault, as no text, number or comparison reads them.
     ///
-    /// What a save that was broken off leaves behind is refused, as one of the vectors is then too short. An event's entries have no
-    /// bytes, so that of these a service stores the number too.
+    /// What a save that was broken off leaves behind is refused where one of the vectors is then too short for the other. That the two are of
+    /// one record their lengths can't tell, nor how many events there were, which have no bytes: a service saves both vectors in one file
+    /// with their number, or under one sum.
     ///
     /// ```
     /// use yoksimert::{FixedWidthEncoding, Refusal, Signal, States, Unsound};

@@ -1,11 +1,11 @@
 //! Line records over the proved archive `libyoksimert.a`, under the names of the Rust crate wellen.
 //!
 //! A [`SignalWriter`] packs changes into a record, a [`Signal`] is read, looked up and compared, and [`transform_signal`] derives one
-//! from others. Every answer is computed by the archive; this crate keeps the vectors and turns numbers into types. A call that cannot
-//! be answered gives a [`Refusal`]; none panics.
+//! from others. The answers of the documents' operations are the archive's; this crate keeps the vectors, turns numbers into types, looks
+//! at lengths, and picks single levels. A call that cannot be answered gives a [`Refusal`]; none panics.
 //!
 //! The archive is looked for in the folder `YOKSIMERT_LIB_DIR`, or, where that is not set, where the repository or a package has it. Without
-//! it the build stops; the documentation is built all the same.
+//! it the build stops; the documentation of this crate by itself is built all the same.
 //!
 //! ```
 //! use yoksimert::{DerivedBitVecSignal, Refusal, SignalWriter, transform_signal};

@@ -54,7 +54,7 @@ macro_rules! refusals {
 
 refusals! {
     1 WidthTooLarge "the width is above 4,096"
-    2 BadRecord "not a record: its width is not 1 to 4,096, it has more than 1,048,576 entries, or its bytes or time indices are too few"
+    2 BadRecord "not a record: its width is not 1 to 4,096, it has more than 1,048,576 entries, or its bytes or time indices do not fit its count"
     3 WrongKind "the record is of another kind than the value or the call"
     4 WrongLength "the string has not one character for each wire, or, for an event, more than one"
     5 ForeignCharacter "a character is none of 0 1 x z h u w l -"

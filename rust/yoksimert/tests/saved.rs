@@ -207,3 +207,19 @@ fn a_cut_list_of_events_is_a_shorter_one() {
     };
     assert_eq!(long, Some(told));
 }
+
+/// Nor do lengths tell that the vectors are of one record: a service saves them under one sum, or in one file.
+#[test]
+fn two_records_of_one_length_may_be_mixed() {
+    let wire = |changes: [(u32, &str); 2]| {
+        let mut writer = SignalWriter::new(1).expect("the width stands");
+        for (time_idx, level) in changes {
+            writer.add_change(time_idx, level).expect("a change");
+        }
+        writer.finish()
+    };
+    let (old, new) = (wire([(0, "0"), (1, "1")]), wire([(5, "1"), (9, "0")]));
+    let (indices, bytes) = (new.time_indices().to_vec(), old.bytes().to_vec());
+    let mixed = Signal::checked(indices, old.encoding(), bytes).expect("the lengths fit");
+    assert!(!mixed.same_record(&old) && !mixed.same_record(&new));
+}

@@ -11,6 +11,10 @@ impl Outside {
     /// An empty folder.
     pub fn empty(name: &str) -> Self {
         let root = env::temp_dir().join(format!("yoksimert-{name}-{}", process::id()));
+        // A run that was killed may have left one of this number behind.
+        if root.exists() {
+            fs::remove_dir_all(&root).expect("it is this test's");
+        }
         fs::create_dir(&root).unwrap_or_else(|error| panic!("{}: {error}", root.display()));
         Self(root)
     }

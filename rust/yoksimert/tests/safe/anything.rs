@@ -126,7 +126,7 @@ fn asked(random: &mut Random, signal: &Signal) -> String {
 #[test]
 fn safe_calls_answer_whatever_they_are_given() {
     let mut random = Random::new(76);
-    let mut taken = 0;
+    let (mut taken, mut derivations) = (0, 0);
     for _ in 0..ROUNDS {
         let (indices, encoding, bytes) = vectors(&mut random);
         let checked = Signal::checked(indices.clone(), encoding, bytes.clone());
@@ -141,9 +141,15 @@ fn safe_calls_answer_whatever_they_are_given() {
             assert_eq!(asked(&mut Random::new(seed), checked), shown);
         }
         let any = number(&mut random, 9);
-        let slice = DerivedBitVecSignal::new_slice(any, any, 0);
-        let derived = slice.and_then(|slice| transform_signal(&slice, &[&signal, &signal]));
-        assert!(derived.is_err(), "two records for one input");
+        let slice = |msb| DerivedBitVecSignal::new_slice(any, msb, 0);
+        let two = slice(any).and_then(|slice| transform_signal(&slice, &[&signal, &signal]));
+        assert!(two.is_err(), "two records for one input");
+        let lowest = slice(0).and_then(|slice| transform_signal(&slice, &[&signal]));
+        if let Ok(derived) = lowest {
+            let (indices, encoding, bytes) = derived.into_parts();
+            assert_eq!(Signal::checked(indices, encoding, bytes).err(), None);
+            derivations += 1;
+        }
         let fault = match SignalWriter::resume(signal) {
             Ok(mut writer) => writer.add_change(any, "01").err().and(None),
             Err(refused) => Some(refused.fault),
@@ -154,4 +160,5 @@ fn safe_calls_answer_whatever_they_are_given() {
         }
     }
     assert!(taken > ROUNDS / 5, "{taken}");
+    assert!(derivations > 0, "none begins at 0");
 }

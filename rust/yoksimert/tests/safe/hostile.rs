@@ -283,6 +283,13 @@ fn assert_answers(answer: FlatOffset, expected: Result<Option<oracle::Offset>, o
     assert_eq!(answer.found, found.is_some());
     assert_eq!(answer.start, found.map_or(0, |found| found.start));
     assert_eq!(answer.elements, found.map_or(0, |found| found.elements));
+    assert_eq!(
+        answer.time_match,
+        found.is_some_and(|found| found.time_match)
+    );
+    let next = found.and_then(|found| found.next_index);
+    assert_eq!(answer.has_next, next.is_some());
+    assert_eq!(answer.next_index, next.unwrap_or(0));
 }
 
 #[test]
