@@ -6,6 +6,9 @@ use crate::refusal::accepted;
 use crate::{Refusal, Signal};
 use std::fmt::{self, Debug, Display, Formatter};
 
+/// A text of up to so many characters goes by way of the stack.
+const SHORT: usize = 64;
+
 /// How many values a level may have.
 #[derive(Clone, Copy, PartialEq, Eq, PartialOrd, Ord, Hash, Debug, Default)]
 pub enum States {
@@ -216,9 +219,37 @@ impl<'a> BitVecRef<'a> {
     /// [`Refusal::BadCode`], which no record of a [`SignalWriter`](crate::SignalWriter) gives.
     #[inline]
     pub fn bit_string(&self) -> Result<String, Refusal> {
+        // A copy takes less time than memory that comes zeroed.
+        if self.width() as usize <= SHORT {
+            return self.bit_str(&mut [0; SHORT]).map(str::to_owned);
+        }
         let mut text = vec![0; self.width() as usize];
         self.write_bit_string(&mut text)?;
         String::from_utf8(text).map_err(|_| Refusal::UnknownAnswer)
+    }
+
+    /// The same in the first bytes of `buffer`, without an allocation.
+    ///
+    /// ```
+    /// use yoksimert::SignalWriter;
+    ///
+    /// # fn main() -> Result<(), yoksimert::Refusal> {
+    /// let mut tariff = SignalWriter::new(4)?;
+    /// tariff.add_change(0, "10XZ")?;
+    /// let tariff = tariff.finish();
+    /// let levels = tariff.get_entry(0)?.as_bit_vec().expect("a bit vector");
+    /// assert_eq!(levels.bit_str(&mut [0; 8])?, "10xz");
+    /// # Ok(())
+    /// # }
+    /// ```
+    ///
+    /// # Errors
+    /// As [`BitVecRef::write_bit_string`].
+    #[inline]
+    pub fn bit_str<'b>(&self, buffer: &'b mut [u8]) -> Result<&'b str, Refusal> {
+        self.write_bit_string(buffer)?;
+        let text = buffer.get(..self.width() as usize).unwrap_or_default();
+        std::str::from_utf8(text).map_err(|_| Refusal::UnknownAnswer)
     }
 
     /// Writes the characters into the first bytes of `out`, and leaves the rest as it is.
@@ -272,11 +303,9 @@ impl<'a> BitVecRef<'a> {
 
     /// Shows the characters, which `out` has room for; `?` for each where they are refused.
     fn show(&self, f: &mut Formatter<'_>, out: &mut [u8]) -> fmt::Result {
-        let width = self.width() as usize;
-        let written = self.write_bit_string(out).ok();
-        match written.and_then(|()| std::str::from_utf8(out.get(..width)?).ok()) {
-            Some(text) => f.pad(text),
-            None => f.pad(&"?".repeat(width)),
+        match self.bit_str(out) {
+            Ok(text) => f.pad(text),
+            Err(_) => f.pad(&"?".repeat(self.width() as usize)),
         }
     }
 }
@@ -292,8 +321,8 @@ impl PartialEq for BitVecRef<'_> {
 /// The characters; `?` for each where [`BitVecRef::bit_string`] is refused.
 impl Display for BitVecRef<'_> {
     fn fmt(&self, f: &mut Formatter<'_>) -> fmt::Result {
-        match self.width() {
-            ..=64 => self.show(f, &mut [0; 64]),
+        match self.width() as usize {
+            ..=SHORT => self.show(f, &mut [0; SHORT]),
             _ => self.show(f, &mut [0; MAX_WIDTH as usize]),
         }
     }

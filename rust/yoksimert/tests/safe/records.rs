@@ -100,6 +100,11 @@ fn value(signal: &Signal, entry: u32, value: SignalValueRef, numbers: &mut Numbe
                 let mut out = vec![b'!'; length];
                 let written = numbers.note(levels.write_bit_string(&mut out));
                 assert_eq!(written.map(|()| out), text(signal, entry, length));
+                let mut buffer = vec![b'!'; length];
+                let shown = numbers.note(levels.bit_str(&mut buffer));
+                let shown = shown.map(|text| text.as_bytes().to_vec());
+                let expected = text(signal, entry, length).map(|text| text[..width].to_vec());
+                assert_eq!(shown, expected);
             }
         }
     }
