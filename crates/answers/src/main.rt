@@ -37,6 +37,11 @@ fn operation(line: &[u8]) -> usize {
     if has_word(line, 1, b"derive") {
         return 8;
     }
+    later_operation(line)
+}
+
+// The same of those that document 01 doesn't have.
+fn later_operation(line: &[u8]) -> usize {
     if has_word(line, 1, b"unsigned") {
         return 9;
     }

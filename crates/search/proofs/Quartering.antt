@@ -33,13 +33,20 @@ not-above-within s (i ∷ l) = go (leb i s) (not-above-within s l)
     go false h = omega arith
 
 -- one more
-not-above-suc : (s : ℕ) (l : List ℕ) (i : ℕ) → i < length l → notAbove s (drop i l) ≡ boolByte (leb (getD l i 0) s) + notAbove s (drop (suc i) l)
+not-above-cons : (s i : ℕ) (l : List ℕ) → notAbove s (i ∷ l) ≡ cond (leb i s) 1 0 + notAbove s l
 unfolding notAbove
-not-above-suc s l i h = rw (drop-cons l i 0) (go (leb (getD l i 0) s))
+not-above-cons s i l = go (leb i s)
   where
-    go : (b : Bool) → cond b (suc (notAbove s (drop (suc i) l))) (notAbove s (drop (suc i) l)) ≡ boolByte b + notAbove s (drop (suc i) l)
+    go : (b : Bool) → cond b (suc (notAbove s l)) (notAbove s l) ≡ cond b 1 0 + notAbove s l
     go true = omega arith
     go false = omega arith
+
+byte-is : (b : Bool) → boolByte b ≡ cond b 1 0
+byte-is true = refl
+byte-is false = refl
+
+not-above-suc : (s : ℕ) (l : List ℕ) (i : ℕ) → i < length l → notAbove s (drop i l) ≡ boolByte (leb (getD l i 0) s) + notAbove s (drop (suc i) l)
+not-above-suc s l i h = rw (drop-cons l i 0, byte-is (leb (getD l i 0) s)) (not-above-cons s (getD l i 0) (drop (suc i) l))
 
 pub not-above-step : (s : ℕ) (l : List ℕ) (i : ℕ) → i < length l → notAbove s (drop i l) ≡ boolByte (leb (getD l i 0) s) + notAbove s (drop (i + 1) l)
 not-above-step s l i h = rw add-one (not-above-suc s l i h)
@@ -54,18 +61,9 @@ one-at-most false = omega arith
 -- as many quarters as have an end that is not above
 pub passed-by : (s a b c : ℕ) → notAbove s (a ∷ b ∷ c ∷ []) ≡ cond (leb a s) 1 0 + cond (leb b s) 1 0 + cond (leb c s) 1 0
 unfolding notAbove
-passed-by s a b c = go (leb a s) (leb b s) (leb c s)
-  where
-    go : (p q r : Bool)
-        → cond p (suc (cond q (suc (cond r 1 0)) (cond r 1 0))) (cond q (suc (cond r 1 0)) (cond r 1 0)) ≡ cond p 1 0 + cond q 1 0 + cond r 1 0
-    go true true true = omega arith
-    go true true false = omega arith
-    go true false true = omega arith
-    go true false false = omega arith
-    go false true true = omega arith
-    go false true false = omega arith
-    go false false true = omega arith
-    go false false false = omega arith
+passed-by s a b c =
+    let none-left : notAbove s [] ≡ 0 = refl in
+    omega (arith, not-above-cons s a (b ∷ c ∷ []), not-above-cons s b (c ∷ []), not-above-cons s c [], none-left)
 
 pub three-at-most : (s : ℕ) (l : List ℕ) → notAbove s (ends l) * (length l / 4) ≤ 3 * (length l / 4)
 three-at-most s l = mul-le-mul-right (length l / 4) (not-above-within s (ends l))
@@ -75,7 +73,7 @@ three-at-most s l = mul-le-mul-right (length l / 4) (not-above-within s (ends l)
 abbrev pub passed : ℕ → List ℕ → ℕ
 passed s l = notAbove s (ends l) * (length l / 4)
 
-abbrev left : ℕ → List ℕ → List ℕ
+abbrev pub left : ℕ → List ℕ → List ℕ
 left s l = part (passed s l) (length l - 3 * (length l / 4)) l
 
 left-length : (s : ℕ) (l : List ℕ) → length (left s l) ≡ length l - 3 * (length l / 4)

@@ -20,7 +20,7 @@ use Rattle.offset.specs.Search.{Last}
 use Rattle.offset.proofs.Search.{rising, place-is, last-greatest, Carrying, run-is}
 use Rattle.offset.proofs.Offsets.{look-up-long, look-up-rising, place-empty, place-above, place-reached, place-found}
 use Rattle.search.specs.Quartering.{notAbove, ends, quartered, rank, reachOf, startOf, runUpTo, search}
-use Rattle.search.proofs.Quartering.{passed, three-at-most, start-some, start-zero, search-long, search-given, run-none, run-at}
+use Rattle.search.proofs.Quartering.{passed, left, start-some, start-zero, search-long, search-given, run-none, run-at}
 
 -- ---- a list in order, and where an index parts it
 
@@ -56,24 +56,29 @@ count-parts s (x ∷ l) o = go (leb x s) refl (count-parts s l (λ i j h k. o (s
           high = λ k h i. above k i;
         }
 
+-- a part of a list is in order too, and as long as there are indices for
+part-long : (l : List ℕ) (p n : ℕ) → length (part p n l) ≡ min n (length l - p)
+unfolding part
+part-long l p n = length-take n (drop p l) ∙ ap (min n) (length-drop p l)
+
+at-part : (l : List ℕ) (p n k : ℕ) → p ≤ k → k - p < n → getD (part p n l) (k - p) 0 ≡ getD l k 0
+at-part l p n k h i =
+    let same : p + (k - p) ≡ k = omega arith in
+    part-at l p n (k - p) 0 i ∙ ap (λ (m : ℕ). getD l m 0) same
+
+ordered-part : (l : List ℕ) → Ordered l → (p n : ℕ) → Ordered (part p n l)
+ordered-part l o p n i j h k =
+    let long = part-long l p n in
+    rw (part-at l p n i 0 (omega arith), part-at l p n j 0 (omega arith)) (o (p + i) (p + j) (omega arith) (omega arith))
+
 -- a part that the index parts, in front of which no index is above, and behind which all are
 module _ (s : ℕ) (l : List ℕ) (o : Ordered l) (p m : ℕ) (within : p + m ≤ length l) where
-  at-part : (k : ℕ) → p ≤ k → k < p + m → getD (part p m l) (k - p) 0 ≡ getD l k 0
-  at-part k h i =
-      let same : p + (k - p) ≡ k = omega arith in
-      part-at l p m (k - p) 0 (omega arith) ∙ ap (λ (n : ℕ). getD l n 0) same
-
-  ordered-part : Ordered (part p m l)
-  ordered-part i j h k =
-      let long = part-length l p m within in
-      rw (part-at l p m i 0 (omega arith), part-at l p m j 0 (omega arith)) (o (p + i) (p + j) (omega arith) (omega arith))
-
   parts-part : (r : ℕ) → (0 < p → getD l (p - 1) 0 ≤ s) → (p + m < length l → s < getD l (p + m) 0) → Parted s (part p m l) r → Parted s l (p + r)
   parts-part r below above q =
       record {
         within = omega (arith, q .within, long);
-        low = λ k h. by-le p k (λ i. omega (arith, q .low (k - p) (omega arith), at-part k i (omega (arith, q .within, long)))) (λ i. omega (arith, below (omega arith), o k (p - 1) (omega arith) (omega arith)));
-        high = λ k h i. by-le (p + m) k (λ j. omega (arith, above (omega arith), o (p + m) k j i)) (λ j. omega (arith, q .high (k - p) (omega arith) (omega (arith, long)), at-part k (omega arith) j));
+        low = λ k h. by-le p k (λ i. omega (arith, q .low (k - p) (omega arith), at-part l p m k i (omega (arith, q .within, long)))) (λ i. omega (arith, below (omega arith), o k (p - 1) (omega arith) (omega arith)));
+        high = λ k h i. by-le (p + m) k (λ j. omega (arith, above (omega arith), o (p + m) k j i)) (λ j. omega (arith, q .high (k - p) (omega arith) (omega (arith, long)), at-part l p m k (omega arith) (omega arith)));
       }
     where
       long : length (part p m l) ≡ m
@@ -127,11 +132,10 @@ quartered-parts : (n s : ℕ) (l : List ℕ) → Ordered l → Parted s l (quart
 unfolding quartered
 quartered-parts zero s l o = count-parts s l o
 quartered-parts (suc n) s l o =
-    go (leb (length l) 16) refl
-    (quartered-parts n s (part (passed s l) (length l - 3 * (length l / 4)) l) (ordered-part s l o (passed s l) (length l - 3 * (length l / 4)) (omega (arith, three-at-most s l))))
+    go (leb (length l) 16) refl (quartered-parts n s (left s l) (ordered-part l o (passed s l) (length l - 3 * (length l / 4))))
   where
-    go : (b : Bool) → leb (length l) 16 ≡ b → Parted s (part (passed s l) (length l - 3 * (length l / 4)) l) (quartered n s (part (passed s l) (length l - 3 * (length l / 4)) l))
-        → Parted s l (cond b (notAbove s l) (passed s l + quartered n s (part (passed s l) (length l - 3 * (length l / 4)) l)))
+    go : (b : Bool) → leb (length l) 16 ≡ b → Parted s (left s l) (quartered n s (left s l))
+        → Parted s l (cond b (notAbove s l) (passed s l + quartered n s (left s l)))
     go true e t = count-parts s l o
     go false e t =
         let far = leb-false (length l) 16 e in
@@ -142,15 +146,6 @@ unfolding rank
 rank-parts s l o = quartered-parts (length l) s l o
 
 -- ---- where a run begins
-
-part-long : (l : List ℕ) (p n : ℕ) → length (part p n l) ≡ min n (length l - p)
-unfolding part
-part-long l p n = length-take n (drop p l) ∙ ap (min n) (length-drop p l)
-
-ordered-window : (l : List ℕ) → Ordered l → (p n : ℕ) → Ordered (part p n l)
-ordered-window l o p n i j h k =
-    let long = part-long l p n in
-    rw (part-at l p n i 0 (omega arith), part-at l p n j 0 (omega arith)) (o (p + i) (p + j) (omega arith) (omega arith))
 
 -- the run of an index that ends at a place begins behind smaller indices
 record Begins (i : ℕ) (l : List ℕ) (end start : ℕ) : Type 0 where
@@ -190,16 +185,12 @@ module _ (i : ℕ) (l : List ℕ) (o : Ordered l) (end : ℕ) (some : 1 ≤ end)
       some-begins h =
           let n = reachOf end 1 i l end in
           let p = end - n in
-          let q = rank-parts (i - 1) (part p n l) (ordered-window l o p n) in
+          let q = rank-parts (i - 1) (part p n l) (ordered-part l o p n) in
           let is = start-some i l end h in
           let long = part-long l p n in
-          let there : (k : ℕ) → p ≤ k → k - p < n → getD (part p n l) (k - p) 0 ≡ getD l k 0 =
-          λ k j m.
-          let same : p + (k - p) ≡ k = omega arith in
-          part-at l p n (k - p) 0 m ∙ ap (λ (x : ℕ). getD l x 0) same in
           record {
-            before = λ k j. by-le p k (λ m. omega (arith, q .low (k - p) (omega arith), there k m (omega (arith, q .within, long)))) (λ m. reach-below end 1 k (omega arith) (omega arith) m);
-            from = λ k j m. omega (arith, q .high (k - p) (omega arith) (omega (arith, long)), there k (omega arith) (omega arith));
+            before = λ k j. by-le p k (λ m. omega (arith, q .low (k - p) (omega arith), at-part l p n k m (omega (arith, q .within, long)))) (λ m. reach-below end 1 k (omega arith) (omega arith) m);
+            from = λ k j m. omega (arith, q .high (k - p) (omega arith) (omega (arith, long)), at-part l p n k (omega arith) (omega arith));
           }
 
 -- ---- Look up's answer

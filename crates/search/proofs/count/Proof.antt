@@ -21,12 +21,6 @@ abbrev μ-loop : tie.MeasureT-loop
 loop-holds : tie.Need-loop-holds Inv-loop μ-loop
 loop-holds c = (omega arith, omega arith, omega arith)
 
-add-counted : tie.Need-add-counted Inv-loop μ-loop
-add-counted c =
-    let at-loop = c .before .before in
-    let a = at-loop .before .args in
-    omega (arith, one-at-most (leb (getD (a .indices .now) (at-loop .loop .i) 0) (a .needle)), at-loop .loop .inv .1, at-loop .before .pre)
-
 loop-again : tie.Need-loop-again Inv-loop μ-loop
 loop-again c =
     let at-loop = c .before .before in
@@ -38,6 +32,12 @@ loop-again c =
       omega (arith, more, at-loop .loop .inv .1),
       omega (arith, not-above-step (a .needle) l i (c .before .loop-test .taken), at-loop .loop .inv .2),
     )
+
+add-counted : tie.Need-add-counted Inv-loop μ-loop
+add-counted c =
+    let at-loop = c .before .before in
+    let a = at-loop .before .args in
+    omega (arith, one-at-most (leb (getD (a .indices .now) (at-loop .loop .i) 0) (a .needle)), at-loop .loop .inv .1, at-loop .before .pre)
 
 returns : tie.Need-returns Inv-loop μ-loop
 returns c =
