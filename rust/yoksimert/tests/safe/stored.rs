@@ -177,53 +177,50 @@ fn vectors_are_taken_as_by_the_oracle() {
     assert!(sound > ROUNDS / 10, "{sound}");
 }
 
+/// These vectors are refused with this fault, which begins to tell so.
+fn assert_told(
+    indices: &[u32],
+    encoding: FixedWidthEncoding,
+    bytes: &[u8],
+    fault: Unsound,
+    told: &str,
+) {
+    let refused = Signal::checked(indices.to_vec(), encoding, bytes.to_vec());
+    assert_eq!(refused.err(), Some(fault));
+    assert!(fault.to_string().starts_with(told), "{fault}");
+    assert_eq!(Refusal::from(fault), fault.refusal());
+}
+
 #[test]
 fn faults_are_told() {
     let (nine, event) = (levels(States::Nine, 1), FixedWidthEncoding::Event);
-    let wide = levels(States::Two, 4_097);
+    let wide = Unsound::Width(4_097);
+    assert_told(
+        &[0],
+        levels(States::Two, 4_097),
+        &[],
+        wide,
+        "a width of 4097 is ",
+    );
+    let (many, most) = (vec![0; MAXIMUM + 1], Unsound::TooMany(MAXIMUM + 1));
+    assert_told(&many, event, &[], most, "1048577 time indices are more ");
     let short = Unsound::Length {
         entries: 2,
         expected: 2,
         found: 1,
     };
-    let (falls, mark, code) = (
-        Unsound::IndexFalls(3),
-        Unsound::BadMark(1),
-        Unsound::BadCode(2),
+    assert_told(&[0, 1], nine, &[0], short, "2 entries take 2 bytes, and 1 ");
+    let (falls, indices) = (Unsound::IndexFalls(3), [0, 1, 1, 0, 2, 1]);
+    assert_told(&indices, nine, &[0x99; 6], falls, "entry 3: the time ");
+    let (mark, code) = (Unsound::BadMark(1), Unsound::BadCode(2));
+    assert_told(
+        &[0, 1, 2],
+        nine,
+        &[0, 0xc0, 0x89],
+        mark,
+        "entry 1: the mark ",
     );
-    let (many, most) = (vec![0; MAXIMUM + 1], Unsound::TooMany(MAXIMUM + 1));
-    let rows: [(&[u32], _, &[u8], _, _); 6] = [
-        (
-            &[0],
-            wide,
-            &[],
-            Unsound::Width(4_097),
-            "a width of 4097 is ",
-        ),
-        (&many, event, &[], most, "1048577 time indices are more "),
-        (&[0, 1], nine, &[0], short, "2 entries take 2 bytes, and 1 "),
-        (
-            &[0, 1, 1, 0, 2, 1],
-            nine,
-            &[0x99; 6],
-            falls,
-            "entry 3: the time ",
-        ),
-        (
-            &[0, 1, 2],
-            nine,
-            &[0, 0xc0, 0x89],
-            mark,
-            "entry 1: the mark ",
-        ),
-        (&[0, 1, 2], nine, &[0, 0x88, 0x89], code, "entry 2: a code "),
-    ];
-    for (indices, encoding, bytes, fault, told) in rows {
-        let refused = Signal::checked(indices.to_vec(), encoding, bytes.to_vec());
-        assert_eq!(refused.err(), Some(fault));
-        assert!(fault.to_string().starts_with(told), "{fault}");
-        assert_eq!(Refusal::from(fault), fault.refusal());
-    }
+    assert_told(&[0, 1, 2], nine, &[0, 0x88, 0x89], code, "entry 2: a code ");
     assert!(Signal::checked(vec![7; 3], event, vec![]).is_ok());
 }
 
