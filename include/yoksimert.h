@@ -35,7 +35,7 @@ uint32_t yoksimert_version_1(void);
 static uint32_t (*const yoksimert_linked)(void) YOKSIMERT_KEPT = yoksimert_version;
 #endif
 
-/* The refusals. No call gives 15. */
+/* The refusals. */
 enum {
     YOKSIMERT_WIDTH_TOO_LARGE = 1, /* width above 4,096 */
     YOKSIMERT_BAD_RECORD = 2, /* not a record, or not within a slice */
@@ -51,6 +51,7 @@ enum {
     YOKSIMERT_BAD_RANGE = 12, /* a piece's msb is below its lsb, or above 4,095 */
     YOKSIMERT_DERIVATION_FULL = 13, /* a ninth input, a 65th piece, or a sum of widths above 4,096 */
     YOKSIMERT_BAD_DERIVATION = 14, /* not a derivation, or not one of these inputs */
+    YOKSIMERT_LATE_INPUT = 15, /* an input is empty, or doesn't start at index 0 */
     YOKSIMERT_WRONG_WIDTH = 16, /* a width above 64, or, for packed decimal, not a multiple of 4 */
     YOKSIMERT_NOT_BINARY = 17, /* a level that is neither 0 nor 1 */
     YOKSIMERT_NOT_DECIMAL = 18 /* a digit of packed decimal is above 9 */
@@ -282,8 +283,8 @@ yoksimert_joined yoksimert_concat_right_full(
     uint32_t signal,
     uint32_t width);
 
-/* Derive: the record of a derivation of bit vectors, into the first bytes and indices of the output slices. An input may begin at any index
- * or have no entry; until its first entry its levels are x. Refused: 2, 14, 11, 9, 10, 7. */
+/* Derive: the record of a derivation of bit vectors, into the first bytes and indices of the output slices. Refused: 2, 14, 15, 11, 9, 10,
+ * 7. */
 yoksimert_made yoksimert_derive(
     yoksimert_derivation derivation,
     const uint32_t names[8],

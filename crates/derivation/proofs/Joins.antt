@@ -135,11 +135,11 @@ module _ (l : List ℕ) (n : ℕ) (room : n ≤ length l) where
   pub count_is : length packed ≡ n
   count_is = length-map (take n l) extract_of ∙ length-take-le n l room
 
-  pub piece_at_lem : (i : ℕ) → i < n → get_or packed i (extract_of 0) ≡ extract_of (get_or l i 0)
-  piece_at_lem i h = get_or-map extract_of (take n l) i 0 ∙ ap extract_of (get_or-take n l i 0 h)
+  pub piece_at : (i : ℕ) → i < n → get_or packed i (extract_of 0) ≡ extract_of (get_or l i 0)
+  piece_at i h = get_or-map extract_of (take n l) i 0 ∙ ap extract_of (get_or-take n l i 0 h)
 
   pub width_at_lem : (i : ℕ) → i < n → (extract_of (get_or l i 0)).width ≤ sum (map piece_width packed)
-  width_at_lem i h = rw (← piece_at_lem i h) (width_le packed i (extract_of 0) (rw count_is h))
+  width_at_lem i h = rw (← piece_at i h) (width_le packed i (extract_of 0) (rw count_is h))
 
   last_piece : 0 < n → packed ≡ map extract_of (take (n - 1) l) ++ (extract_of (get_or l (n - 1) 0) ∷ [])
   last_piece h =
@@ -151,7 +151,7 @@ module _ (l : List ℕ) (n : ℕ) (room : n ≤ length l) where
   module _ (e : Extract) where
     pub merges_left : 0 < n → merges Left e packed ≡ adjoin e (extract_of (get_or l 0 0))
     unfolding merges
-    merges_left h = ap (merges Left e) (drop-cons packed 0 (extract_of 0) (rw count_is h)) ∙ ap (adjoin e) (piece_at_lem 0 h)
+    merges_left h = ap (merges Left e) (drop-cons packed 0 (extract_of 0) (rw count_is h)) ∙ ap (adjoin e) (piece_at 0 h)
 
     pub merges_right : 0 < n → merges Right e packed ≡ adjoin (extract_of (get_or l (n - 1) 0)) e
     merges_right h = ap (merges Right e) (last_piece h) ∙ last_right e (map extract_of (take (n - 1) l)) (extract_of (get_or l (n - 1) 0))

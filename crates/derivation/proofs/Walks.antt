@@ -22,7 +22,7 @@ use Rattle.derivation.specs.declared.InputNumber.TheVariants.{At, Missing}
 use Rattle.derivation.specs.Piece.{Sized, extract_of, is_bad_piece, piece_width, pieces_of}
 use Rattle.derivation.specs.Answer.{input_number}
 use Rattle.derivation.specs.contracts.DerivedBitVecSignal.{the_type}
-use Rattle.derivation.proofs.Joins.{count_is, piece_at_lem}
+use Rattle.derivation.proofs.Joins.{count_is, piece_at}
 
 -- a derivation in the code has its places
 pub sized : (d : DerivedBitVecSignal) (vs : List Val) → Is (row the_type) d vs → Sized d
@@ -121,7 +121,7 @@ module _ {d : DerivedBitVecSignal} {s i : ℕ} (p : Passed d s i) (room : d.piec
     next : drop i (pieces_of d) ≡ e ∷ drop (suc i) (pieces_of d)
     next =
         drop-cons (pieces_of d) i (extract_of 0) (rw (count_is d.bits d.piece_count room) h)
-        ∙ ap (λ (x : Extract). x ∷ drop (suc i) (pieces_of d)) (piece_at_lem d.bits d.piece_count room i h ∙ sym is)
+        ∙ ap (λ (x : Extract). x ∷ drop (suc i) (pieces_of d)) (piece_at d.bits d.piece_count room i h ∙ sym is)
 
     pub passed_bad : is_bad_piece d.input_count e ≡ true → any (bad d) (pieces_of d) ≡ true
     unfolding any

@@ -24,6 +24,7 @@ refusal_number refusal.IndexFalls = 11
 refusal_number refusal.BadRange = 12
 refusal_number refusal.DerivationFull = 13
 refusal_number refusal.BadDerivation = 14
+refusal_number refusal.LateInput = 15
 refusal_number refusal.WrongWidth = 16
 refusal_number refusal.NotBinary = 17
 refusal_number refusal.NotDecimal = 18

@@ -1,13 +1,14 @@
 -- An input that is not refused with 2, its marks, and a test over the inputs in their slots.
 -- Assumes nothing.
-use Prim.Native.Nat.{◌+◌, ◌<◌, ◌≤◌, min, ℕ}
-use borrow.Author.Tests.{le-leb, le-ltb, lt-ltb}
+use Prim.Native.Nat.{◌+◌, ◌<◌, ◌≤◌, min, suc, zero, ℕ}
+use borrow.Author.Tests.{le-leb, le-ltb, lt-ltb, ne_eqb}
 use denote.Laws.{Is}
 use denote.Struct.Declared.{row}
+use lib.Dec.{eqb}
 use lib.ListN.{get_or-map, get_or, length, length-map, length-take}
 use lib.Seq.{get_or-take}
-use mathlib.Core.Bool.{Bool, false, true, true≢false}
-use mathlib.Core.List.{List, map}
+use mathlib.Core.Bool.{Bool, false, not, true, true≢false}
+use mathlib.Core.List.{List, [], ◌∷◌, map}
 use mathlib.Core.Path.{◌∙◌, ◌≡◌, ap, refl, sym}
 use mir.Val.{Val}
 use native.Mathlib.Omega.{arith}
@@ -22,7 +23,7 @@ use Rattle.fst.specs.declared.Encoding.{Encoding}
 use Rattle.fst.specs.declared.Encoding.TheVariants.{BitVector, Event, Real}
 use Rattle.fst.proofs.Records.{Standing, bytes_used}
 use Rattle.signal.specs.Decode.{has_bad_mark, mark_in}
-use Rattle.steps.specs.Inputs.{input_kept, inputs_of, kept_all, lent_to}
+use Rattle.steps.specs.Inputs.{input_kept, inputs_of, is_late, kept_all, lent_to}
 use Rattle.steps.specs.declared.Input.{Input}
 use Rattle.steps.specs.declared.Inputs.{Inputs}
 use Rattle.steps.specs.contracts.Inputs.{the_type}
@@ -36,6 +37,15 @@ Stands bytes indices i = Standing i.description (lent_to bytes indices i)
 pub used_stands : {d : Description} {l : Lent} → Standing d l → is_bad_bytes d 0 (part l.byte_start (used_size d) l.bytes) ≡ false
 unfolding is_bad_bytes fits_bytes
 used_stands {d} s = rw (s.width, le-leb d.count maximum s.room.count, bytes_used s, le-leb (0 + used_size d) (used_size d) (omega arith))
+
+pub late_first : (l : List ℕ) → 0 < length l → not (eqb (get_or l 0 0) 0) ≡ is_late l
+late_first [] h = absurd (omega arith)
+late_first (zero ∷ l) h = refl
+late_first (suc i ∷ l) h = rw (ne_eqb (suc i) 0 (λ z. omega arith))
+
+pub late_none : (l : List ℕ) → length l ≡ 0 → true ≡ is_late l
+late_none [] h = refl
+late_none (x ∷ l) h = absurd (omega arith)
 
 -- ---- marks
 

@@ -1,15 +1,14 @@
 -- What an input shows: its own set, the bytes of its levels, the levels that a piece picks.
 -- Assumes nothing.
-use Prim.Native.Nat.{◌-◌, ◌<◌, ◌^◌, ◌≤◌, suc, zero, ℕ}
+use Prim.Native.Nat.{◌-◌, ◌<◌, ◌^◌, ◌≤◌, ℕ}
 use borrow.Author.Tests.{ltb-false}
-use lib.ListN.{drop, length, length-replicate}
+use lib.ListN.{drop, length}
 use mathlib.Core.Bool.{false}
 use mathlib.Core.List.{List}
-use mathlib.Core.Option.{none}
 use mathlib.Core.Path.{◌∙◌, ◌≡◌, ap, refl}
 use native.Mathlib.Omega.{arith}
 use Rattle.value.specs.Digits.{Below}
-use Rattle.value.specs.Level.{bits_of, code_of, len_of, mark_of, place_in, set_at}
+use Rattle.value.specs.Level.{bits_of, len_of, mark_of, set_at}
 use Rattle.value.specs.declared.States.{States}
 use Rattle.value.proofs.Digits.{digits_length}
 use Rattle.value.proofs.Levels.{mark_set, mark_small}
@@ -20,12 +19,6 @@ use Rattle.signal.specs.Decode.{codes_at, has_bad_mark, level_part, levels_in, m
 use Rattle.signal.specs.Parts.{Levels, Whole, own_states}
 use Rattle.signal.proofs.Decoding.{codes_below}
 use Rattle.signal.proofs.Reading.{Owned, owned, some}
-use Rattle.steps.specs.Stepping.{Cursor, levels_now, once_begun, set_now, shown_bytes, width_now}
-use Rattle.steps.specs.Steps.{levels_shown, set_shown, unknown}
-
-pub once_begun_lem : {A : Type 0} {k : ℕ} (before now : A) → 1 ≤ k → once_begun k before now ≡ now
-once_begun_lem {k = zero} before now h = absurd (omega arith)
-once_begun_lem {k = suc k} before now h = refl
 
 -- an entry u of a bit vector, and what the code finds in it
 module _ {w : ℕ} {M : States} {v : List ℕ} (h : Whole (BitVector w M) v) {u : List ℕ} (r : u ≡ v) where
@@ -65,34 +58,6 @@ unfolding levels_in set_in
 levels_below Event v = tt
 levels_below Real v = tt
 levels_below (BitVector w M) v = codes_below w (set_at (mark_in M v)) _
-
--- ---- the levels of an input that has not begun
-
--- `x` is a level of set Four
-pub unknown_small : unknown < 4
-unfolding code_of place_in
-unknown_small = omega arith
-
--- so are all levels of an input that has not begun
-pub unknowns_below : (B n : ℕ) → unknown < B → Below B (levels_shown n none)
-unknowns_below B zero h = tt
-unknowns_below B (suc n) h = (h, unknowns_below B n h)
-
--- what an input shows: as many levels as it is wide, all of its set
-pub now_length : (bytes : List ℕ) (c : Cursor) → length (levels_now bytes c) ≡ width_now c
-now_length bytes c = go c.begun
-  where
-    go : (k : ℕ) → length (once_begun k (levels_shown (width_now c) none) (levels_in c.input.description.encoding (shown_bytes bytes c))) ≡ width_now c
-    go zero = length-replicate (width_now c) unknown
-    go (suc k) = levels_length c.input.description.encoding (shown_bytes bytes c)
-
-pub now_below : (bytes : List ℕ) (c : Cursor) → Below (2 ^ bits_of (set_now bytes c)) (levels_now bytes c)
-now_below bytes c = go c.begun
-  where
-    go : (k : ℕ) → Below (2 ^ bits_of (once_begun k (set_shown none) (set_in c.input.description.encoding (shown_bytes bytes c))))
-        (once_begun k (levels_shown (width_now c) none) (levels_in c.input.description.encoding (shown_bytes bytes c)))
-    go zero = unknowns_below 4 (width_now c) unknown_small
-    go (suc k) = levels_below c.input.description.encoding (shown_bytes bytes c)
 
 -- the set of an entry whose mark is a set's is within the largest
 pub mark_within : (x : Encoding) (v : List ℕ) → has_bad_mark x v ≡ false → mark_of (set_in x v) ≤ mark_of (largest_in x)

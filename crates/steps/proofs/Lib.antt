@@ -4,11 +4,9 @@ pub mod Levels
 pub mod Tables
 pub mod Tracks
 pub mod Sources
-pub mod Between
 pub mod Walk
 pub mod Appending
 pub mod Storing
 pub mod Rooms
 pub mod Totals
 pub mod Moments
-pub mod Shows

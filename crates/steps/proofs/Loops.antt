@@ -1,22 +1,33 @@
 -- Loops over the inputs from the last to the first: what each turn keeps.
 -- Assumes nothing.
-use Prim.Native.Nat.{◌+◌, ◌<◌, ◌≤◌, suc, zero, ℕ}
-use lib.ListN.{drop, drop_of_length-le, get_or, length, take}
-use lib.Seq.{drop-cons, get_or-take, length-take-le, take-take}
+use Prim.Native.Nat.{◌+◌, ◌<◌, ◌≤◌, min, suc, zero, ℕ}
+use borrow.Author.Tests.{eq-eqb, ne_eqb}
+use lib.ListN.{drop, drop_of_length-le, get_or, length, length-set, set, take}
+use lib.Seq.{drop-cons, drop-set-lt, get_or-set_same, get_or-take, length-take-le, take-set-le, take-take}
 use mathlib.Core.List.{List, [], ◌∷◌, map}
 use mathlib.Core.Path.{◌∙◌, ◌≡◌, ap, ap₂, refl, sym}
 use native.Mathlib.Omega.{arith}
 use Rattle.value.specs.Slice.{part}
 use Rattle.value.proofs.Slices.{part_at, part_length}
+use Rattle.fst.specs.declared.NextIndex.{NextIndex}
 use Rattle.fst.specs.declared.NextIndex.TheVariants.{Absent, At}
 use Rattle.runs.specs.All.{All}
 use Rattle.runs.proofs.All.{all_at}
 use Rattle.offset.specs.Offset.{head_of}
 use Rattle.steps.specs.Inputs.{inputs_of}
-use Rattle.steps.specs.Stepping.{Cursor, Reaches, advanced, begun_at, cursor, cursors, next_in}
+use Rattle.steps.specs.Stepping.{Cursor, Reaches, advanced, begun_at, cursor, cursors, next_in, soonest}
+use Rattle.steps.specs.Steps.{smaller}
 use Rattle.steps.specs.declared.Input.{Input}
 use Rattle.steps.specs.declared.Inputs.{Inputs}
 use Rattle.steps.proofs.InputTests.{no_input}
+
+-- ---- the smaller of two indices
+
+pub smaller_right : (i j : ℕ) → j < i → At j ≡ smaller (At i) (At j)
+smaller_right i j h = ap At (let e : j ≡ min i j = omega arith in e)
+
+pub smaller_left : (i j : ℕ) → i ≤ j → At i ≡ smaller (At i) (At j)
+smaller_left i j h = ap At (let e : i ≡ min i j = omega arith in e)
 
 -- ---- lists
 
@@ -63,7 +74,16 @@ module _ (indices : List ℕ) (input : Input) (k : ℕ) (room : Reaches indices 
   unfolding next_in
   next_none h = ap head_of (sym (drop_of_length-le own {i = k} (rw own_length h)))
 
-  module _ (j : ℕ) (e : next_in indices (cursor input k) ≡ At j) where
+  pub begun_none : next_in indices (cursor input k) ≡ Absent → (i : ℕ) → k ≡ begun_at i k (next_in indices (cursor input k))
+  begun_none e i = rw e
+
+  module _ (j : ℕ) (e : next_in indices (cursor input k) ≡ At j) (i : ℕ) where
+    pub begun_on : j ≡ i → k + 1 ≡ begun_at i k (next_in indices (cursor input k))
+    begun_on h = rw (e, eq-eqb j i h)
+
+    pub begun_stays : (j ≡ i → ⊥) → k ≡ begun_at i k (next_in indices (cursor input k))
+    begun_stays h = rw (e, ne_eqb j i h)
+
     -- an entry that comes next is one of the input's
     pub next_within : k < input.description.count
     unfolding next_in
@@ -97,6 +117,10 @@ module _ (inputs : Inputs) (few : inputs.count ≤ 8) (slots : length inputs.slo
   pub from_end : (ks : List ℕ) → from inputs inputs.count ks ≡ []
   from_end ks = ap (λ (l : List Input). cursors l (drop inputs.count ks)) (drop_of_length-le all {i = inputs.count} (rw all_length (omega arith)))
 
+  pub soonest_none : (indices ks : List ℕ) → Absent ≡ soonest indices (from inputs inputs.count ks)
+  unfolding soonest
+  soonest_none indices ks = ap (soonest indices) (sym (from_end ks))
+
   pub cursors_count : (ks : List ℕ) → length ks ≡ 8 → length (cursors all ks) ≡ inputs.count
   cursors_count ks m = cursors_length all ks (rw all_length (omega arith)) ∙ all_length
 
@@ -120,6 +144,12 @@ module _ (inputs : Inputs) (few : inputs.count ≤ 8) (slots : length inputs.slo
         (drop-cons all i no_input (rw all_length h) ∙ ap (λ (x : Input). x ∷ drop (suc i) all) (get_or-take inputs.count inputs.slots i no_input h))
         (drop-cons ks i 0 (omega arith))
 
+    pub soonest_more : (indices ks : List ℕ) → length ks ≡ 8 → (next rest : NextIndex) → next ≡ next_in indices (cursor (get_or inputs.slots i no_input) (get_or ks i 0))
+        → (n : ℕ) → suc i ≡ n → rest ≡ soonest indices (from inputs n ks) → smaller next rest ≡ soonest indices (from inputs i ks)
+    unfolding soonest
+    soonest_more indices ks m next rest e n q f =
+        ap₂ smaller e (f ∙ ap (λ (n : ℕ). soonest indices (from inputs n ks)) (sym q)) ∙ ap (soonest indices) (sym (from_here ks m))
+
   module _ (indices : List ℕ) (index : ℕ) (old : List ℕ) (m : length old ≡ 8) where
     pub moved_none : Moved inputs indices index old old inputs.count
     moved_none = record { places = m; before = refl; after = from_end old ∙ ap (map (advanced indices index)) (sym (from_end old)) }
@@ -131,19 +161,22 @@ module _ (inputs : Inputs) (few : inputs.count ≤ 8) (slots : length inputs.slo
       pub unmoved : get_or new i 0 ≡ get_or old i 0
       unmoved = sym (get_or-take (suc i) new i 0 (omega arith)) ∙ ap (λ (l : List ℕ). get_or l i 0) g.before ∙ get_or-take (suc i) old i 0 (omega arith)
 
-      -- input i is moved, or has not to move
-      pub moved_more : (now : List ℕ) → length now ≡ 8 → take i now ≡ take i new → drop (suc i) now ≡ drop (suc i) new
-          → get_or now i 0 ≡ begun_at index (get_or new i 0) (next_in indices (cursor (get_or inputs.slots i no_input) (get_or new i 0)))
-          → Moved inputs indices index old now i
-      moved_more now l lower upper e =
+      pub moved_more : (k : ℕ) → k ≡ begun_at index (get_or new i 0) (next_in indices (cursor (get_or inputs.slots i no_input) (get_or new i 0)))
+          → Moved inputs indices index old (set new i k) i
+      moved_more k e =
+          let z = g.places in
+          let l : length (set new i k) ≡ 8 = length-set new i k ∙ z in
           let t : take i (take (suc i) new) ≡ take i (take (suc i) old) = ap (take i) g.before in
           record {
             places = l;
-            before = lower ∙ sym (take-take i (suc i) new (omega arith)) ∙ t ∙ take-take i (suc i) old (omega arith);
+            before =
+                take-set-le i new i k (omega arith)
+                ∙ sym (take-take i (suc i) new (omega arith)) ∙ t ∙ take-take i (suc i) old (omega arith);
             after =
-                from_here i h now l
+                from_here i h (set new i k) l
                 ∙ ap₂ (λ (n : ℕ) (r : List Cursor). cursor (get_or inputs.slots i no_input) n ∷ r)
-                (e ∙ ap (λ (n : ℕ). begun_at index n (next_in indices (cursor (get_or inputs.slots i no_input) n))) unmoved)
-                (ap (λ (r : List ℕ). cursors (drop (suc i) all) r) upper ∙ g.after)
+                (get_or-set_same new i k 0 (omega arith) ∙ e
+                ∙ ap (λ (n : ℕ). begun_at index n (next_in indices (cursor (get_or inputs.slots i no_input) n))) unmoved)
+                (ap (λ (r : List ℕ). cursors (drop (suc i) all) r) (drop-set-lt (suc i) new i k (omega arith)) ∙ g.after)
                 ∙ ap (map (advanced indices index)) (sym (from_here i h old m));
           }

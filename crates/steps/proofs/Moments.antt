@@ -3,13 +3,12 @@
 use Prim.Native.Nat.{◌<◌, ◌≤◌, suc, zero, ℕ}
 use borrow.Author.Tests.{le-ltb, ltb-false}
 use lib.Dec.{eqb, ltb}
-use lib.ListN.{get_or-map, get_or, length, length-map}
+use lib.ListN.{get_or-map, length, length-map}
 use mathlib.Core.Bool.{Bool, cond, false, true}
 use mathlib.Core.List.{List, [], ◌++◌, ◌∷◌, append_assoc, append-nil, foldl, map}
 use mathlib.Core.Option.{Option, none, some}
 use mathlib.Core.Path.{◌∙◌, ◌≡◌, ap, refl, subst, sym}
 use native.Mathlib.Omega.{arith}
-use Rattle.value.specs.Slice.{any, sum}
 use Rattle.value.proofs.Tests.{or_both, or_left, or_right}
 use Rattle.fst.specs.Record.{Kept}
 use Rattle.fst.specs.declared.NextIndex.{NextIndex}
@@ -20,8 +19,7 @@ use Rattle.runs.proofs.All.{all_by}
 use Rattle.signal.specs.Decode.{entries_from, entries_in}
 use Rattle.offset.specs.Offset.{falls, head_of}
 use Rattle.signal.proofs.Entries.{entries_count, entry_is, indexed}
-use Rattle.steps.specs.Inputs.{indices_fall}
-use Rattle.steps.specs.Steps.{Moment, Shown, Track, count_of, moments_from, moments_of, moved, now_of, shown_by, shown_in, shown_index, smaller, smallest, unbegun}
+use Rattle.steps.specs.Steps.{Moment, Shown, Track, moments_from, moved, now_of, shown_by, shown_in, shown_index, smaller, smallest}
 
 -- ---- lists in order
 
@@ -104,83 +102,55 @@ unfolding entries_from
 shown_up j b k [] u = tt
 shown_up j b k (i ∷ l) u = (u.0, shown_up (suc j) i k l u.1)
 
--- ---- what a step shows of each input
+-- ---- tracks and records in step
 
--- two lists in step
 abbrev pub Each2 : {A B : Type 0} → (A → B → Type 0) → List A → List B → Type 0
 Each2 R [] [] = Unit
 Each2 R [] (y ∷ ys) = ⊥
 Each2 R (x ∷ xs) [] = ⊥
 Each2 R (x ∷ xs) (y ∷ ys) = R x y × Each2 R xs ys
 
-pub each_self : {A : Type 0} (R : A → A → Type 0) → ((x : A) → R x x) → (xs : List A) → Each2 R xs xs
-each_self R r [] = tt
-each_self R r (x ∷ xs) = (r x, each_self R r xs)
+-- what is known of an input that has not begun is U
+module _ (U : Type 0) where
+  -- an input shows one of its entries
+  abbrev pub NowFrom : Kept → Option Shown → Type 0
+  NowFrom k none = U
+  NowFrom k (some s) = From k s
 
-pub each_map : {A B C : Type 0} (R : A → B → Type 0) (S : A → C → Type 0) (f : B → C) → ((x : A) (y : B) → R x y → S x (f y))
-    → (xs : List A) (ys : List B) → Each2 R xs ys → Each2 S xs (map f ys)
-each_map R S f g [] [] e = tt
-each_map R S f g [] (y ∷ ys) e = absurd e
-each_map R S f g (x ∷ xs) [] e = absurd e
-each_map R S f g (x ∷ xs) (y ∷ ys) e = (g x y e.0, each_map R S f g xs ys e.1)
+  abbrev pub Runs : Kept → Track → Type 0
+  Runs k t = NowFrom k t.now × All (From k) t.next
 
-pub each_all : {A B : Type 0} (Q : B → Type 0) (xs : List A) (ys : List B) → Each2 (λ x. Q) xs ys → All Q ys
-each_all Q [] [] e = tt
-each_all Q [] (y ∷ ys) e = absurd e
-each_all Q (x ∷ xs) [] e = absurd e
-each_all Q (x ∷ xs) (y ∷ ys) e = (e.0, each_all Q xs ys e.1)
-
--- by place
-pub each_at : {A B : Type 0} (R : A → B → Type 0) (xs : List A) (ys : List B) → Each2 R xs ys → (j : ℕ) (a : A) (b : B) → j < length xs → R (get_or xs j a) (get_or ys j b)
-each_at R [] ys e j a b h = absurd (omega arith)
-each_at R (x ∷ xs) [] e j a b h = absurd e
-each_at R (x ∷ xs) (y ∷ ys) e zero a b h = e.0
-each_at R (x ∷ xs) (y ∷ ys) e (suc j) a b h = each_at R xs ys e.1 j a b (omega arith)
-
--- P x is what an input known by x may show
-module _ {A : Type 0} (P : A → Option Shown → Type 0) where
-  -- it may show each of its entries
-  abbrev pub Holds : A → List Shown → Type 0
-  Holds x l = All (λ s. P x (some s)) l
-
-  abbrev pub Has : A → Track → Type 0
-  Has x t = P x t.now × Holds x t.next
-
-  moved_has : (i : ℕ) (x : A) (n : Option Shown) (l : List Shown) → P x n → Holds x l → Has x (moved i (record { now = n; next = l }))
+  pub moved_runs : (k : Kept) (i : ℕ) (n : Option Shown) (l : List Shown) → NowFrom k n → All (From k) l → Runs k (moved i (record { now = n; next = l }))
   unfolding moved
-  moved_has i x n [] p h = (p, tt)
-  moved_has i x n (s ∷ l) p h = go (eqb s.index i)
+  moved_runs k i n [] h p = (h, tt)
+  moved_runs k i n (s ∷ l) h p = go (eqb s.index i)
     where
-      go : (b : Bool) → Has x (cond b (record { now = some s; next = l }) (record { now = n; next = s ∷ l }))
-      go true = (h.0, h.1)
-      go false = (p, h)
+      go : (b : Bool) → Runs k (cond b (record { now = some s; next = l }) (record { now = n; next = s ∷ l }))
+      go true = (p.0, p.1)
+      go false = (h, p)
 
-  all_have : (i : ℕ) (xs : List A) (ts : List Track) → Each2 Has xs ts → Each2 Has xs (map (moved i) ts)
-  all_have i = each_map Has Has (moved i) (λ x t h. moved_has i x t.now t.next h.0 h.1)
+  pub runs_all : (ks : List Kept) (ts : List Track) (i : ℕ) → Each2 Runs ks ts → Each2 Runs ks (map (moved i) ts)
+  runs_all [] [] i e = tt
+  runs_all [] (t ∷ ts) i e = absurd e
+  runs_all (k ∷ ks) [] i e = absurd e
+  runs_all (k ∷ ks) (t ∷ ts) i e = (moved_runs k i t.now t.next e.0.0 e.0.1, runs_all ks ts i e.1)
 
-  abbrev pub ShowsEach : List A → Moment → Type 0
-  ShowsEach xs m = Each2 P xs m.showing
+  pub shows_all : (ks : List Kept) (ts : List Track) → Each2 Runs ks ts → Each2 NowFrom ks (map now_of ts)
+  shows_all [] [] e = tt
+  shows_all [] (t ∷ ts) e = absurd e
+  shows_all (k ∷ ks) [] e = absurd e
+  shows_all (k ∷ ks) (t ∷ ts) e = (e.0.0, shows_all ks ts e.1)
 
-  -- once the first step is made, every step shows it
-  pub first_have : (xs : List A) (n : ℕ) (m : NextIndex) (ts : List Track) → ((i : ℕ) → m ≡ At i → Each2 Has xs (map (moved i) ts))
-      → All (ShowsEach xs) (moments_from n m ts)
+  abbrev pub ShowsEntries : List Kept → Moment → Type 0
+  ShowsEntries ks m = Each2 NowFrom ks m.showing
+
+  pub moments_show : (ks : List Kept) (n : ℕ) (i : NextIndex) (ts : List Track) → Each2 Runs ks ts → All (ShowsEntries ks) (moments_from n i ts)
   unfolding moments_from
-  first_have xs zero m ts f = tt
-  first_have xs (suc n) Absent ts f = tt
-  first_have xs (suc n) (At i) ts f =
-      let us = map (moved i) ts in
-      (each_map Has P now_of (λ x t h. h.0) xs us (f i refl), first_have xs n (smallest us) us (λ j e. all_have j xs us (f i refl)))
-
-  -- what each of an input's entries, and none, may show, every step shows
-  pub moments_have : (xs : List A) (inputs : List (List Shown)) → ((x : A) → P x none) → Each2 Holds xs inputs → All (ShowsEach xs) (moments_of inputs)
-  unfolding moments_of
-  moments_have xs inputs p h =
-      let ts = map unbegun inputs in
-      first_have xs (sum (map count_of ts)) (smallest ts) ts (λ i e. all_have i xs ts (each_map Holds Has unbegun (λ x l g. (p x, g)) xs inputs h))
-
--- records' entries, known by the records
-pub records_hold : (P : Kept → Option Shown → Type 0) → ((k : Kept) → Holds P k (shown_in k)) → (ks : List Kept) → Each2 (Holds P) ks (map shown_in ks)
-records_hold P h ks = each_map (λ k j. Holds P k (shown_in j)) (Holds P) shown_in (λ k j g. g) ks ks (each_self (λ k j. Holds P k (shown_in j)) h ks)
+  moments_show ks zero i ts r = tt
+  moments_show ks (suc n) Absent ts r = tt
+  moments_show ks (suc n) (At i) ts r =
+      let u = runs_all ks ts i r in
+      (shows_all ks (map (moved i) ts) u, moments_show ks n (smallest (map (moved i) ts)) (map (moved i) ts) u)
 
 -- ---- the indices of the steps
 
@@ -244,13 +214,3 @@ moments_up (suc n) (At i) ts b e u =
     let self : i ≤ i = omega arith in
     let v = ups ts i b u (least_under ts i (subst (LeastOf i) (sym e) self)) in
     (subst (LeastOf b) e (bounded ts b u), moments_up n (smallest us) us i refl v)
-
--- no index of the steps over records falls where none of theirs does
-pub moments_rise : (ks : List Kept) → any indices_fall ks ≡ false → Up moment_index 0 (moments_of (map shown_in ks))
-unfolding any moments_of
-moments_rise ks h = let ts = map unbegun (map shown_in ks) in moments_up (sum (map count_of ts)) (smallest ts) ts 0 refl (start ks h)
-  where
-    start : (ks : List Kept) → any indices_fall ks ≡ false → All (NextUp 0) (map unbegun (map shown_in ks))
-    start [] h = tt
-    start (k ∷ ks) h =
-        (shown_up 0 0 k k.indices (rising_up k.indices (or_left (indices_fall k) (any indices_fall ks) h)), start ks (or_right (indices_fall k) (any indices_fall ks) h))

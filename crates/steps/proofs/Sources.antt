@@ -4,7 +4,6 @@ use Prim.Native.Nat.{◌-◌, ◌<◌, ◌≤◌, ℕ}
 use lib.ListN.{length}
 use mathlib.Core.Bool.{Bool, false}
 use mathlib.Core.List.{List, [], ◌∷◌, map}
-use mathlib.Core.Option.{none}
 use mathlib.Core.Path.{◌∙◌, ◌≡◌, ap, sym}
 use native.Mathlib.Omega.{arith}
 use Rattle.value.specs.Level.{mark_of}
@@ -15,16 +14,15 @@ use Rattle.fst.specs.Record.{has_no_text, kept_in, largest_in}
 use Rattle.fst.proofs.Records.{standing}
 use Rattle.runs.specs.All.{All}
 use Rattle.runs.proofs.All.{all_of}
-use Rattle.signal.specs.Decode.{has_bad_mark, set_in}
+use Rattle.signal.specs.Decode.{has_bad_mark}
 use Rattle.signal.proofs.Entries.{HasIndexed, entries_each, has_entry}
 use Rattle.signal.proofs.Reading.{inside, whole}
 use Rattle.steps.specs.Inputs.{entry_is_bad, input_kept, inputs_of, is_bad_input, lent_to, mark_is_bad}
 use Rattle.steps.specs.Stepping.{Cursor, Indexable, Reaches, Showing, cursors, set_now, shown_bytes}
-use Rattle.steps.specs.Steps.{set_shown}
 use Rattle.steps.specs.declared.Input.{Input}
 use Rattle.steps.specs.declared.Inputs.{Inputs}
 use Rattle.steps.proofs.InputTests.{Stands}
-use Rattle.steps.proofs.Levels.{mark_within, once_begun_lem}
+use Rattle.steps.proofs.Levels.{mark_within}
 use Rattle.steps.proofs.Tracks.{Begun, Shows, Within, bytes_shown, r_indices}
 
 -- ---- tests that hold of no element
@@ -53,13 +51,13 @@ pub record Source (bytes indices : List ℕ) (i : Input) : Type 0 where
 -- it shows one of its entries
 module _ {bytes indices : List ℕ} (c : Cursor) (s : Source bytes indices c.input) (b : Begun c) (w : Within c) where
   pub shows : Shows bytes indices c
-  shows = record { stands = standing s.stands; within = w }
+  shows = record { stands = standing s.stands; begun = b; within = w }
 
   good_mark : has_bad_mark c.input.description.encoding (shown_bytes bytes c) ≡ false
   unfolding kept_in
   good_mark =
       let h : c.begun - 1 < length (input_kept bytes indices c.input).indices = rw (r_indices bytes indices c shows) (omega arith) in
-      ap (has_bad_mark c.input.description.encoding) (sym (bytes_shown bytes indices c shows b))
+      ap (has_bad_mark c.input.description.encoding) (sym (bytes_shown bytes indices c shows))
       ∙ entries_each (input_kept bytes indices c.input) entry_is_bad s.marked (c.begun - 1) h
 
   pub showing : Showing bytes c
@@ -70,9 +68,7 @@ module _ {bytes indices : List ℕ} (c : Cursor) (s : Source bytes indices c.inp
 
   -- a good mark is not above the largest set's
   pub set_within : mark_of (set_now bytes c) ≤ mark_of (largest_in c.input.description.encoding)
-  set_within =
-      rw (once_begun_lem {k = c.begun} (set_shown none) (set_in c.input.description.encoding (shown_bytes bytes c)) b)
-      (mark_within c.input.description.encoding (shown_bytes bytes c) good_mark)
+  set_within = mark_within c.input.description.encoding (shown_bytes bytes c) good_mark
 
 -- ---- all of them
 

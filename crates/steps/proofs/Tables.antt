@@ -23,9 +23,19 @@ use Rattle.steps.specs.Table.{SizedAt, TableOf, Tables, entry_shown, input_in, i
 use Rattle.steps.specs.declared.Input.{Input}
 use Rattle.steps.specs.declared.Inputs.{Inputs}
 use Rattle.steps.proofs.InputTests.{no_input}
-use Rattle.steps.proofs.Levels.{levels_found, marked, once_begun_lem, part_fits, set_found}
+use Rattle.steps.proofs.Levels.{levels_found, marked, part_fits, set_found}
 
 -- ---- what is read
+
+pub input_read : (numbers starts : List ℕ) (i : ℕ) (M : States) → M ≡ set_at (get_or numbers (16 + i) 0)
+    → ◌≡◌ {A = Input}
+    (record {
+      description = described (BitVector (get_or numbers (8 + i) 0) M) (get_or numbers i 0);
+      byte_start = get_or starts i 0;
+      index_start = get_or starts (8 + i) 0;
+    })
+    (input_in numbers starts i)
+input_read numbers starts i M e = rw e
 
 pub slot_is : (count : ℕ) (numbers starts : List ℕ) (i : ℕ) → i < 8 → input_in numbers starts i ≡ get_or (inputs_in count numbers starts).slots i no_input
 slot_is count numbers starts zero h = refl
@@ -62,13 +72,13 @@ module _ (numbers starts : List ℕ) {bytes : List ℕ} (i : ℕ) (sized : Sized
 
     module _ {S : States} (f : S ≡ set_at (mark_in set_of_lem v)) where
       pub found_set : S ≡ set_now bytes here
-      found_set = set_found h.whole (e ∙ found_is) f ∙ sym (once_begun_lem _ _ h.begun)
+      found_set = set_found h.whole (e ∙ found_is) f
 
       pub found_room : len_of wide S ≤ length v
       found_room = part_fits h.whole (e ∙ found_is) f h.marked
 
       pub found_levels : (l : List ℕ) → l ≡ drop (length v - len_of wide S) v → Levels wide S l × (codes_at wide S l ≡ levels_now bytes here)
-      found_levels l z = let r = levels_found h.whole (e ∙ found_is) f h.marked l z in (r.0, r.1 ∙ sym (once_begun_lem _ _ h.begun))
+      found_levels = levels_found h.whole (e ∙ found_is) f h.marked
 
 -- ---- what is stored
 

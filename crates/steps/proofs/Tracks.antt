@@ -146,9 +146,10 @@ module _ (bytes indices : List ℕ) where
   shown_count i f =
       length-map (entries_in (input_kept bytes indices i)) shown_by ∙ entries_count (input_kept bytes indices i) ∙ indices_used f
 
-  -- an input whose entries lie within the slices, and which shows none but these
+  -- an input that has begun, and whose entries lie within the slices
   pub record Shows (c : Cursor) : Type 0 where
     pub stands : Stands bytes indices c.input
+    pub begun : Begun c
     pub within : Within c
 
   module _ (c : Cursor) (h : Shows c) where
@@ -159,20 +160,19 @@ module _ (bytes indices : List ℕ) where
     unfolding kept_in
     r_indices = indices_used h.stands
 
-    module _ (b : Begun c) where
-      -- its bytes among all
-      pub bytes_shown : entry_at c.input.description.encoding 0 r.bytes (c.begun - 1) ≡ shown_bytes bytes c
-      unfolding kept_in
-      bytes_shown = entry_within c.input.description bytes c.input.byte_start (c.begun - 1) (omega (arith, h.within))
+    -- its bytes among all
+    pub bytes_shown : entry_at c.input.description.encoding 0 r.bytes (c.begun - 1) ≡ shown_bytes bytes c
+    unfolding kept_in
+    bytes_shown = entry_within c.input.description bytes c.input.byte_start (c.begun - 1) (omega (arith, h.begun, h.within))
 
-      pub now_shown : last_of (shown_of c.input) c.begun ≡ some (shown_by (indexed r (c.begun - 1)))
-      unfolding kept_in
-      now_shown =
-          let k : suc (c.begun - 1) ≡ c.begun = omega arith in
-          let n : c.begun - 1 < length r.indices = rw r_indices (omega (arith, h.within)) in
-          ap (last_of (shown_of c.input)) (sym k)
-          ∙ last_at_lem shown_by (entries_in r) (c.begun - 1) (indexed r 0) (rw (entries_count r) n)
-          ∙ ap (λ (x : Indexed). some (shown_by x)) (entry_is r (c.begun - 1) (indexed r 0) n)
+    pub now_shown : last_of (shown_of c.input) c.begun ≡ some (shown_by (indexed r (c.begun - 1)))
+    unfolding kept_in
+    now_shown =
+        let k : suc (c.begun - 1) ≡ c.begun = omega (arith, h.begun) in
+        let n : c.begun - 1 < length r.indices = rw r_indices (omega (arith, h.begun, h.within)) in
+        ap (last_of (shown_of c.input)) (sym k)
+        ∙ last_at_lem shown_by (entries_in r) (c.begun - 1) (indexed r 0) (rw (entries_count r) n)
+        ∙ ap (λ (x : Indexed). some (shown_by x)) (entry_is r (c.begun - 1) (indexed r 0) n)
 
 -- ---- how much is to come
 
@@ -207,7 +207,7 @@ come_le i [] = omega arith
 come_le i (t ∷ ts) = omega (arith, count_le i t, come_le i ts)
 
 -- the smaller of two is one of them
-pub smaller_one : (a b : NextIndex) (i : ℕ) → smaller a b ≡ At i → (a ≡ At i) ⊎ (b ≡ At i)
+smaller_one : (a b : NextIndex) (i : ℕ) → smaller a b ≡ At i → (a ≡ At i) ⊎ (b ≡ At i)
 smaller_one Absent b i e = inr e
 smaller_one (At a) Absent i e = inl e
 smaller_one (At a) (At b) i e =

@@ -40,7 +40,7 @@ begun_within indices c r w i = go (next_in indices c) refl
     go : (n : NextIndex) → next_in indices c ≡ n → begun_at i c.begun (next_in indices c) ≤ c.input.description.count
     go Absent e = rw e w
     go (At j) e =
-        let h = next_within indices c.input c.begun r j e in
+        let h = next_within indices c.input c.begun r j e i in
         by_eq j i (λ q. rw (e, eq-eqb j i q) (omega arith)) (λ q. rw (e, ne_eqb j i q) w)
 
 -- ---- how many steps there can be

@@ -1,6 +1,6 @@
 -- Document 01, "Derive": the input records, and what each is refused for by itself.
 -- Assumes nothing.
-use Rattle.std.specs.Prelude.{ℕ, take, Bool, List, map}
+use Rattle.std.specs.Prelude.{suc, zero, ℕ, take, Bool, false, true, List, [], ◌∷◌, map}
 use Rattle.value.specs.Slice.{any}
 use Rattle.fst.specs.Record.{Kept, Lent, has_no_text, is_bad, kept_in, lent}
 use Rattle.fst.specs.declared.Encoding.{Encoding}
@@ -32,6 +32,15 @@ encoding_of k = k.encoding
 -- "an input not a bit vector"
 abbrev pub is_no_bit_vector : Kept → Bool
 is_no_bit_vector k = has_no_text (encoding_of k)
+
+-- "15: an input empty or not starting at index 0"
+abbrev pub is_late : List ℕ → Bool
+is_late [] = true
+is_late (zero ∷ l) = false
+is_late (suc i ∷ l) = true
+
+abbrev pub starts_late : Kept → Bool
+starts_late k = is_late k.indices
 
 abbrev pub indices_fall : Kept → Bool
 indices_fall k = falls k.indices

@@ -1,9 +1,7 @@
 pub mod Inputs
 pub mod Steps
-pub mod Latest
 pub mod Refusals
 pub mod Stepping
 pub mod Table
-pub mod Between
 pub mod Storing
 pub mod Room

@@ -1,7 +1,6 @@
 -- Inner: where a walk stands in its inputs, what comes next, and what the inputs then show.
 -- Assumes nothing.
-use Rattle.std.specs.Prelude.{◌+◌, ◌-◌, ◌≤◌, suc, zero, ℕ, eqb, drop, length, cond, false, List, [], ◌∷◌, map, ◌≡◌}
-use Rattle.std.proofs.Math.Option.{none}
+use Rattle.std.specs.Prelude.{◌+◌, ◌-◌, ◌≤◌, ℕ, eqb, drop, length, cond, false, List, [], ◌∷◌, map, ◌≡◌}
 use Rattle.value.specs.Slice.{part}
 use Rattle.value.specs.declared.States.{States}
 use Rattle.fst.specs.Record.{has_no_text, width_of}
@@ -12,7 +11,7 @@ use Rattle.signal.specs.Decode.{entry_at, has_bad_mark, levels_in, set_in}
 use Rattle.offset.specs.Offset.{head_of}
 use Rattle.signal.specs.Parts.{Inside, Whole}
 use Rattle.steps.specs.Inputs.{inputs_of}
-use Rattle.steps.specs.Steps.{levels_shown, set_shown, smaller}
+use Rattle.steps.specs.Steps.{smaller}
 use Rattle.steps.specs.declared.Input.{Input}
 use Rattle.steps.specs.declared.Inputs.{Inputs}
 
@@ -64,23 +63,18 @@ pub record Advanced (inputs : Inputs) (indices : List ℕ) (i : ℕ) (p q : List
 
 -- ---- by the bytes
 
--- the entry that an input shows once it has begun
+-- the entry that an input shows: its bytes, its set and its levels
 abbrev pub shown_bytes : List ℕ → Cursor → List ℕ
 shown_bytes bytes c = entry_at c.input.description.encoding c.input.byte_start bytes (c.begun - 1)
 
--- the width, the set and the levels that an input shows: of an unbegun one `x`, under Four
-abbrev pub width_now : Cursor → ℕ
-width_now c = width_of c.input.description.encoding
-
-abbrev pub once_begun : {A : Type 0} → ℕ → A → A → A
-once_begun zero before now = before
-once_begun (suc n) before now = now
-
 abbrev pub set_now : List ℕ → Cursor → States
-set_now bytes c = once_begun c.begun (set_shown none) (set_in c.input.description.encoding (shown_bytes bytes c))
+set_now bytes c = set_in c.input.description.encoding (shown_bytes bytes c)
 
 abbrev pub levels_now : List ℕ → Cursor → List ℕ
-levels_now bytes c = once_begun c.begun (levels_shown (width_now c) none) (levels_in c.input.description.encoding (shown_bytes bytes c))
+levels_now bytes c = levels_in c.input.description.encoding (shown_bytes bytes c)
+
+abbrev pub width_now : Cursor → ℕ
+width_now c = width_of c.input.description.encoding
 
 -- an input of a bit vector shows an entry, which lies within the bytes and whose mark is a set's
 pub record Showing (bytes : List ℕ) (c : Cursor) : Type 0 where
@@ -89,3 +83,8 @@ pub record Showing (bytes : List ℕ) (c : Cursor) : Type 0 where
   pub inside : Inside c.input.description.encoding c.input.byte_start bytes (c.begun - 1)
   pub whole : Whole c.input.description.encoding (shown_bytes bytes c)
   pub marked : has_bad_mark c.input.description.encoding (shown_bytes bytes c) ≡ false
+
+pub record AllShowing (inputs : Inputs) (bytes p : List ℕ) : Type 0 where
+  pub few : inputs.count ≤ 8
+  pub places : length p ≡ 8
+  pub shown : All (Showing bytes) (cursors_of inputs p)

@@ -1,13 +1,10 @@
--- Document 01, "A derived record", and document 02, E4: the steps over the inputs, and what an input shows, apart from what a step yields.
+-- Document 01, "A derived record": the steps over the inputs, apart from what a step yields.
 -- Assumes nothing.
-use Prim.Native.Char.{code}
-use Rattle.std.specs.Prelude.{min, suc, zero, ℕ, eqb, length, replicate, Bool, cond}
+use Rattle.std.specs.Prelude.{min, suc, zero, ℕ, eqb, length, Bool, cond}
 use mathlib.Core.List.{List, [], ◌∷◌, foldl, map}
 use Rattle.std.proofs.Math.Option.{Option, none, some}
-use Rattle.value.specs.Level.{code_of, join_all}
 use Rattle.value.specs.Slice.{sum}
 use Rattle.value.specs.declared.States.{States}
-use Rattle.value.specs.declared.States.TheVariants.{Four}
 use Rattle.fst.specs.Record.{Kept}
 use Rattle.fst.specs.declared.NextIndex.{NextIndex}
 use Rattle.fst.specs.declared.NextIndex.TheVariants.{Absent, At}
@@ -72,30 +69,9 @@ moments_from (suc n) (At i) ts =
 abbrev pub count_of : Track → ℕ
 count_of t = length t.next
 
--- E4: "The first step is at the smallest first index; inputs whose first entry carries it are at entry 0, others have not begun, and an unbegun
--- input's next entry is its entry 0": the rule of each later step, from inputs that have not begun
+-- "Step one: index 0, every input at entry 0. Each later step: .." Every input starts at index 0 (15), so step one follows the same rule.
 unfoldable pub moments_of : List (List Shown) → List Moment
 moments_of inputs = let ts = map unbegun inputs in moments_from (sum (map count_of ts)) (smallest ts) ts
-
--- ---- what an input shows
-
--- the code of `x`
-abbrev pub unknown : ℕ
-unknown = code_of (code "x")
-
--- E4: "Levels of an unbegun input are `x`", as many as are asked for
-abbrev pub levels_shown : ℕ → Option Shown → List ℕ
-levels_shown n none = replicate n unknown
-levels_shown n (some s) = s.codes
-
--- E4: "and the step's set is then at least Four"
-abbrev pub set_shown : Option Shown → States
-set_shown none = Four
-set_shown (some s) = s.set
-
--- "under the largest of the inputs' current own sets"
-abbrev pub largest_shown : List (Option Shown) → States
-largest_shown l = join_all (map set_shown l)
 
 -- ---- the steps that are kept
 

@@ -27,6 +27,7 @@ pub struct Inputs {
 pub enum InputTest {
     BadRecord,
     NoBitVector,
+    Late,
     Falling,
     BadMark,
 }

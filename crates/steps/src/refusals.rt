@@ -2,7 +2,7 @@
 ghost use Rattle.std.specs.Prelude.{false, List, ◌≡◌, ℕ, ◌+◌, ◌≤◌, min, length};
 ghost use Rattle.value.specs.Slice.{part, any};
 ghost use Rattle.fst.specs.Record.{used_size, is_bad_bytes};
-ghost use Rattle.steps.specs.Inputs.{inputs_of, is_bad_input, mark_is_bad};
+ghost use Rattle.steps.specs.Inputs.{inputs_of, is_bad_input, is_late, mark_is_bad};
 ghost use Rattle.steps.specs.Refusals.{fails_by, is_first, kept_with};
 
 use crate::{Input, InputTest, Inputs};
@@ -58,6 +58,16 @@ fn is_bad_input(input: Input, bytes: &[u8], indices: &[u32]) -> bool
     )
 }
 
+// Whether a record is empty or starts past index 0.
+fn is_late(indices: &[u32]) -> bool
+    ensures { result ≡ is_late indices.now }
+{
+    if indices.len() == 0 {
+        return true;
+    }
+    indices[0] != 0
+}
+
 // Whether the mark of an entry is 3 or above the largest set's.
 fn any_bad_mark(description: Description, used: &[u8]) -> bool
     requires { is_bad_bytes description 0 used.now ≡ false }
@@ -93,6 +103,7 @@ fn fails(test: InputTest, input: Input, bytes: &[u8], indices: &[u32]) -> bool
     match test {
         InputTest::BadRecord => is_bad_input(input, bytes, indices),
         InputTest::NoBitVector => encoding.has_no_text(),
+        InputTest::Late => is_late(used_indices(input, indices)),
         InputTest::Falling => falls(used_indices(input, indices)),
         InputTest::BadMark => any_bad_mark(description, used_part(input, bytes)),
     }

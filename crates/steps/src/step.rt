@@ -1,81 +1,88 @@
-// Stepping over inputs, apart from what a step yields: what is held of each input between two steps, so that only those that move on are
-// read again.
-ghost use Rattle.std.specs.Prelude.{◌≡◌, ◌+◌, ◌-◌, ◌*◌, ◌≤◌, ◌<◌, min, length, get_or, take, replicate, map};
-ghost use Rattle.value.specs.Level.{join_all, set_at};
-ghost use Rattle.steps.specs.Stepping.{Reaches, Indexable, Showing, cursor};
-ghost use Rattle.steps.specs.Between.{Follows, MovedOn, NextIs, least};
-ghost use Rattle.steps.specs.Table.{Tabled, Tables, SizedAt, count_at, input_in, inputs_in, byte_start_at, size_at, entry_shown};
+// Stepping over inputs, apart from what a step yields.
+ghost use Rattle.std.specs.Prelude.{◌≡◌, ◌+◌, ◌-◌, ◌*◌, ◌≤◌, ◌<◌, length};
+ghost use Rattle.steps.specs.Steps.{smaller};
+ghost use Rattle.steps.specs.Stepping.{Reaches, Indexable, cursor, cursors_of, next_in, soonest, begun_at, Advanced};
+ghost use Rattle.steps.specs.Table.{Tabled, inputs_in, byte_start_at, size_at, entry_shown};
 
-use crate::table::{INDEX_STARTS, MARKS, SIZES};
-use signal::decode::{states_at, states_in};
-use value::States;
+use crate::Input;
+use crate::table::{SIZES, input_at};
+use fst::NextIndex;
 
-// Above every index: what comes next where no entry does.
-pub const NONE: u64 = 0x1_0000_0000;
-
-// The index of the next entry of an input of which so many have begun.
-fn next_of(numbers: &[u32], starts: &[usize], indices: &[u32], i: usize, begun: u32) -> u64
-    requires { (i < 8) × Tables numbers.now starts.now × Reaches indices.now (input_in numbers.now starts.now i) }
-    ensures { NextIs indices.now (cursor (input_in numbers.now starts.now i) begun) result }
+fn smaller(a: NextIndex, b: NextIndex) -> NextIndex
+    ensures { result ≡ smaller a b }
 {
-    if begun < numbers[i] {
-        let at = starts[INDEX_STARTS + i] + begun as usize;
-        return indices[at] as u64;
-    }
-    NONE
+    let NextIndex::At(i) = a else {
+        return b;
+    };
+    let NextIndex::At(j) = b else {
+        return a;
+    };
+    if j < i { b } else { a }
 }
 
-// The first index of each input.
-pub fn first_indices(
+// The index of an input's next entry.
+fn next_of(input: Input, indices: &[u32], begun: u32) -> NextIndex
+    requires { Reaches indices.now input }
+    ensures { result ≡ next_in indices.now (cursor input begun) }
+{
+    if begun < input.description.count {
+        let at = input.index_start + begun as usize;
+        return NextIndex::At(indices[at]);
+    }
+    NextIndex::Absent
+}
+
+// The smallest index among the inputs' next entries, of which so many have begun: an input shows the last of these, and the entry of that
+// number is its next one.
+pub fn next_index(
     count: u32,
     numbers: &[u32],
     starts: &[usize],
     indices: &[u32],
-    nexts: &mut [u64; 8],
-)
-    requires { Tabled count numbers.now starts.now × Indexable (inputs_in count numbers.now starts.now) indices.now × (length nexts.old ≡ 8) }
-    ensures { (length nexts.new ≡ 8) × Follows count numbers.now starts.now (replicate 8 0) (NextIs indices.now) nexts.new }
+    begun: &[u32; 8],
+) -> NextIndex
+    requires { Tabled count numbers.now starts.now × Indexable (inputs_in count numbers.now starts.now) indices.now × (length begun.now ≡ 8) }
+    ensures { result ≡ soonest indices.now (cursors_of (inputs_in count numbers.now starts.now) begun.now) }
 {
-    let mut i = 0;
-    while i < count as usize {
-        nexts[i] = next_of(numbers, starts, indices, i, 0);
-        i += 1;
-    }
-}
-
-pub fn min(a: u64, b: u64) -> u64
-    ensures { result ≡ min a b }
-{
-    if a < b { a } else { b }
-}
-
-// The smallest of the inputs' next indices.
-pub fn soonest(count: u32, nexts: &[u64; 8]) -> u64
-    requires { (count ≤ 8) × (length nexts.now ≡ 8) }
-    ensures { result ≡ least (take count nexts.now) }
-{
-    let mut next = NONE;
+    let mut next = NextIndex::Absent;
     let mut i = count as usize;
     while 0 < i {
         i -= 1;
-        next = min(nexts[i], next);
+        let input = input_at(numbers, starts, i);
+        next = smaller(next_of(input, indices, begun[i]), next);
     }
     next
 }
 
-// The largest of the sets that the inputs show: the union of marks is 3 where both Four and Nine are among them, and is taken for Nine's.
-// It has no compare, of which the compiler would make many wide instructions.
-pub fn largest_shown(count: u32, marks: &[u32; 8]) -> States
-    requires { (count ≤ 8) × (length marks.now ≡ 8) }
-    ensures { result ≡ join_all (map set_at (take count marks.now)) }
+// How many entries of an input have begun once the step at an index is taken.
+fn begun_at(input: Input, indices: &[u32], begun: u32, index: u32) -> u32
+    requires { Reaches indices.now input }
+    ensures { result ≡ begun_at index begun (next_in indices.now (cursor input begun)) }
 {
-    let mut union: u32 = 0;
+    let NextIndex::At(next) = next_of(input, indices, begun) else {
+        return begun;
+    };
+    if next == index { begun + 1 } else { begun }
+}
+
+// Every input whose next entry carries the index moves on by one.
+pub fn advance(
+    count: u32,
+    numbers: &[u32],
+    starts: &[usize],
+    indices: &[u32],
+    begun: &mut [u32; 8],
+    index: u32,
+)
+    requires { Tabled count numbers.now starts.now × Indexable (inputs_in count numbers.now starts.now) indices.now × (length begun.old ≡ 8) }
+    ensures { Advanced (inputs_in count numbers.now starts.now) indices.now index begun.old begun.new }
+{
     let mut i = count as usize;
     while 0 < i {
         i -= 1;
-        union |= marks[i];
+        let input = input_at(numbers, starts, i);
+        begun[i] = begun_at(input, indices, begun[i], index);
     }
-    states_at(union)
 }
 
 // The entry that an input shows.
@@ -86,25 +93,4 @@ pub fn shown_entry<'a>(starts: &[usize], i: usize, bytes: &'a [u8], begun: u32) 
     let size = starts[SIZES + i];
     let at = starts[i] + (begun - 1) as usize * size;
     &bytes[at..at + size]
-}
-
-// An input moves on by one entry.
-pub fn move_on(
-    numbers: &[u32],
-    starts: &[usize],
-    bytes: &[u8],
-    indices: &[u32],
-    i: usize,
-    begun: &mut [u32; 8],
-    nexts: &mut [u64; 8],
-    marks: &mut [u32; 8],
-)
-    requires { (i < 8) × (get_or begun.old i 0 < count_at numbers.now i) × Tables numbers.now starts.now × SizedAt numbers.now starts.now i × Reaches indices.now (input_in numbers.now starts.now i) × Showing bytes.now (cursor (input_in numbers.now starts.now i) (get_or begun.old i 0 + 1)) }
-    ensures { MovedOn numbers.now starts.now bytes.now indices.now i begun.old nexts.old marks.old begun.new nexts.new marks.new }
-{
-    let k = begun[i] + 1;
-    begun[i] = k;
-    nexts[i] = next_of(numbers, starts, indices, i, k);
-    let own = states_in(numbers[MARKS + i], shown_entry(starts, i, bytes, k));
-    marks[i] = own.mark() as u32;
 }

@@ -1,7 +1,10 @@
 // The inputs as numbers.
-ghost use Rattle.steps.specs.Table.{Vectors, TableOf};
+ghost use Rattle.std.specs.Prelude.{◌≡◌, ◌<◌};
+ghost use Rattle.steps.specs.Table.{Vectors, Tables, TableOf, input_in};
 
-use crate::Inputs;
+use crate::{Input, Inputs};
+use fst::{Description, Encoding};
+use signal::decode::states_at;
 
 // Where the widths and the marks start in a table's numbers.
 pub const WIDTHS: usize = 8;
@@ -9,7 +12,7 @@ pub const WIDTHS: usize = 8;
 pub const MARKS: usize = 16;
 
 // Where the index starts and the sizes start in a table's starts.
-pub const INDEX_STARTS: usize = 8;
+const INDEX_STARTS: usize = 8;
 
 pub const SIZES: usize = 16;
 
@@ -43,4 +46,23 @@ pub fn table_of(inputs: Inputs) -> Table
         i += 1;
     }
     Table { numbers, starts }
+}
+
+// An input of a table.
+pub fn input_at(numbers: &[u32], starts: &[usize], i: usize) -> Input
+    requires { (i < 8) × Tables numbers.now starts.now }
+    ensures { result ≡ input_in numbers.now starts.now i }
+{
+    let width = numbers[WIDTHS + i];
+    let max_states = states_at(numbers[MARKS + i]);
+    let count = numbers[i];
+    let byte_start = starts[i];
+    let index_start = starts[INDEX_STARTS + i];
+    let encoding = Encoding::BitVector { width, max_states };
+    let description = Description::new(encoding, count);
+    Input {
+        description,
+        byte_start,
+        index_start,
+    }
 }

@@ -1,16 +1,15 @@
 -- Derive's walk over the steps, which stores those that are kept.
 -- Assumes nothing.
-use Prim.Native.Nat.{◌-◌, ◌<◌, ◌≤◌, ℕ}
+use Prim.Native.Nat.{◌-◌, ◌<◌, ◌≤◌, min, suc, zero, ℕ}
 use borrow.Author.Tests.{eq-eqb, ne_eqb}
 use lib.Dec.{T, eqb, eqb_refl, eqb→eq, ltb}
-use lib.ListN.{length, length-append, replicate, set, take}
+use lib.ListN.{length-append, drop, length, replicate, set, take}
 use mathlib.Core.Bool.{cond, false}
 use mathlib.Core.List.{List, [], ◌++◌, ◌∷◌, map}
-use mathlib.Core.Logic.{⊎_elim}
 use mathlib.Core.Path.{◌∙◌, ◌≡◌, ap, ap₂, refl, subst, sym}
 use native.Mathlib.Omega.{arith}
 use Rattle.value.specs.Level.{codes_of, mark_of, text_of}
-use Rattle.value.specs.Slice.{same}
+use Rattle.value.specs.Slice.{overlay, part, same}
 use Rattle.value.specs.declared.States.{States}
 use Rattle.value.proofs.Levels.{codes_text, mark_inj}
 use Rattle.value.proofs.Slices.{same_refl, same_sound}
@@ -19,6 +18,7 @@ use Rattle.layout.specs.Entry.{entry_of, entry_size}
 use Rattle.layout.specs.Writable.{entry_from}
 use Rattle.layout.proofs.Entries.{laws}
 use Rattle.layout.proofs.EntryLaws.{EntryLaws}
+use Rattle.fst.specs.Record.{kept_in}
 use Rattle.fst.specs.declared.NextIndex.{NextIndex}
 use Rattle.fst.specs.declared.NextIndex.TheVariants.{Absent, At}
 use Rattle.runs.specs.All.{All}
@@ -26,21 +26,22 @@ use Rattle.runs.specs.Runs.{Step, ends_like, joined}
 use Rattle.runs.proofs.All.{all_both, all_map, all_of}
 use Rattle.runs.proofs.Joined.{joined_all, joined_by}
 use Rattle.runs.proofs.Laid.{Sound, entry_tells, entry_for, same_entry}
+use Rattle.offset.specs.Offset.{head_of}
 use Rattle.derivation.specs.Piece.{extract_of, pieces_of}
 use Rattle.derivation.specs.declared.DerivedBitVecSignal.{DerivedBitVecSignal}
-use Rattle.steps.specs.Inputs.{inputs_of, kept_all}
-use Rattle.steps.specs.Stepping.{Advanced, Cursor, advanced, begun_at, cursor, cursors, cursors_of, next_in, soonest}
+use Rattle.steps.specs.Inputs.{input_kept, inputs_of, is_late, starts_late}
+use Rattle.steps.specs.Stepping.{Advanced, Cursor, advanced, begun_at, cursors, cursors_of, next_in, soonest}
+use Rattle.steps.specs.Steps.{smaller}
 use Rattle.steps.specs.Storing.{Appendable, Appended, Roomy, Wrote}
 use Rattle.steps.specs.declared.Inputs.{Inputs}
 use Rattle.steps.proofs.Sources.{all_inputs}
 use Rattle.steps.proofs.Storing.{Storing, appendable, storing_done, storing_none, storing_on}
-use Rattle.steps.proofs.Tracks.{Begun, Within, smaller_one, to_come, tracks}
+use Rattle.steps.proofs.Tracks.{Begun, Within, to_come, tracks}
 use Rattle.steps.proofs.Walk.{Walk, all_zero, come_fewer, moment_at, on_within, walk_done, walk_few, walk_on, walk_start}
-use Rattle.transform.specs.Derive.{begin_apart, begins_at, derived_from, same_step, yielded}
-use Rattle.transform.specs.Picking.{Stepped, largest_now, picked_now}
-use Rattle.transform.proofs.Begins.{inputs_alike}
-use Rattle.transform.proofs.Given.{Ready, all_shows, set_in_lem, stand, stepped, wide}
-use Rattle.transform.proofs.Picked.{entry_gathered, front_long, largest_shown_lem, picked_all, picked_below, picked_shown, writable}
+use Rattle.transform.specs.Derive.{derived_from, same_step, yielded}
+use Rattle.transform.specs.Picking.{Pickable, Stepped, largest_now, picked_now}
+use Rattle.transform.proofs.Given.{Ready, all_shows, early, set_in_lem, stand, stepped, wide}
+use Rattle.transform.proofs.Picked.{entry_gathered, front_long, largest_shown_lem, pickable, picked_all, picked_below, picked_shown, writable}
 
 -- ---- two steps are alike just where their entries are
 
@@ -58,26 +59,33 @@ same_agree {w} L {M} a b x y =
     (subst (λ (l : List ℕ). T (same a.string l)) z.1 (same_refl a.string))
     (subst (λ (n : ℕ). T (eqb (mark_of a.set) n)) (ap mark_of z.0) (eqb_refl (mark_of a.set))))
 
--- ---- inputs that begin on one index
+-- ---- inputs that start at index 0 (15)
 
 begun_grows : (i k : ℕ) (n : NextIndex) → k ≤ begun_at i k n
 begun_grows i k Absent = omega arith
 begun_grows i k (At j) = by_eq j i (λ q. rw (eq-eqb j i q) (omega arith)) (λ q. rw (ne_eqb j i q) (omega arith))
 
--- the soonest of such is there too
-soonest_one : (indices : List ℕ) (n : NextIndex) (cs : List Cursor) → All (λ c. next_in indices c ≡ n) cs → (k : ℕ) → soonest indices cs ≡ At k → n ≡ At k
+early_next : (l : List ℕ) → is_late l ≡ false → head_of l ≡ At 0
+early_next [] h = let z : ◌≡◌ {A = ℕ} 0 1 = cc in absurd (omega arith)
+early_next (zero ∷ l) h = refl
+early_next (suc i ∷ l) h = let z : ◌≡◌ {A = ℕ} 0 1 = cc in absurd (omega arith)
+
+soonest_zero : (indices : List ℕ) (cs : List Cursor) → All (λ c. next_in indices c ≡ At 0) cs → (k : ℕ) → soonest indices cs ≡ At k → k ≡ 0
 unfolding soonest
-soonest_one indices n [] a k e = let z : ◌≡◌ {A = ℕ} 0 1 = cc in absurd (omega arith)
-soonest_one indices n (c ∷ cs) a k e =
-    ⊎_elim (λ h. sym a.0 ∙ h) (soonest_one indices n cs a.1 k) (smaller_one (next_in indices c) (soonest indices cs) k e)
+soonest_zero indices [] a k e = let z : ◌≡◌ {A = ℕ} 0 1 = cc in absurd (omega arith)
+soonest_zero indices (c ∷ cs) a k e = go (soonest indices cs) (ap (λ (n : NextIndex). smaller n (soonest indices cs)) (sym a.0) ∙ e)
+  where
+    go : (n : NextIndex) → smaller (At 0) n ≡ At k → k ≡ 0
+    go Absent e = cc
+    go (At j) e = let z : min 0 j ≡ k = cc in omega arith
 
 -- ---- the walk
 
 module _ (d : DerivedBitVecSignal) (inputs : Inputs) (bytes indices : List ℕ) (M : States) where
-  -- where the inputs begin on one index every one has begun once the next step is taken, and the steps that are kept are sound
+  -- every input has begun once the next step is taken, and the steps that are kept are sound
   pub record Deriving (p : List ℕ) (next : NextIndex) (kept : List Step) (left : ℕ) : Type 0 where
     pub walk : Walk (yielded (pieces_of d)) same_step inputs bytes indices p next kept left
-    pub starts : begin_apart (map begins_at (kept_all bytes indices inputs)) ≡ false → (k : ℕ) → next ≡ At k → All (λ c. Begun (advanced indices k c)) (cursors_of inputs p)
+    pub starts : (k : ℕ) → next ≡ At k → All (λ c. Begun (advanced indices k c)) (cursors_of inputs p)
     pub sound : All (Sound d.width M) kept
 
   pub record Writing (stride : ℕ) (out_bytes out_indices p : List ℕ) (count : ℕ) (nowBytes nowIndices : List ℕ) : Type 0 where
@@ -87,9 +95,9 @@ module _ (d : DerivedBitVecSignal) (inputs : Inputs) (bytes indices : List ℕ) 
     pub storing : Storing d.width M stride (length (derived_from d inputs bytes indices)) out_bytes out_indices kept count nowBytes nowIndices
 
 -- the characters and the set of the step that the inputs then show
-pub record Yielded (inputs : Inputs) (bytes q packed : List ℕ) (width : ℕ) (S : States) (text : List ℕ) : Type 0 where
+pub record Yielded (inputs : Inputs) (bytes q packed text : List ℕ) (S : States) (new : List ℕ) : Type 0 where
   pub set : S ≡ largest_now bytes (cursors_of inputs q)
-  pub front : take width text ≡ text_of (picked_now bytes (cursors_of inputs q) (map extract_of packed))
+  pub stored : new ≡ overlay text 0 (text_of (picked_now bytes (cursors_of inputs q) (map extract_of packed)))
 
 module _ {d : DerivedBitVecSignal} {inputs : Inputs} {bytes indices : List ℕ} {M : States} where
   pub writing_done : {stride : ℕ} {out_bytes out_indices p : List ℕ} {count : ℕ} {nowBytes nowIndices : List ℕ} → Writing d inputs bytes indices M stride out_bytes out_indices p count nowBytes nowIndices
@@ -102,21 +110,24 @@ module _ {d : DerivedBitVecSignal} {inputs : Inputs} {bytes indices : List ℕ} 
     L = laws d.width (wide R)
 
     deriving_start : (p : List ℕ) → p ≡ replicate 8 0 → Deriving d inputs bytes indices M p (soonest indices (cursors_of inputs p)) [] (to_come (tracks bytes indices (cursors_of inputs p)))
+    unfolding next_in kept_in
     deriving_start p z =
         let is = inputs_of inputs in
         let cs₀ = cursors is (replicate 8 0) in
         let c : cursors_of inputs p ≡ cs₀ = ap (cursors is) z in
+        let heads : All (λ c. next_in indices c ≡ At 0) cs₀ =
+        all_both (λ c. starts_late (input_kept bytes indices c.input) ≡ false) (λ c. c.begun ≡ 0) (λ c. next_in indices c ≡ At 0)
+        (λ c s b.
+        ap (λ (k : ℕ). head_of (drop k (part c.input.index_start c.input.description.count indices))) b
+        ∙ early_next (part c.input.index_start c.input.description.count indices) s)
+        cs₀ (all_inputs (λ i. starts_late (input_kept bytes indices i) ≡ false) is (replicate 8 0) (early R)) (all_zero is 8) in
         record {
           walk = walk_start (stand R) p z;
           starts =
-              λ a k f.
-              let x = inputs_alike bytes indices is a in
-              let heads : All (λ c. next_in indices c ≡ x.0) cs₀ =
-              all_both (λ c. next_in indices (cursor c.input 0) ≡ x.0) (λ c. c.begun ≡ 0) (λ c. next_in indices c ≡ x.0)
-              (λ c s b. ap (λ (k : ℕ). next_in indices (cursor c.input k)) b ∙ s) cs₀ (all_inputs (λ i. next_in indices (cursor i 0) ≡ x.0) is (replicate 8 0) x.1) (all_zero is 8) in
-              let o : x.0 ≡ At k = soonest_one indices x.0 cs₀ heads k (ap (soonest indices) (sym c) ∙ f) in
-              rw c
-              (all_of (λ c. next_in indices c ≡ x.0) (λ c. 1 ≤ begun_at k c.begun (next_in indices c)) (λ c h. rw (h ∙ o, eq-eqb k k refl) (omega arith)) cs₀ heads);
+              λ k f.
+              let o : k ≡ 0 = soonest_zero indices cs₀ heads k (ap (soonest indices) (sym c) ∙ f) in
+              rw (c, o)
+              (all_of (λ c. next_in indices c ≡ At 0) (λ c. 1 ≤ begun_at 0 c.begun (next_in indices c)) (λ c h. rw h (omega arith)) cs₀ heads);
           sound = tt;
         }
 
@@ -128,17 +139,17 @@ module _ {d : DerivedBitVecSignal} {inputs : Inputs} {bytes indices : List ℕ} 
       abbrev cs : List Cursor
       cs = cursors_of inputs q
 
-      begun : begin_apart (map begins_at (kept_all bytes indices inputs)) ≡ false → All Begun cs
-      begun x = rw a.on (all_map (λ c. Begun (advanced indices i c)) Begun (advanced indices i) (cursors_of inputs p) (λ c b. b) (W.starts x i refl))
+      begun : All Begun cs
+      begun = rw a.on (all_map (λ c. Begun (advanced indices i c)) Begun (advanced indices i) (cursors_of inputs p) (λ c b. b) (W.starts i refl))
 
       inside : All Within cs
       inside = on_within (stand R) W.walk q a.on
 
       step : Stepped inputs bytes q (take d.piece_count d.bits) (largest_now bytes cs) d.width
-      step = stepped R q a.places inside
+      step = stepped R q a.places begun inside
 
       under : mark_of (largest_now bytes cs) ≤ mark_of M
-      under = set_in_lem R q a.places inside begun
+      under = set_in_lem R q a.places begun inside
 
       abbrev s : Step
       s = record { index = i; string = text_of (picked_now bytes cs (pieces_of d)); set = largest_now bytes cs }
@@ -161,8 +172,8 @@ module _ {d : DerivedBitVecSignal} {inputs : Inputs} {bytes indices : List ℕ} 
 
       yields : yielded (pieces_of d) (moment_at bytes indices i cs) ≡ s
       yields =
-          let h = all_shows R q a.places inside in
-          let x = picked_shown bytes indices cs h (pieces_of d) step.pieces in
+          let h = all_shows R q a.places begun inside in
+          let x = picked_shown bytes indices cs h (pieces_of d) in
           let y = largest_shown_lem bytes indices cs h in
           λ t. record { index = i; string = text_of (x t); set = y t }
 
@@ -170,7 +181,7 @@ module _ {d : DerivedBitVecSignal} {inputs : Inputs} {bytes indices : List ℕ} 
       deriving_on =
           record {
             walk = walk_on (stand R) W.walk q a.on s yields;
-            starts = λ x k h. all_of Begun (λ c. Begun (advanced indices k c)) (λ c b. omega (arith, begun_grows k c.begun (next_in indices c))) cs (begun x);
+            starts = λ k h. all_of Begun (λ c. Begun (advanced indices k c)) (λ c b. omega (arith, begun_grows k c.begun (next_in indices c))) cs begun;
             sound = joined_all (Sound d.width M) same_step kept s W.sound step_sound;
           }
 
@@ -194,22 +205,22 @@ module _ {d : DerivedBitVecSignal} {inputs : Inputs} {bytes indices : List ℕ} 
       pub fewer : to_come (tracks bytes indices (cursors_of inputs q)) < to_come (tracks bytes indices (cursors_of inputs p))
       fewer = come_fewer (stand R) W.walk q a.on
 
-      module _ {text : List ℕ} {S : States} (t : Yielded inputs bytes q (take d.piece_count d.bits) d.width S text) where
+      pub pickable_on : {ps : List ℕ} → ps ≡ take d.piece_count d.bits → {room : ℕ} → d.width ≤ room → Pickable inputs bytes q ps room
+      pickable_on is {room} h = rw is (pickable (step W a) room h)
+
+      module _ {text new : List ℕ} {S : States} (t : Yielded inputs bytes q (take d.piece_count d.bits) text S new) where
         st : Stepped inputs bytes q (take d.piece_count d.bits) S d.width
         st = rw t.set (step W a)
-
-        front : take d.width text ≡ text_of (picked_now bytes (cursors_of inputs q) (pieces_of d))
-        front = t.front
 
         up : mark_of S ≤ mark_of M
         up = rw t.set (under W a)
 
         abbrev entry : List ℕ
-        entry = entry_from M S (take d.width text)
+        entry = entry_from M S (take d.width new)
 
         entry_is : entry ≡ entry_for d.width M (s W a)
         entry_is =
-            entry_gathered st M up text front
+            entry_gathered st M up text new t.stored
             ∙ ap (λ (x : States). entry_of d.width M x (picked_now bytes (cursors_of inputs q) (pieces_of d))) t.set
             ∙ ap (entry_of d.width M (largest_now bytes (cursors_of inputs q))) (sym (string_codes W a))
 
@@ -217,10 +228,10 @@ module _ {d : DerivedBitVecSignal} {inputs : Inputs} {bytes indices : List ℕ} 
         few = rw C.storing.counted (walk_few W.walk)
 
         module _ (room : Roomy (length (derived_from d inputs bytes indices)) (entry_size d.width M) stride out_bytes) where
-          pub appendable_on : Appendable M S (take d.width text) (entry_size d.width M) stride count nowBytes
+          pub appendable_on : Appendable M S (take d.width new) (entry_size d.width M) stride count nowBytes
           appendable_on =
               appendable C.storing L room (s W a) entry entry_is few (λ h. rw C.storing.counted (new_few W a h))
-              (writable st M up text front (entry_size d.width M) refl) (front_long st M up text front) refl (omega (arith, C.storing.counted, W.walk.bounded))
+              (writable st M up text new t.stored (entry_size d.width M) refl) (front_long st M up text new t.stored) refl (omega (arith, C.storing.counted, W.walk.bounded))
 
           pub writing_on : {r : ℕ} {newBytes newIndices : List ℕ} → Appended entry (entry_size d.width M) stride count nowBytes r newBytes
               → newIndices ≡ cond (ltb count r) (set nowIndices count i) nowIndices → Writing d inputs bytes indices M stride out_bytes out_indices q r newBytes newIndices

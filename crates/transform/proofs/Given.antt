@@ -1,47 +1,41 @@
 -- What the tests of Derive before its room leave known of the inputs, of what they show and of the pieces.
 -- Assumes nothing.
-use Prim.Native.Nat.{◌-◌, ◌<◌, ◌≤◌, min, suc, zero, ℕ}
+use Prim.Native.Nat.{◌-◌, ◌<◌, ◌≤◌, min, ℕ}
 use borrow.Author.Tests.{ltb-false}
-use lib.ListN.{get_or, length, replicate, take}
-use lib.Seq.{length-take-le}
-use mathlib.Core.Bool.{Bool, cond, false, true}
+use lib.ListN.{get_or, length, take}
+use mathlib.Core.Bool.{false}
 use mathlib.Core.List.{List, [], ◌∷◌, map}
-use mathlib.Core.Option.{none}
-use mathlib.Core.Path.{◌∙◌, ◌≡◌, ap, refl, subst, sym}
+use mathlib.Core.Path.{◌∙◌, ◌≡◌, ap, refl, sym}
 use native.Mathlib.Omega.{arith}
 use Rattle.value.specs.Digits.{Below}
 use Rattle.value.specs.Level.{has_no_code, join, join_all, mark_of}
 use Rattle.value.specs.Slice.{any}
 use Rattle.value.specs.declared.States.{States}
-use Rattle.value.specs.declared.States.TheVariants.{Four, Two}
-use Rattle.value.proofs.Backward.{below_part}
 use Rattle.value.proofs.Digits.{below_append}
 use Rattle.value.proofs.Levels.{all_below_lem, mark_join}
 use Rattle.value.proofs.Tests.{or_left, or_right}
-use Rattle.fst.specs.Record.{Kept, has_no_text, kept_in, largest_in, width_of}
-use Rattle.fst.proofs.Records.{standing}
+use Rattle.fst.specs.Record.{Kept, has_no_text, kept_in, largest_in}
 use Rattle.runs.specs.All.{All}
 use Rattle.runs.proofs.All.{all_both, all_of}
 use Rattle.signal.specs.Decode.{levels_in}
 use Rattle.signal.proofs.Entries.{entries_each}
-use Rattle.derivation.specs.Piece.{Sized, end_of, extract_of, is_bad_piece, pieces_of}
+use Rattle.signal.proofs.Reading.{whole}
+use Rattle.derivation.specs.Piece.{Sized, is_bad_piece, pieces_of}
 use Rattle.derivation.specs.declared.DerivedBitVecSignal.{DerivedBitVecSignal}
 use Rattle.derivation.specs.declared.Extract.{Extract}
 use Rattle.derivation.proofs.Pieces.{Sound, good_piece, sound}
-use Rattle.steps.specs.Inputs.{indices_fall, input_kept, inputs_of, is_bad_input, is_no_bit_vector, kept_all, mark_is_bad}
-use Rattle.steps.specs.Stepping.{Cursor, cursor, cursors_of, levels_now, set_now, shown_bytes, width_now}
-use Rattle.steps.specs.Steps.{levels_shown}
-use Rattle.steps.specs.Table.{TableOf, Tabled, Vectors, input_in, inputs_in, width_at}
+use Rattle.steps.specs.Inputs.{indices_fall, input_kept, inputs_of, is_bad_input, is_no_bit_vector, kept_all, mark_is_bad, starts_late}
+use Rattle.steps.specs.Stepping.{Cursor, Showing, cursor, cursors, cursors_of, levels_now, set_now, width_now}
+use Rattle.steps.specs.Table.{TableOf, Vectors, inputs_in}
 use Rattle.steps.specs.declared.Input.{Input}
 use Rattle.steps.specs.declared.Inputs.{Inputs}
 use Rattle.steps.proofs.InputTests.{no_input}
-use Rattle.steps.proofs.Levels.{once_begun_lem, unknown_small, unknowns_below}
-use Rattle.steps.proofs.Loops.{all_map_at, cursor_at, cursors_count, input_at, shown_at}
-use Rattle.steps.proofs.Sources.{AllStand, Source, all_inputs, all_none, all_none_map, all_stand, indexable, set_within, showing}
-use Rattle.steps.proofs.Tables.{kept_as, slot_is}
+use Rattle.steps.proofs.Loops.{cursor_at, cursors_count, shown_at}
+use Rattle.steps.proofs.Sources.{AllStand, Source, all_inputs, all_none, all_none_map, all_stand, set_within, showing, shows}
+use Rattle.steps.proofs.Tables.{kept_as}
 use Rattle.steps.proofs.Tracks.{Begun, Shows, Within, bytes_shown, r_indices}
-use Rattle.transform.specs.Derive.{begin_apart, begins_at, code_is_bad, is_beyond, is_unfit, largest_among, largest_of_all, pick_is_bad, picked_of}
-use Rattle.transform.specs.Picking.{Fitting, Linked, PieceIn, Steppable, Stepped, Under, Walkable, largest_now, picked_now, piece_at, widths}
+use Rattle.transform.specs.Derive.{code_is_bad, is_beyond, is_unfit, largest_among, pick_is_bad, picked_of}
+use Rattle.transform.specs.Picking.{PieceIn, Stepped, Under, Walkable, largest_now, largest_over, picked_now}
 use Rattle.transform.specs.Refusals.{Derivable}
 use Rattle.transform.proofs.PieceTests.{Fit, beyond_by_width, code_by_entries, fit, fit_wide}
 
@@ -54,26 +48,24 @@ all_under bytes S (c ∷ cs) h =
     let j = mark_join (set_now bytes c) (largest_now bytes cs) in
     (omega arith, all_under bytes S cs (omega arith))
 
-largest_under : (bytes : List ℕ) (S : States) (cs : List Cursor) → All (Under bytes S) cs → mark_of (largest_now bytes cs) ≤ mark_of S
-unfolding join_all
-largest_under bytes S [] h = omega arith
-largest_under bytes S (c ∷ cs) h = omega (arith, mark_join (set_now bytes c) (largest_now bytes cs), h.0, largest_under bytes S cs h.1)
+abbrev SetWithin : List ℕ → Cursor → Type 0
+SetWithin bytes c = mark_of (set_now bytes c) ≤ mark_of (largest_in c.input.description.encoding)
 
--- no input's largest set is above that of all
-own_under : (bytes indices : List ℕ) (is : List Input) → All (λ i. mark_of (largest_in i.description.encoding) ≤ mark_of (largest_of_all (map (input_kept bytes indices) is))) is
+largest_within : (bytes indices : List ℕ) (is : List Input) (ks : List ℕ) → All (SetWithin bytes) (cursors is ks)
+    → mark_of (largest_now bytes (cursors is ks)) ≤ mark_of (largest_among (map (input_kept bytes indices) is))
 unfolding join_all kept_in
-own_under bytes indices [] = tt
-own_under bytes indices (i ∷ is) =
-    let all = largest_of_all (map (input_kept bytes indices) is) in
-    let j = mark_join (largest_in i.description.encoding) all in (
-      omega arith,
-      all_of (λ k. mark_of (largest_in k.description.encoding) ≤ mark_of all)
-          (λ k. mark_of (largest_in k.description.encoding) ≤ mark_of (join (largest_in i.description.encoding) all)) (λ k h. omega arith) is (own_under bytes indices is),
-    )
+largest_within bytes indices [] ks h = omega arith
+largest_within bytes indices (i ∷ is) [] h = omega arith
+largest_within bytes indices (i ∷ is) (k ∷ ks) h =
+    let a = mark_join (set_now bytes (cursor i k)) (largest_now bytes (cursors is ks)) in
+    let b = mark_join (largest_in i.description.encoding) (largest_among (map (input_kept bytes indices) is)) in
+    let r = largest_within bytes indices is ks h.1 in
+    omega (arith, h.0)
 
-all_when : {A : Type 0} (H : Type 0) (P : A → Type 0) (l : List A) → (H → All P l) → All (λ x. H → P x) l
-all_when H P [] h = tt
-all_when H P (x ∷ l) h = (λ a. (h a).0, all_when H P l (λ a. (h a).1))
+pub largest_is : (bytes indices : List ℕ) (is : List Input) → largest_over is ≡ largest_among (map (input_kept bytes indices) is)
+unfolding join_all kept_in
+largest_is bytes indices [] = refl
+largest_is bytes indices (i ∷ is) = ap (join (largest_in i.description.encoding)) (largest_is bytes indices is)
 
 -- ---- what Derive is given, once no number before 7 refuses it
 
@@ -119,18 +111,9 @@ module _ {d : DerivedBitVecSignal} {inputs : Inputs} {bytes indices : List ℕ} 
       (λ i x y. record { stands = x.0; vector = x.1; marked = y }) is
       (all_both _ _ _ (λ i x y. (x, y)) is a b) m
 
-  abbrev apart : Bool
-  apart = begin_apart (map begins_at ks)
-
-  abbrev below : States
-  below = largest_of_all ks
-
-  -- the largest set is not below the inputs', and where these begin apart not below Four
-  own_in : mark_of below ≤ mark_of M
-  own_in = rw R.walkable.largest (omega (arith, mark_join below (cond apart Four Two)))
-
-  raised : apart ≡ true → 1 ≤ mark_of M
-  raised e = rw (R.walkable.largest, e) (omega (arith, mark_join below Four))
+  -- 15
+  pub early : All (λ i. starts_late (input_kept bytes indices i) ≡ false) (inputs_of inputs)
+  early = all_none_map starts_late (input_kept bytes indices) (inputs_of inputs) D.begun
 
   pub vectors : Vectors inputs
   vectors =
@@ -160,58 +143,35 @@ module _ {d : DerivedBitVecSignal} {inputs : Inputs} {bytes indices : List ℕ} 
         (rw (cursors_count inputs few_inputs R.slots p places) s, rw (shown_at inputs few_inputs R.slots e.signal s width_now 0 p places) n))
         (pieces_of d) (all_none (is_bad_piece d.input_count) (pieces_of d) parts.pieces) (all_none (is_beyond ks) (pieces_of d) tests.within)
 
-    module _ (w : All Within cs) where
+    module _ (b : All Begun cs) (w : All Within cs) where
+      all_known : (P : Cursor → Type 0) → ((c : Cursor) → Source bytes indices c.input → Begun c → Within c → P c) → All P cs
+      all_known P f =
+          all_both (λ c. Source bytes indices c.input) (λ c. Begun c × Within c) P (λ c s x. f c s x.0 x.1) cs
+          (all_inputs (Source bytes indices) (inputs_of inputs) p sources)
+          (all_both Begun Within (λ c. Begun c × Within c) (λ c x y. (x, y)) cs b w)
+
       pub all_shows : All (Shows bytes indices) cs
-      all_shows =
-          all_both (λ c. Source bytes indices c.input) Within (Shows bytes indices) (λ c s v. record { stands = standing s.stands; within = v }) cs
-          (all_inputs (Source bytes indices) (inputs_of inputs) p sources) w
+      all_shows = all_known (Shows bytes indices) shows
 
-      -- the set that an input shows; one that has not begun is one of inputs that begin apart
-      set_under : (c : Cursor) → Source bytes indices c.input → mark_of (largest_in c.input.description.encoding) ≤ mark_of below → Within c → (apart ≡ false → Begun c) → Under bytes M c
-      set_under c s l v b = go c.begun refl apart refl
-        where
-          go : (k : ℕ) → c.begun ≡ k → (a : Bool) → apart ≡ a → Under bytes M c
-          go (suc k) e a x = let on : Begun c = omega arith in omega (arith, set_within c s on v, own_in)
-          go zero e true x = rw e (raised x)
-          go zero e false x = absurd (omega (arith, b x))
-
-      pub set_in_lem : (apart ≡ false → All Begun cs) → mark_of (largest_now bytes cs) ≤ mark_of M
-      set_in_lem b =
-          largest_under bytes M cs
-          (all_both (λ c. Source bytes indices c.input × (mark_of (largest_in c.input.description.encoding) ≤ mark_of below)) (λ c. Within c × (apart ≡ false → Begun c)) (Under bytes M)
-          (λ c x y. set_under c x.0 x.1 y.0 y.1) cs
-          (all_both _ _ _ (λ c x y. (x, y)) cs (all_inputs (Source bytes indices) (inputs_of inputs) p sources)
-          (all_inputs (λ i. mark_of (largest_in i.description.encoding) ≤ mark_of below) (inputs_of inputs) p (own_under bytes indices (inputs_of inputs))))
-          (all_both Within (λ c. apart ≡ false → Begun c) _ (λ c x y. (x, y)) cs w (all_when (apart ≡ false) Begun cs b)))
+      pub set_in_lem : mark_of (largest_now bytes cs) ≤ mark_of M
+      set_in_lem = rw R.walkable.largest (largest_within bytes indices (inputs_of inputs) p (all_known (SetWithin bytes) set_within))
 
       -- each picked level is a letter's
       letters_of : (e : Extract) → is_bad_piece d.input_count e ≡ false → code_is_bad ks e ≡ false → Below 9 (picked_of e (get_or (map (levels_now bytes) cs) e.signal []))
       unfolding kept_in
-      letters_of e x y = rw (shown_at inputs few_inputs R.slots e.signal s (levels_now bytes) [] p places) (go k refl)
-        where
-          s : e.signal < inputs.count
-          s = signal_low e x
-
-          i : Input
-          i = get_or inputs.slots e.signal no_input
-
-          k : ℕ
-          k = get_or p e.signal 0
-
-          c : Cursor
-          c = cursor i k
-
-          go : (n : ℕ) → k ≡ n → Below 9 (picked_of e (levels_now bytes c))
-          go zero q = rw q (below_part 9 (levels_shown (width_now c) none) (unknowns_below 9 (width_now c) (omega (arith, unknown_small))) _ _)
-          go (suc n) q =
-              let m : e.signal < min inputs.count 8 = omega (arith, few_inputs, s) in
-              let on : 1 ≤ k = omega arith in
-              let h = cursor_at inputs few_inputs R.slots e.signal s (Shows bytes indices) p places all_shows in
-              let l : k - 1 < length (input_kept bytes indices i).indices = rw (r_indices bytes indices c h) (omega (arith, h.within)) in
-              let r = entries_each (input_kept bytes indices i) (pick_is_bad e) (sym (code_by_entries inputs R.slots bytes indices e m) ∙ y) (k - 1) l in
-              rw (once_begun_lem {k = k} (levels_shown (width_now c) none) (levels_in i.description.encoding (shown_bytes bytes c)) on)
-              (all_below_lem (picked_of e (levels_in i.description.encoding (shown_bytes bytes c)))
-              (ap (λ (v : List ℕ). has_no_code (picked_of e (levels_in i.description.encoding v))) (sym (bytes_shown bytes indices c h on)) ∙ r))
+      letters_of e x y =
+          let s : e.signal < inputs.count = signal_low e x in
+          let f = few_inputs in
+          let m : e.signal < min inputs.count 8 = omega arith in
+          let i = get_or inputs.slots e.signal no_input in
+          let k = get_or p e.signal 0 in
+          let c = cursor i k in
+          let h = cursor_at inputs few_inputs R.slots e.signal s (Shows bytes indices) p places all_shows in
+          let n : k - 1 < length (input_kept bytes indices i).indices = rw (r_indices bytes indices c h) (omega (arith, h.begun, h.within)) in
+          let q = entries_each (input_kept bytes indices i) (pick_is_bad e) (sym (code_by_entries inputs R.slots bytes indices e m) ∙ y) (k - 1) n in
+          rw (shown_at inputs few_inputs R.slots e.signal s (levels_now bytes) [] p places)
+          (all_below_lem (picked_of e (levels_now bytes c))
+          (ap (λ (v : List ℕ). has_no_code (picked_of e (levels_in i.description.encoding v))) (sym (bytes_shown bytes indices c h)) ∙ q))
 
       letters : Below 9 (picked_now bytes cs (pieces_of d))
       unfolding any picked_now
@@ -228,6 +188,7 @@ module _ {d : DerivedBitVecSignal} {inputs : Inputs} {bytes indices : List ℕ} 
       pub stepped : Stepped inputs bytes p (take d.piece_count d.bits) (largest_now bytes cs) d.width
       stepped =
           record {
+            shown = record { few = few_inputs; places = places; shown = all_known (Showing bytes) showing };
             pieces = pieces_in;
             under = all_under bytes (largest_now bytes cs) cs (omega arith);
             letters = letters;
@@ -248,53 +209,10 @@ walkable_as {d} {inputs} {bytes} {indices} t W =
           record {
             stand = ap (any (is_bad_input bytes indices)) t.same ∙ D.stand;
             fit = ap (is_unfit d inputs.count) k ∙ D.fit;
+            begun = ap (any starts_late) k ∙ D.begun;
             rising = ap (any indices_fall) k ∙ D.rising;
             marked = ap (any mark_is_bad) k ∙ D.marked;
             coded = ap (λ (ks : List Kept). any (code_is_bad ks) (pieces_of d)) k ∙ D.coded;
           };
       largest = W.largest ∙ ap largest_among (sym k);
     }
-
--- ---- what a step is given
-
-module _ {d : DerivedBitVecSignal} {bytes indices : List ℕ} {M : States} {count : ℕ} {numbers starts : List ℕ} (R : Ready d (inputs_in count numbers starts) bytes indices M) (t : Tabled count numbers starts) where
-  abbrev its : Inputs
-  its = inputs_in count numbers starts
-
-  abbrev packed : List ℕ
-  packed = take d.piece_count d.bits
-
-  -- each piece is of an input that there is, and within its width
-  piece_low : (q : ℕ) → q < length packed → ((piece_at packed q).signal < count) × (end_of (piece_at packed q) ≤ width_at numbers (piece_at packed q).signal)
-  piece_low q h =
-      let e = piece_at packed q in
-      let x = all_map_at (PieceIn (cursors_of its (replicate 8 0))) extract_of packed (pieces_in R (replicate 8 0) refl) q 0 h in
-      let s : e.signal < count = rw (cursors_count its (few_inputs R) refl (replicate 8 0) refl) at x.0 in
-      let f = few_inputs R in
-      (s, subst (λ (n : ℕ). end_of e ≤ n) (shown_at its (few_inputs R) refl e.signal s width_now 0 (replicate 8 0) refl ∙ ap (λ (i : Input). width_of i.description.encoding) (sym (slot_is count numbers starts e.signal (omega arith)))) x.1)
-
-  pub fitting : (room : ℕ) → d.width ≤ room → Fitting packed room
-  fitting room h =
-      let f = few_pieces R in
-      record {
-        few = rw (length-take-le d.piece_count d.bits (rw R.size.bits f)) f;
-        signals = λ q k. omega (arith, (piece_low q k).0, few_inputs R);
-        fits = rw (← (parts R).whole) h;
-      }
-
-  pub steppable : {links : List ℕ} → Linked packed links → (room : ℕ) → d.width ≤ room → Steppable count numbers starts bytes indices packed links room
-  steppable linked room h =
-      record {
-        table = t;
-        indexable = indexable (stand R);
-        showable =
-            λ i k l a b.
-            showing (cursor (input_in numbers starts i) k)
-            (subst (Source bytes indices) (sym (slot_is count numbers starts i (omega (arith, few_inputs R)))) (input_at its (few_inputs R) refl i l (Source bytes indices) (sources R))) a b;
-        fitting = fitting room h;
-        linked = linked;
-        pieces = piece_low;
-      }
-
-  pub total : d.width ≡ widths packed
-  total = (parts R).whole

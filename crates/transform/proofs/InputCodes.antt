@@ -4,30 +4,28 @@ use Prim.Native.Nat.{◌%◌, ◌*◌, ◌+◌, ◌-◌, ◌/◌, ◌<◌, ◌^�
 use borrow.Author.Tests.{ltb-true}
 use lib.Bits.{and_mask, bit_and}
 use lib.Dec.{leb, leb→le, ltb}
-use lib.ListN.{drop, get_or, length, take}
+use lib.ListN.{get_or, length}
 use mathlib.Core.Bool.{Bool, false, not, true}
 use mathlib.Core.List.{List, [], ◌∷◌}
-use mathlib.Core.Path.{◌∙◌, ◌≡◌, ap, ap₂, refl, subst, sym}
+use mathlib.Core.Path.{◌∙◌, ◌≡◌, ap, ap₂, refl, sym}
 use native.Mathlib.Omega.{arith}
 use Rattle.value.specs.Digits.{Below, digits}
-use Rattle.value.specs.Level.{bits_of, has_no_code, len_of, set_at}
+use Rattle.value.specs.Level.{bits_of, has_no_code}
 use Rattle.value.specs.Slice.{any, part}
 use Rattle.value.specs.declared.States.{States}
 use Rattle.value.specs.declared.States.TheVariants.{Four, Nine, Two}
 use Rattle.value.proofs.Classes.{each_byte}
-use Rattle.value.proofs.Backward.{below_part}
-use Rattle.value.proofs.Digits.{below_at, below_drop}
+use Rattle.value.proofs.Digits.{below_at}
 use Rattle.value.proofs.Levels.{none_foreign}
 use Rattle.value.proofs.Lists.{any_each, any_map}
 use Rattle.value.proofs.Packed.{read}
 use Rattle.value.proofs.Slices.{any_none, part_all, part_at, part_length}
-use Rattle.value.proofs.Tests.{and_right, by_eq, by_le, or_both, or_left, or_right, to_t}
+use Rattle.value.proofs.Tests.{and_right, by_eq, to_t}
 use Rattle.fst.specs.Record.{kept_in, used_size, width_of, width_stands}
-use Rattle.fst.specs.declared.Description.{Description}
 use Rattle.fst.specs.declared.Encoding.{Encoding}
 use Rattle.fst.specs.declared.Encoding.TheVariants.{BitVector, Event, Real}
 use Rattle.fst.proofs.Records.{indices_used, standing}
-use Rattle.signal.specs.Decode.{Indexed, codes_at, entries_in, entry_at, has_bad_code, levels_in, mark_in}
+use Rattle.signal.specs.Decode.{Indexed, codes_at, entries_in, has_bad_code, levels_in}
 use Rattle.signal.specs.Parts.{Levels, is_bad_byte}
 use Rattle.signal.proofs.Decoding.{level_code, level_in}
 use Rattle.signal.proofs.Entries.{entries_each, entries_none}
@@ -42,8 +40,8 @@ use Rattle.steps.specs.declared.Inputs.{Inputs}
 use Rattle.steps.proofs.InputTests.{no_input, slot_none, used_stands}
 use Rattle.steps.proofs.Levels.{levels_length}
 use Rattle.transform.specs.Derive.{code_is_bad, pick_is_bad, picked_of}
-use Rattle.transform.specs.Refusals.{EntryPick, Readable, RecordPick}
-use Rattle.transform.proofs.PieceTests.{code_by_entries, fit, levels_as, pick_code, pick_count, pick_few, pick_levels, pick_none, pick_owned, picks, piece_is, pieces_count, signal_low}
+use Rattle.transform.specs.Refusals.{Readable, RecordPick}
+use Rattle.transform.proofs.PieceTests.{code_by_entries, fit, pick_code, pick_count, pick_none, piece_is, pieces_count, signal_low}
 
 -- ---- one byte
 
@@ -149,43 +147,6 @@ pub picked_room : (e : Extract) {w : ℕ} (S : States) {levels : List ℕ} → L
 picked_room e Two h inside b = absurd (omega arith)
 picked_room e Four h inside b = absurd (omega arith)
 picked_room e {w} Nine {levels} h inside b = let l : length levels ≡ (w + 1) / 2 = h.long in omega arith
-
--- ---- bytes of which none holds a number that is no code
-
-any_drop : {A : Type 0} (test : A → Bool) (n : ℕ) (l : List A) → any test l ≡ false → any test (drop n l) ≡ false
-unfolding any
-any_drop test zero l h = h
-any_drop test (suc n) [] h = h
-any_drop test (suc n) (x ∷ l) h = any_drop test n l (or_right (test x) (any test l) h)
-
-any_take : {A : Type 0} (test : A → Bool) (n : ℕ) (l : List A) → any test l ≡ false → any test (take n l) ≡ false
-unfolding any
-any_take test zero l h = refl
-any_take test (suc n) [] h = h
-any_take test (suc n) (x ∷ l) h =
-    or_both (test x) (any test (take n l)) (or_left (test x) (any test l) h) (any_take test n l (or_right (test x) (any test l) h))
-
-any_part : {A : Type 0} (test : A → Bool) (start n : ℕ) (l : List A) → any test l ≡ false → any test (part start n l) ≡ false
-unfolding part
-any_part test start n l h = any_take test n (drop start l) (any_drop test start l h)
-
-clean_pick : {e : Extract} {w : ℕ} {M : States} {v : List ℕ} → EntryPick e w M v → Below 256 v → any is_bad_byte v ≡ false → has_no_code (picked_of e (levels_in (BitVector w M) v)) ≡ false
-clean_pick {e} {w} {M} {v} p b c =
-    let S = set_at (mark_in M v) in
-    let l = drop (length v - len_of w S) v in
-    let o = pick_owned p S refl in
-    by_le 4 (bits_of S)
-    (λ h.
-    sym (pick_levels p S refl l refl)
-    ∙ none_picked S h e (subst (Levels w S) (sym o.part) o.levels) p.inside (below_drop 256 v b (length v - len_of w S)) (any_part is_bad_byte (from e l) (to e l - from e l) l (any_drop is_bad_byte (length v - len_of w S) v c)))
-    (λ h. pick_few p S refl (omega arith))
-
--- so no entry of a record does
-pub clean_record : {e : Extract} {d : Description} {used : List ℕ} → RecordPick e d used → {w : ℕ} {M : States} → d.encoding ≡ BitVector w M → Below 256 used → any is_bad_byte used ≡ false
-    → (k : ℕ) → k < d.count → has_no_code (picked_of e (levels_in d.encoding (entry_at d.encoding 0 used k))) ≡ false
-unfolding entry_at
-clean_record {e} {d} {used} p {w} {M} q b c k h =
-    levels_as e (entry_at d.encoding 0 used k) q (clean_pick (picks e d used p w M q k h) (below_part 256 used b _ _) (any_part is_bad_byte _ _ used c))
 
 -- ---- all levels of an input
 

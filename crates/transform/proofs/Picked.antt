@@ -1,38 +1,40 @@
 -- The characters of a step, gathered piece by piece, and the entry that they make.
 -- Assumes nothing.
 use Prim.Native.Nat.{◌+◌, ◌-◌, ◌<◌, ◌^◌, ◌≤◌, suc, zero, ℕ}
-use lib.ListN.{get_or, length, length-append, length-map, length-replicate, replicate, take}
+use lib.Ieee.{up}
+use lib.ListN.{drop, drop_of_length-le, get_or, length, length-append, length-map, take}
 use lib.Pow.{pow_mono}
-use mathlib.Core.List.{List, [], ◌++◌, ◌∷◌, map}
-use mathlib.Core.Option.{Option, none, some}
-use mathlib.Core.Path.{◌∙◌, ◌≡◌, ap, ap₂, refl, subst, sym}
+use lib.Seq.{drop-cons}
+use mathlib.Core.List.{List, [], ◌++◌, ◌∷◌, map, map-append}
+use mathlib.Core.Option.{none}
+use mathlib.Core.Path.{◌∙◌, ◌≡◌, ap, ap₂, refl, sym}
+use native.Mathlib.Numerals.{add-one}
 use native.Mathlib.Omega.{arith}
 use Rattle.value.specs.Digits.{Below}
 use Rattle.value.specs.Level.{bits_of, codes_of, fold_all, join, join_all, letter_of, mark_of, text_of}
-use Rattle.value.specs.Slice.{part, sum}
+use Rattle.value.specs.Slice.{overlay, part, sum}
 use Rattle.value.specs.declared.States.{States}
-use Rattle.value.proofs.Backward.{below_part}
-use Rattle.value.proofs.Digits.{below_append, below_mono}
+use Rattle.value.proofs.Digits.{below_append, below_drop, below_mono, below_take}
 use Rattle.value.proofs.Levels.{bits_up, codes_text, fold_text}
-use Rattle.value.proofs.Slices.{part_at, part_length}
+use Rattle.value.proofs.Slices.{overlay_nil, overlay_overlay, part_at, part_length, part_overlay}
 use Rattle.layout.specs.Entry.{entry_of, entry_size}
 use Rattle.layout.specs.Writable.{Writable, entry_from}
-use Rattle.fst.specs.Record.{kept_in}
+use Rattle.fst.specs.Record.{fits, kept_in}
 use Rattle.runs.specs.All.{All}
 use Rattle.signal.specs.Decode.{codes_at, levels_in, set_in}
 use Rattle.signal.proofs.Decoding.{codes_length}
-use Rattle.signal.proofs.Entries.{indexed}
 use Rattle.derivation.specs.Piece.{end_of, extract_of, piece_width}
 use Rattle.derivation.specs.declared.Extract.{Extract}
-use Rattle.steps.specs.Inputs.{input_kept}
-use Rattle.steps.specs.Stepping.{Cursor, cursors_of, levels_now, set_now, width_now}
-use Rattle.steps.specs.Steps.{Shown, largest_shown, levels_shown, now_of, set_shown, shown_by, unknown}
+use Rattle.steps.specs.Stepping.{Cursor, Showing, cursor, cursors_of, levels_now, set_now, shown_bytes, width_now}
+use Rattle.steps.specs.Steps.{now_of}
 use Rattle.steps.specs.declared.Inputs.{Inputs}
-use Rattle.steps.proofs.Levels.{now_below, now_length, once_begun_lem}
+use Rattle.steps.proofs.InputTests.{no_input}
+use Rattle.steps.proofs.Levels.{levels_below, levels_length}
+use Rattle.steps.proofs.Loops.{all_map_at, cursor_at, cursors_count, shown_at}
+use Rattle.steps.proofs.Sources.{shows}
 use Rattle.steps.proofs.Tracks.{Shows, bytes_shown, now_shown, track_of, tracks}
-use Rattle.transform.specs.Derive.{picked, picked_of}
-use Rattle.transform.specs.Picking.{PieceIn, Stepped, Under, largest_now, picked_now}
-use Rattle.transform.proofs.Placing.{part_replicate}
+use Rattle.transform.specs.Derive.{codes_shown, largest_shown, picked, picked_of, set_shown}
+use Rattle.transform.specs.Picking.{Pickable, Picks, PieceIn, Stepped, Under, largest_now, picked_now}
 
 -- ---- the characters that a piece picks
 
@@ -65,19 +67,86 @@ picked_is w own levels e codes q =
 pub picked_length : (e : Extract) (codes : List ℕ) → end_of e ≤ length codes → length (picked_of e codes) ≡ e.width
 picked_length e codes h = part_length codes (length codes - end_of e) e.width (omega arith)
 
+-- ---- a turn over the pieces
+
+abbrev pub widths : List ℕ → ℕ
+widths packed = sum (map piece_width (map extract_of packed))
+
+pub widths_more : (packed : List ℕ) (i : ℕ) → i < length packed → widths (drop i packed) ≡ (extract_of (get_or packed i 0)).width + widths (drop (i + 1) packed)
+unfolding sum
+widths_more packed i h = rw (drop-cons packed i 0 h, add-one i)
+
+module _ {inputs : Inputs} {bytes p packed : List ℕ} {room : ℕ}
+    (st : Pickable inputs bytes p packed room) (slots : length inputs.slots ≡ 8) (places : length p ≡ 8)
+    (i : ℕ) (h : i < length packed) (e : Extract) (q : e ≡ extract_of (get_or packed i 0)) where
+  abbrev few : inputs.count ≤ 8
+  few = st.shown.few
+
+  named : PieceIn (cursors_of inputs p) e
+  named = rw q (all_map_at (PieceIn (cursors_of inputs p)) extract_of packed st.pieces i 0 h)
+
+  pub signal_in : e.signal < inputs.count
+  signal_in = rw (cursors_count inputs few slots p places) at named.0
+
+  abbrev pub source : Cursor
+  source = cursor (get_or inputs.slots e.signal no_input) (get_or p e.signal 0)
+
+  source_wide : end_of e ≤ width_now source
+  source_wide = rw (shown_at inputs few slots e.signal signal_in width_now 0 p places) at named.1
+
+  module _ (at : ℕ) (l : at + widths (drop i packed) ≤ room) where
+    pub piece_picks : Picks bytes source e room at
+    piece_picks =
+        record {
+          shows = cursor_at inputs few slots e.signal signal_in (Showing bytes) p places st.shown.shown;
+          within = source_wide;
+          fits = rw q (omega (arith, widths_more packed i h));
+        }
+
+    pub room_more : at + e.width + widths (drop (i + 1) packed) ≤ room
+    room_more = rw q (omega (arith, widths_more packed i h))
+
+    pub pieces_more : (text new : List ℕ) → length text ≡ room → new ≡ overlay text at (text_of (picked_of e (levels_now bytes source)))
+        → overlay new (at + e.width) (text_of (picked_now bytes (cursors_of inputs p) (map extract_of (drop (i + 1) packed))))
+        ≡ overlay text at (text_of (picked_now bytes (cursors_of inputs p) (map extract_of (drop i packed))))
+    unfolding picked_now
+    pieces_more text new long f =
+        let cs = cursors_of inputs p in
+        let P = picked_of e (levels_now bytes source) in
+        let R = picked_now bytes cs (map extract_of (drop (suc i) packed)) in
+        let n : length (text_of P) ≡ e.width = length-map P letter_of ∙ picked_length e (levels_now bytes source) (rw (levels_length source.input.description.encoding (shown_bytes bytes source)) source_wide) in
+        let g : picked_now bytes cs (map extract_of (drop i packed)) ≡ P ++ R =
+        ap (λ (x : List ℕ). picked_now bytes cs (map extract_of x)) (drop-cons packed i 0 h)
+        ∙ ap (λ (x : Extract). picked_of x (get_or (map (levels_now bytes) cs) x.signal []) ++ R) (sym q)
+        ∙ ap (λ (x : List ℕ). picked_of e x ++ R) (shown_at inputs few slots e.signal signal_in (levels_now bytes) [] p places) in
+        ap₂ (λ (k : ℕ) (x : List ℕ). overlay x (at + e.width) (text_of (picked_now bytes cs (map extract_of (drop k packed))))) (add-one i) f
+        ∙ overlay_overlay text at (text_of P) (text_of R) (at + e.width) (rw n) (rw long (omega (arith, piece_picks.fits)))
+        ∙ ap (overlay text at) (sym (map-append letter_of P R) ∙ ap text_of (sym g))
+
+pub pieces_done : (bytes : List ℕ) (cs : List Cursor) (packed : List ℕ) (at i : ℕ) (text : List ℕ) → length packed ≤ i
+    → overlay text at (text_of (picked_now bytes cs (map extract_of (drop i packed)))) ≡ text
+unfolding picked_now
+pieces_done bytes cs packed at i text h =
+    ap (λ (l : List ℕ). overlay text at (text_of (picked_now bytes cs (map extract_of l)))) (drop_of_length-le packed {i = i} h) ∙ overlay_nil text at
+
 -- ---- the levels of a step
+
+pub below_part : (B start n : ℕ) (xs : List ℕ) → Below B xs → Below B (part start n xs)
+unfolding part
+below_part B start n xs h = below_take B (drop start xs) (below_drop B xs h start) n
 
 module _ (bytes : List ℕ) (S : States) where
   -- the levels of an input, which there may not be
   shown_below : (cs : List Cursor) → All (Under bytes S) cs → (i : ℕ) → Below (2 ^ bits_of S) (get_or (map (levels_now bytes) cs) i [])
   shown_below [] u i = tt
   shown_below (c ∷ cs) u zero =
-      below_mono (2 ^ bits_of (set_now bytes c)) (2 ^ bits_of S) (levels_now bytes c) (pow_mono (bits_up (set_now bytes c) S u.0)) (now_below bytes c)
+      below_mono (2 ^ bits_of (set_now bytes c)) (2 ^ bits_of S) (levels_now bytes c) (pow_mono (bits_up (set_now bytes c) S u.0))
+      (levels_below c.input.description.encoding (shown_bytes bytes c))
   shown_below (c ∷ cs) u (suc i) = shown_below cs u.1 i
 
   shown_length : (cs : List Cursor) (i : ℕ) → length (get_or (map (levels_now bytes) cs) i []) ≡ get_or (map width_now cs) i 0
   shown_length [] i = refl
-  shown_length (c ∷ cs) zero = now_length bytes c
+  shown_length (c ∷ cs) zero = levels_length c.input.description.encoding (shown_bytes bytes c)
   shown_length (c ∷ cs) (suc i) = shown_length cs i
 
   pub picked_below : (cs : List Cursor) → All (Under bytes S) cs → (es : List Extract) → Below (2 ^ bits_of S) (picked_now bytes cs es)
@@ -85,7 +154,7 @@ module _ (bytes : List ℕ) (S : States) where
   picked_below cs u [] = tt
   picked_below cs u (e ∷ es) =
       below_append (2 ^ bits_of S) (picked_of e (get_or (map (levels_now bytes) cs) e.signal [])) (picked_now bytes cs es)
-      (below_part (2 ^ bits_of S) (get_or (map (levels_now bytes) cs) e.signal []) (shown_below cs u e.signal) _ _) (picked_below cs u es)
+      (below_part (2 ^ bits_of S) _ _ (get_or (map (levels_now bytes) cs) e.signal []) (shown_below cs u e.signal)) (picked_below cs u es)
 
   pub picked_all : (cs : List Cursor) (es : List Extract) → All (PieceIn cs) es → length (picked_now bytes cs es) ≡ sum (map piece_width es)
   unfolding picked_now sum
@@ -101,8 +170,15 @@ module _ {inputs : Inputs} {bytes p packed : List ℕ} {S : States} {width : ℕ
   picked_long : length gathered ≡ width
   picked_long = picked_all bytes S (cursors_of inputs p) (map extract_of packed) st.pieces ∙ st.whole
 
+  pub pickable : (room : ℕ) → width ≤ room → Pickable inputs bytes p packed room
+  pickable room h = record { shown = st.shown; pieces = st.pieces; fits = rw st.whole h }
+
   -- the characters stand at the front of a text
-  module _ (M : States) (up : mark_of S ≤ mark_of M) (new : List ℕ) (front : take width new ≡ text_of gathered) where
+  module _ (M : States) (up : mark_of S ≤ mark_of M) (text new : List ℕ) (e : new ≡ overlay text 0 (text_of gathered)) where
+    front : take width new ≡ text_of gathered
+    unfolding part
+    front = ap (take width) e ∙ part_overlay text (text_of gathered) 0 width (omega arith) (length-map gathered letter_of ∙ picked_long)
+
     front_codes : codes_of (fold_all (take width new)) ≡ gathered
     front_codes = ap (λ (l : List ℕ). codes_of (fold_all l)) front ∙ ap codes_of (fold_text gathered st.letters) ∙ codes_text gathered st.letters
 
@@ -124,45 +200,27 @@ module _ {inputs : Inputs} {bytes p packed : List ℕ} {S : States} {width : ℕ
 
 -- ---- by the definition's tracks
 
--- the levels that a piece picks of an input that has not begun
-pub picked_unknown : (e : Extract) (n : ℕ) → end_of e ≤ n → picked_of e (levels_shown n none) ≡ levels_shown e.width none
-picked_unknown e n h =
-    ap (λ (m : ℕ). part (m - end_of e) e.width (replicate n unknown)) (length-replicate n unknown) ∙ part_replicate unknown n (n - end_of e) e.width (omega arith)
-
 module _ (bytes indices : List ℕ) where
-  -- an input that has not begun, or the entry that it shows
-  by_begun : (c : Cursor) → Shows bytes indices c → (Q : Option Shown → States → List ℕ → Type 0)
-      → Q none (set_shown none) (levels_shown (width_now c) none)
-      → ((s : Shown) → Q (some s) s.set s.codes) → Q (now_of (track_of bytes indices c)) (set_now bytes c) (levels_now bytes c)
+  set_shown_lem : (c : Cursor) → Shows bytes indices c → set_shown (now_of (track_of bytes indices c)) ≡ set_now bytes c
   unfolding kept_in
-  by_begun c h Q a b = go c.begun refl
-    where
-      go : (k : ℕ) → c.begun ≡ k → Q (now_of (track_of bytes indices c)) (set_now bytes c) (levels_now bytes c)
-      go zero e = rw e a
-      go (suc k) e =
-          let on : 1 ≤ c.begun = omega arith in
-          let s = shown_by (indexed (input_kept bytes indices c.input) (c.begun - 1)) in
-          let same = bytes_shown bytes indices c h on in
-          let set_is : set_now bytes c ≡ s.set = once_begun_lem _ _ on ∙ ap (set_in c.input.description.encoding) (sym same) in
-          let levels_are : levels_now bytes c ≡ s.codes = once_begun_lem _ _ on ∙ ap (levels_in c.input.description.encoding) (sym same) in
-          subst (λ (S : States). Q (now_of (track_of bytes indices c)) S (levels_now bytes c)) (sym set_is)
-          (subst (Q (now_of (track_of bytes indices c)) s.set) (sym levels_are) (subst (λ (o : Option Shown). Q o s.set s.codes) (sym (now_shown bytes indices c h on)) (b s)))
+  set_shown_lem c h = ap set_shown (now_shown bytes indices c h) ∙ ap (set_in c.input.description.encoding) (bytes_shown bytes indices c h)
+
+  codes_shown_lem : (c : Cursor) → Shows bytes indices c → codes_shown (now_of (track_of bytes indices c)) ≡ levels_now bytes c
+  unfolding kept_in
+  codes_shown_lem c h = ap codes_shown (now_shown bytes indices c h) ∙ ap (levels_in c.input.description.encoding) (bytes_shown bytes indices c h)
 
   pub largest_shown_lem : (cs : List Cursor) → All (Shows bytes indices) cs → largest_shown (map now_of (tracks bytes indices cs)) ≡ largest_now bytes cs
   unfolding join_all
   largest_shown_lem [] s = refl
-  largest_shown_lem (c ∷ cs) s = ap₂ join (by_begun c s.0 (λ o S l. set_shown o ≡ S) refl (λ x. refl)) (largest_shown_lem cs s.1)
+  largest_shown_lem (c ∷ cs) s = ap₂ join (set_shown_lem c s.0) (largest_shown_lem cs s.1)
 
-  picked_at : (e : Extract) (cs : List Cursor) → All (Shows bytes indices) cs → (i : ℕ) → i < length cs → end_of e ≤ get_or (map width_now cs) i 0
-      → picked_of e (levels_shown (end_of e) (get_or (map now_of (tracks bytes indices cs)) i none)) ≡ picked_of e (get_or (map (levels_now bytes) cs) i [])
-  picked_at e [] s i h w = absurd (omega arith)
-  picked_at e (c ∷ cs) s zero h w =
-      by_begun c s.0 (λ o S l. picked_of e (levels_shown (end_of e) o) ≡ picked_of e l)
-      (picked_unknown e (end_of e) (omega arith) ∙ sym (picked_unknown e (width_now c) w)) (λ x. refl)
-  picked_at e (c ∷ cs) s (suc i) h w = picked_at e cs s.1 i (omega arith) w
+  codes_at_lem : (cs : List Cursor) → All (Shows bytes indices) cs → (i : ℕ) → codes_shown (get_or (map now_of (tracks bytes indices cs)) i none) ≡ get_or (map (levels_now bytes) cs) i []
+  codes_at_lem [] s i = refl
+  codes_at_lem (c ∷ cs) s zero = codes_shown_lem c s.0
+  codes_at_lem (c ∷ cs) s (suc i) = codes_at_lem cs s.1 i
 
-  pub picked_shown : (cs : List Cursor) → All (Shows bytes indices) cs → (es : List Extract) → All (PieceIn cs) es → picked es (map now_of (tracks bytes indices cs)) ≡ picked_now bytes cs es
+  pub picked_shown : (cs : List Cursor) → All (Shows bytes indices) cs → (es : List Extract) → picked es (map now_of (tracks bytes indices cs)) ≡ picked_now bytes cs es
   unfolding picked picked_now
-  picked_shown cs s [] ps = refl
-  picked_shown cs s (e ∷ es) ps =
-      ap₂ (λ (a b : List ℕ). a ++ b) (picked_at e cs s e.signal ps.0.0 ps.0.1) (picked_shown cs s es ps.1)
+  picked_shown cs s [] = refl
+  picked_shown cs s (e ∷ es) =
+      ap₂ (λ (a b : List ℕ). a ++ b) (ap (picked_of e) (codes_at_lem cs s e.signal)) (picked_shown cs s es)

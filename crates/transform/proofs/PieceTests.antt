@@ -29,7 +29,7 @@ use Rattle.signal.proofs.Reading.{Owned, inside, owned, vector, whole}
 use Rattle.derivation.specs.Piece.{Sized, end_of, extract_of, is_bad_derivation, is_bad_piece, piece_width, pieces_of}
 use Rattle.derivation.specs.declared.DerivedBitVecSignal.{DerivedBitVecSignal}
 use Rattle.derivation.specs.declared.Extract.{Extract}
-use Rattle.derivation.proofs.Joins.{count_is, piece_at_lem}
+use Rattle.derivation.proofs.Joins.{count_is, piece_at}
 use Rattle.derivation.proofs.Pieces.{good_piece, sound}
 use Rattle.steps.specs.Inputs.{encoding_of, entry_is_bad, input_kept, inputs_of, is_bad_input, is_no_bit_vector, kept_all, mark_is_bad}
 use Rattle.steps.specs.Refusals.{kept_with}
@@ -150,7 +150,7 @@ module _ (d : DerivedBitVecSignal) (full : length d.bits ≡ 64) (good : is_bad_
 
   module _ (i : ℕ) (h : i < d.piece_count) (e : Extract) (is : e ≡ extract_of (get_or d.bits i 0)) where
     pub piece_is : get_or (pieces_of d) i (extract_of 0) ≡ e
-    piece_is = piece_at_lem d.bits d.piece_count room i h ∙ sym is
+    piece_is = piece_at d.bits d.piece_count room i h ∙ sym is
 
     pub piece_one : (test : Extract → Bool) → test e ≡ true → any test (pieces_of d) ≡ true
     piece_one test t = any_at test (pieces_of d) i (extract_of 0) (rw pieces_count h) (ap test piece_is ∙ t)

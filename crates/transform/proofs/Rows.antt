@@ -26,7 +26,7 @@ use Rattle.steps.specs.Steps.{kept_steps, moments_from, moments_of, moved, small
 use Rattle.steps.specs.declared.Input.{Input}
 use Rattle.steps.specs.declared.Inputs.{Inputs}
 use Rattle.transform.specs.Accepted.{Accepted}
-use Rattle.transform.specs.Derive.{Derived, begin_apart, derive, derive_refusals, is_unfit, picked}
+use Rattle.transform.specs.Derive.{Derived, derive, derive_refusals, is_unfit, picked}
 
 -- ---- row 12
 
@@ -78,7 +78,7 @@ twelfth =
     }
 
 twelfth_holds : Slices twelfth
-unfolding input alone source front Slices written.around written.lent_by written.Follows written.Holds written.played number digits part overlay same any sum place_in code_of letter_of fold set_of join_all tried entry_size entry_of widen_entry widen_all kept_in width_stands fits_bytes fits is_bad fresh is_other_kind is_other_length is_foreign is_below_last repeats appended changed refusals stored add_change ends_like joined entries_of laid_out entry_at entries_from mark_in set_in level_part levels_in has_bad_mark has_no_text falls packed_of extract_of is_bad_piece is_bad_derivation adjoin merging piece_added name_added derivation_with is_bad_range is_overfull add_piece empty_derivation smallest moved moments_from moments_of picked kept_steps begin_apart is_unfit derive_refusals derive
+unfolding input alone source front Slices written.around written.lent_by written.Follows written.Holds written.played number digits part overlay same any sum place_in code_of letter_of fold set_of join_all tried entry_size entry_of widen_entry widen_all kept_in width_stands fits_bytes fits is_bad fresh is_other_kind is_other_length is_foreign is_below_last repeats appended changed refusals stored add_change ends_like joined entries_of laid_out entry_at entries_from mark_in set_in level_part levels_in has_bad_mark has_no_text falls packed_of extract_of is_bad_piece is_bad_derivation adjoin merging piece_added name_added derivation_with is_bad_range is_overfull add_piece empty_derivation smallest moved moments_from moments_of picked kept_steps is_unfit derive_refusals derive
 twelfth_holds = ((refl, (refl, tt)), refl, refl)
 
 twelfth_sized : Sized (slice_of 7 twelfth.msb twelfth.lsb).left

@@ -1,27 +1,24 @@
--- Document 01, "A derived record", "Derive" and "Derived list", and document 02, E4.
+-- Document 01, "A derived record", "Derive" and "Derived list".
 -- Assumes nothing.
-use Rattle.std.specs.Prelude.{◌-◌, ℕ, eqb, ltb, get_or, length, set, Bool, ◌&&◌, ◌||◌, cond, false, not, true, List, [], ◌++◌, ◌∷◌, map}
-use Rattle.std.proofs.Math.Option.{Option, none}
-use Rattle.value.specs.Level.{has_no_code, join, join_all, mark_of, text_of}
+use Rattle.std.specs.Prelude.{◌-◌, ℕ, eqb, ltb, get_or, length, set, Bool, ◌&&◌, ◌||◌, not, List, [], ◌++◌, ◌∷◌, map}
+use Rattle.std.proofs.Math.Option.{Option, none, some}
+use Rattle.value.specs.Level.{has_no_code, join_all, mark_of, text_of}
 use Rattle.value.specs.Slice.{any, overlay, part, same}
 use Rattle.value.specs.declared.States.{States}
-use Rattle.value.specs.declared.States.TheVariants.{Four, Two}
+use Rattle.value.specs.declared.States.TheVariants.{Two}
 use Rattle.fst.specs.Change.{lacks_room}
 use Rattle.fst.specs.Record.{Kept, Lent, largest_in, width_of, lent, described}
 use Rattle.fst.specs.Refusal.{Reply, Test, ◌⇐◌, given, made_of, refused, tried}
 use Rattle.fst.specs.declared.Description.{Description}
 use Rattle.fst.specs.declared.Encoding.TheVariants.{Event}
 use Rattle.fst.specs.declared.Made.{Made}
-use Rattle.fst.specs.declared.NextIndex.{NextIndex}
-use Rattle.fst.specs.declared.NextIndex.TheVariants.{Absent, At}
 use Rattle.runs.specs.Runs.{Step, laid_out}
 use Rattle.signal.specs.Decode.{Indexed, entries_in, levels_in}
-use Rattle.offset.specs.Offset.{head_of}
 use Rattle.derivation.specs.Piece.{end_of, is_bad_derivation, pieces_of}
 use Rattle.derivation.specs.declared.DerivedBitVecSignal.{DerivedBitVecSignal}
 use Rattle.derivation.specs.declared.Extract.{Extract}
-use Rattle.steps.specs.Inputs.{encoding_of, indices_fall, inputs_of, is_bad_input, is_no_bit_vector, kept_all, mark_is_bad}
-use Rattle.steps.specs.Steps.{Moment, Shown, kept_steps, largest_shown, levels_shown}
+use Rattle.steps.specs.Inputs.{encoding_of, indices_fall, inputs_of, is_bad_input, is_no_bit_vector, kept_all, mark_is_bad, starts_late}
+use Rattle.steps.specs.Steps.{Moment, Shown, kept_steps}
 use Rattle.steps.specs.declared.Inputs.{Inputs}
 
 -- ---- what a step yields
@@ -30,10 +27,23 @@ use Rattle.steps.specs.declared.Inputs.{Inputs}
 abbrev pub picked_of : Extract → List ℕ → List ℕ
 picked_of e codes = part (length codes - end_of e) e.width codes
 
--- "the picked levels, highest piece first"; of an unbegun input as many as the piece reaches over
+-- an input that has not begun has none
+abbrev pub codes_shown : Option Shown → List ℕ
+codes_shown none = []
+codes_shown (some s) = s.codes
+
+abbrev pub set_shown : Option Shown → States
+set_shown none = Two
+set_shown (some s) = s.set
+
+-- "the picked levels, highest piece first"
 unfoldable pub picked : List Extract → List (Option Shown) → List ℕ
 picked [] showing = []
-picked (e ∷ es) showing = picked_of e (levels_shown (end_of e) (get_or showing e.signal none)) ++ picked es showing
+picked (e ∷ es) showing = picked_of e (codes_shown (get_or showing e.signal none)) ++ picked es showing
+
+-- "under the largest of the inputs' current own sets"
+abbrev pub largest_shown : List (Option Shown) → States
+largest_shown l = join_all (map set_shown l)
 
 abbrev pub yielded : List Extract → Moment → Step
 yielded es m = record { index = m.index; string = text_of (picked es m.showing); set = largest_shown m.showing }
@@ -48,27 +58,9 @@ same_step a b = same a.string b.string && eqb (mark_of a.set) (mark_of b.set)
 abbrev pub derived_list : List Extract → List Kept → List Step
 derived_list es ks = kept_steps (yielded es) same_step ks
 
--- E4: "when the inputs do not all begin on one index, an empty input counting as one that begins elsewhere"; those that are all empty begin alike
-abbrev pub same_next : NextIndex → NextIndex → Bool
-same_next Absent Absent = true
-same_next Absent (At j) = false
-same_next (At i) Absent = false
-same_next (At i) (At j) = eqb i j
-
-unfoldable pub begin_apart : List NextIndex → Bool
-begin_apart [] = false
-begin_apart (n ∷ ns) = any (λ m. not (same_next n m)) ns
-
-abbrev pub begins_at : Kept → NextIndex
-begins_at k = head_of k.indices
-
 -- "The largest set is the largest of the inputs' largest sets"
-abbrev pub largest_of_all : List Kept → States
-largest_of_all ks = join_all (map (λ (k : Kept). largest_in k.encoding) ks)
-
--- E4: ".. is at least Four when .."
 abbrev pub largest_among : List Kept → States
-largest_among ks = join (largest_of_all ks) (cond (begin_apart (map begins_at ks)) Four Two)
+largest_among ks = join_all (map (λ (k : Kept). largest_in k.encoding) ks)
 
 -- "After every accepted Derive the record is this list laid out"
 abbrev pub derived_kept : DerivedBitVecSignal → List Kept → Kept
@@ -106,6 +98,7 @@ derive_refusals d inputs bytes indices out =
     let ks = kept_all bytes indices inputs in
     2 ⇐ any (is_bad_input bytes indices) (inputs_of inputs)
     ∷ 14 ⇐ is_unfit d inputs.count ks
+    ∷ 15 ⇐ any starts_late ks
     ∷ 11 ⇐ any indices_fall ks
     ∷ 9 ⇐ any mark_is_bad ks
     ∷ 10 ⇐ any (code_is_bad ks) (pieces_of d)

@@ -14,7 +14,7 @@ use Rattle.signal.specs.Parts.{Whole}
 use Rattle.derivation.specs.Piece.{end_of, is_bad_derivation, pieces_of}
 use Rattle.derivation.specs.declared.DerivedBitVecSignal.{DerivedBitVecSignal}
 use Rattle.derivation.specs.declared.Extract.{Extract}
-use Rattle.steps.specs.Inputs.{indices_fall, inputs_of, is_bad_input, kept_all, mark_is_bad}
+use Rattle.steps.specs.Inputs.{indices_fall, inputs_of, is_bad_input, kept_all, mark_is_bad, starts_late}
 use Rattle.steps.specs.declared.Inputs.{Inputs}
 use Rattle.transform.specs.Derive.{code_is_bad, is_unfit}
 
@@ -49,6 +49,7 @@ pub record Readable (d : DerivedBitVecSignal) (inputs : Inputs) (bytes indices :
 pub record Derivable (d : DerivedBitVecSignal) (inputs : Inputs) (bytes indices : List ℕ) : Type 0 where
   pub stand : any (is_bad_input bytes indices) (inputs_of inputs) ≡ false
   pub fit : is_unfit d inputs.count (kept_all bytes indices inputs) ≡ false
+  pub begun : any starts_late (kept_all bytes indices inputs) ≡ false
   pub rising : any indices_fall (kept_all bytes indices inputs) ≡ false
   pub marked : any mark_is_bad (kept_all bytes indices inputs) ≡ false
   pub coded : any (code_is_bad (kept_all bytes indices inputs)) (pieces_of d) ≡ false
@@ -59,6 +60,7 @@ first_tests d inputs bytes indices =
     let ks = kept_all bytes indices inputs in
     2 ⇐ any (is_bad_input bytes indices) (inputs_of inputs)
     ∷ 14 ⇐ is_unfit d inputs.count ks
+    ∷ 15 ⇐ any starts_late ks
     ∷ 11 ⇐ any indices_fall ks
     ∷ 9 ⇐ any mark_is_bad ks
     ∷ 10 ⇐ any (code_is_bad ks) (pieces_of d)

@@ -1,30 +1,30 @@
 // Derive, after wellen's `transform_bv_signal` and `on_change`.
-ghost use Rattle.std.specs.Prelude.{◌≡◌, length};
+ghost use Rattle.std.specs.Prelude.{◌≡◌, ◌≤◌, length};
 ghost use Rattle.layout.specs.Entry.{entry_size};
 ghost use Rattle.fst.specs.declared.Encoding.TheVariants.{BitVector};
 ghost use Rattle.fst.specs.Record.{described};
 ghost use Rattle.fst.specs.Refusal.{given, made_of};
+ghost use Rattle.steps.specs.Inputs.{inputs_of};
 ghost use Rattle.steps.specs.Room.{room_for};
 ghost use Rattle.steps.specs.Storing.{Roomy, Wrote};
 ghost use Rattle.transform.specs.Derive.{derived_from, left_by_derive, derive};
-ghost use Rattle.transform.specs.Picking.{Walkable};
+ghost use Rattle.transform.specs.Picking.{Walkable, largest_over};
 ghost use Rattle.transform.specs.Refusals.{Derivable};
 
-use crate::largest::largest_states;
-use crate::picking::{link_pieces, take_step};
+use crate::picking::{step_states, write_pieces};
 use crate::refusals::first_refusal;
 use derivation::DerivedBitVecSignal;
-use fst::{Description, Encoding, Made, Refusal, Verdict};
+use fst::{Description, Encoding, Made, NextIndex, Refusal, Verdict};
 use layout::entry::entry_size;
 use steps::Inputs;
 use steps::room::{has_room, total_count};
-use steps::step::{NONE, first_indices, largest_shown, soonest};
+use steps::step::{advance, next_index};
 use steps::store::{append_step, put_index};
 use steps::table::table_of;
 use value::States;
 
 // Stores the steps that are kept, a stride apart, and their indices. Returns how many there are. At the stride 0 each takes the place of
-// the one before: they are only counted. Before an input has begun its characters are `x` and its set is Four.
+// the one before: they are only counted.
 fn write_steps(
     derivation: DerivedBitVecSignal,
     inputs: Inputs,
@@ -44,37 +44,40 @@ fn write_steps(
     let table = table_of(inputs);
     let numbers = table.numbers;
     let starts = table.starts;
-    let links = link_pieces(pieces, derivation.width).links;
-    let mut text = [b'x'; 4096];
+    let n = inputs.count;
+    let mut text = [0u8; 4096];
     let mut begun = [0u32; 8];
-    let mut marks = [1u32; 8];
-    let mut nexts = [0u64; 8];
-    first_indices(inputs.count, &numbers, &starts, indices, &mut nexts);
-    let mut index = soonest(inputs.count, &nexts);
     let mut count: u32 = 0;
-    while index != NONE {
-        let next = take_step(
-            index,
-            inputs.count,
-            &numbers,
-            &starts,
-            bytes,
-            indices,
-            pieces,
-            &links,
-            &mut begun,
-            &mut nexts,
-            &mut marks,
-            &mut text,
-        );
-        let states = largest_shown(inputs.count, &marks);
+    loop {
+        let next = next_index(n, &numbers, &starts, indices, &begun);
+        let NextIndex::At(index) = next else {
+            return count;
+        };
+        advance(n, &numbers, &starts, indices, &mut begun, index);
+        write_pieces(pieces, n, &numbers, &starts, bytes, &begun, &mut text);
+        let states = step_states(n, &numbers, &starts, bytes, &begun);
         let value = &text[..derivation.width as usize];
         let kept = append_step(count, max_states, states, value, size, stride, out_bytes);
-        put_index(count, kept, index as u32, out_indices);
-        index = next;
+        put_index(count, kept, index, out_indices);
         count = kept;
     }
-    count
+}
+
+// The largest of the inputs' largest sets.
+fn largest_states(inputs: Inputs) -> States
+    requires { inputs.count ≤ 8 }
+    ensures { result ≡ largest_over (inputs_of inputs) }
+{
+    let mut states = States::Two;
+    let mut i = inputs.count as usize;
+    while 0 < i {
+        i -= 1;
+        let input = inputs.slots[i];
+        let description = input.description;
+        let encoding = description.encoding;
+        states = States::join(encoding.largest(), states);
+    }
+    states
 }
 
 // Whether the steps that are kept have room in slices of these lengths. They are counted where the inputs' entries together have none.
@@ -122,7 +125,7 @@ fn derive_all(
     requires { Derivable derivation inputs bytes.now indices.now }
     ensures { left_by_derive result out_bytes.new out_indices.new ≡ derive derivation inputs bytes.now indices.now out_bytes.old out_indices.old }
 {
-    let max_states = largest_states(inputs, indices);
+    let max_states = largest_states(inputs);
     let width = derivation.width;
     let byte_room = out_bytes.len();
     let index_room = out_indices.len();
@@ -145,7 +148,7 @@ fn derive_all(
     Made::Refused(Refusal::NoRoom)
 }
 
-// Derive. The numbers are tried in the order 2, 14, 11, 9, 10, 7.
+// Derive. The numbers are tried in the order 2, 14, 15, 11, 9, 10, 7.
 pub fn derive(
     derivation: DerivedBitVecSignal,
     inputs: Inputs,

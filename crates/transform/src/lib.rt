@@ -1,5 +1,4 @@
 // Derived records, after the second half of wellen's src/signal/transform.rs.
 pub mod derive;
-pub mod largest;
 pub mod picking;
 pub mod refusals;

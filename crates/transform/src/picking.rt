@@ -1,52 +1,40 @@
-// What a step of Derive yields: the characters of the pieces, of which only those of inputs that move on are written anew.
-ghost use Rattle.std.specs.Prelude.{◌≡◌, ◌+◌, ◌≤◌, ◌<◌, length, take};
+// What a step of Derive yields: the levels that the pieces pick, and the largest of the sets shown.
+ghost use Rattle.std.specs.Prelude.{◌≡◌, map, ◌+◌, ◌≤◌, ◌<◌, length};
 ghost use Rattle.value.specs.Slice.{part, overlay};
 ghost use Rattle.value.specs.Level.{text_of};
 ghost use Rattle.signal.specs.Decode.{codes_at};
 ghost use Rattle.signal.specs.Parts.{Levels};
-ghost use Rattle.derivation.specs.Piece.{end_of};
-ghost use Rattle.steps.specs.Between.{least};
-ghost use Rattle.steps.specs.Stepping.{Advanced, cursor, levels_now};
-ghost use Rattle.steps.specs.Table.{input_in, inputs_in};
+ghost use Rattle.derivation.specs.Piece.{extract_of};
+ghost use Rattle.steps.specs.Stepping.{cursor, cursors_of, levels_now, AllShowing};
+ghost use Rattle.steps.specs.Table.{Tables, Tabled, SizedAt, input_in, inputs_in};
 ghost use Rattle.transform.specs.Derive.{picked_of};
-ghost use Rattle.transform.specs.Picking.{Fitting, Held, Linked, Rewritten, Steppable, Within, Writes, widths};
+ghost use Rattle.transform.specs.Picking.{largest_now, picked_now, Picks, Pickable};
 
 use derivation::Extract;
-use signal::decode::{code_at, level_part, states_at};
-use steps::step::{NONE, min, move_on, shown_entry};
-use steps::table::WIDTHS;
+use signal::decode::{code_at, level_part, states_in};
+use steps::step::shown_entry;
+use steps::table::{MARKS, WIDTHS};
 use value::{States, num_to_bit_char};
 
-// Where the following pieces and the places start in the links.
-const FOLLOWING: usize = 8;
-
-const PLACES: usize = 72;
-
-// The pieces by number, of which 64 is none's: the first of each input, behind these for each piece the following one of its input, and
-// behind these where its characters start.
-#[derive(Drop)]
-pub struct Links {
-    pub links: [u32; 136],
-}
-
-// The links of pieces that have so many characters together.
-pub fn link_pieces(pieces: &[u64], total: u32) -> Links
-    requires { Fitting pieces.now 4096 × (total ≡ widths pieces.now) }
-    ensures { Linked pieces.now result.links }
+// The largest of the sets that the inputs show.
+pub fn step_states(
+    count: u32,
+    numbers: &[u32],
+    starts: &[usize],
+    bytes: &[u8],
+    begun: &[u32; 8],
+) -> States
+    requires { Tabled count numbers.now starts.now × AllShowing (inputs_in count numbers.now starts.now) bytes.now begun.now }
+    ensures { result ≡ largest_now bytes.now (cursors_of (inputs_in count numbers.now starts.now) begun.now) }
 {
-    let mut links = [64; 136];
-    let mut at = total;
-    let mut p = pieces.len();
-    while 0 < p {
-        p -= 1;
-        let extract = Extract::from_u64(pieces[p]);
-        let signal = extract.signal as usize;
-        at -= extract.width as u32;
-        links[PLACES + p] = at;
-        links[FOLLOWING + p] = links[signal];
-        links[signal] = p as u32;
+    let mut states = States::Two;
+    let mut i = count as usize;
+    while 0 < i {
+        i -= 1;
+        let entry = shown_entry(starts, i, bytes, begun[i]);
+        states = States::join(states_in(numbers[MARKS + i], entry), states);
     }
-    Links { links }
+    states
 }
 
 // Stores the characters of `count` levels, of which `first` is the number of the first, from a place on.
@@ -92,101 +80,46 @@ fn write_levels_of(
 // Stores the characters of one piece from a place on.
 fn write_piece(
     extract: Extract,
-    width: u32,
-    states: States,
-    levels: &[u8],
-    text: &mut [u8],
-    at: usize,
-)
-    requires { Levels width states levels.now × (end_of extract ≤ width) × (at + extract.width ≤ length text.old) }
-    ensures { text.new ≡ overlay text.old at (text_of (picked_of extract (codes_at width states levels.now))) }
-{
-    let count = extract.width as u32;
-    let first = width - (extract.lsb + count);
-    write_levels_of(width, states, levels, first, count, text, at);
-}
-
-// Stores the characters of an input's pieces by its levels.
-fn write_pieces(
-    i: usize,
-    pieces: &[u64],
-    links: &[u32],
-    width: u32,
-    states: States,
-    levels: &[u8],
-    text: &mut [u8],
-)
-    requires { (i < 8) × Fitting pieces.now (length text.old) × Linked pieces.now links.now × Levels width states levels.now × Within pieces.now i width }
-    ensures { Rewritten pieces.now i (codes_at width states levels.now) text.old text.new }
-{
-    let mut p = links[i] as usize;
-    while p < pieces.len() {
-        let extract = Extract::from_u64(pieces[p]);
-        write_piece(
-            extract,
-            width,
-            states,
-            levels,
-            text,
-            links[PLACES + p] as usize,
-        );
-        p = links[FOLLOWING + p] as usize;
-    }
-}
-
-// Stores the characters of an input's pieces by the entry that it shows, of which the mark is that of its set.
-fn write_input(
-    i: usize,
-    pieces: &[u64],
-    links: &[u32],
     numbers: &[u32],
     starts: &[usize],
     bytes: &[u8],
     begun: u32,
-    mark: u32,
     text: &mut [u8],
+    at: usize,
 )
-    requires { Writes numbers.now starts.now bytes.now pieces.now links.now i begun mark (length text.old) }
-    ensures { Rewritten pieces.now i (levels_now bytes.now (cursor (input_in numbers.now starts.now i) begun)) text.old text.new }
+    requires { (extract.signal < 8) × Tables numbers.now starts.now × SizedAt numbers.now starts.now extract.signal × Picks bytes.now (cursor (input_in numbers.now starts.now extract.signal) begun) extract (length text.old) at }
+    ensures { text.new ≡ overlay text.old at (text_of (picked_of extract (levels_now bytes.now (cursor (input_in numbers.now starts.now extract.signal) begun)))) }
 {
+    let i = extract.signal as usize;
     let width = numbers[WIDTHS + i];
-    let states = states_at(mark);
-    let levels = level_part(width, states, shown_entry(starts, i, bytes, begun));
-    write_pieces(i, pieces, links, width, states, levels, text);
+    let entry = shown_entry(starts, i, bytes, begun);
+    let own = states_in(numbers[MARKS + i], entry);
+    let levels = level_part(width, own, entry);
+    let count = extract.width as u32;
+    let first = width - (extract.lsb + count);
+    write_levels_of(width, own, levels, first, count, text, at);
 }
 
-// Takes the step at an index: every input whose next entry carries it moves on by one, and the characters of its pieces are written anew.
-// Returns the next step's index, found in the same loop.
-pub fn take_step(
-    index: u64,
+// Stores the characters of all pieces.
+pub fn write_pieces(
+    pieces: &[u64],
     count: u32,
     numbers: &[u32],
     starts: &[usize],
     bytes: &[u8],
-    indices: &[u32],
-    pieces: &[u64],
-    links: &[u32],
-    begun: &mut [u32; 8],
-    nexts: &mut [u64; 8],
-    marks: &mut [u32; 8],
+    begun: &[u32; 8],
     text: &mut [u8],
-) -> u64
-    requires { (index < 4294967296) × Steppable count numbers.now starts.now bytes.now indices.now pieces.now links.now (length text.old) × Held count numbers.now starts.now bytes.now indices.now pieces.now begun.old nexts.old marks.old text.old }
-    ensures value { result ≡ least (take count nexts.new) }
-    ensures advanced { Advanced (inputs_in count numbers.now starts.now) indices.now index begun.old begun.new }
-    ensures held { Held count numbers.now starts.now bytes.now indices.now pieces.now begun.new nexts.new marks.new text.new }
+)
+    requires { Tabled count numbers.now starts.now × Pickable (inputs_in count numbers.now starts.now) bytes.now begun.now pieces.now (length text.old) }
+    ensures { text.new ≡ overlay text.old 0 (text_of (picked_now bytes.now (cursors_of (inputs_in count numbers.now starts.now) begun.now) (map extract_of pieces.now))) }
 {
-    let mut next = NONE;
-    let mut i = count as usize;
-    while 0 < i {
-        i -= 1;
-        if nexts[i] == index {
-            move_on(numbers, starts, bytes, indices, i, begun, nexts, marks);
-            write_input(
-                i, pieces, links, numbers, starts, bytes, begun[i], marks[i], text,
-            );
-        }
-        next = min(nexts[i], next);
+    let mut at = 0;
+    let mut i = 0;
+    while i < pieces.len() {
+        let extract = Extract::from_u64(pieces[i]);
+        let signal = extract.signal as usize;
+        write_piece(extract, numbers, starts, bytes, begun[signal], text, at);
+        at += extract.width as usize;
+        i += 1;
     }
-    next
 }

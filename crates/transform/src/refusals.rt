@@ -5,7 +5,7 @@ ghost use Rattle.value.specs.Level.{bits_of, has_no_code};
 ghost use Rattle.fst.specs.declared.Encoding.TheVariants.{BitVector};
 ghost use Rattle.fst.specs.Refusal.{given, tried};
 ghost use Rattle.signal.specs.Decode.{entries_in, levels_in, codes_at};
-ghost use Rattle.signal.specs.Parts.{Levels, is_bad_byte};
+ghost use Rattle.signal.specs.Parts.{Levels};
 ghost use Rattle.derivation.specs.Piece.{end_of, pieces_of};
 ghost use Rattle.steps.specs.Inputs.{inputs_of, is_bad_input, kept_all};
 ghost use Rattle.steps.specs.Refusals.{kept_with};
@@ -102,17 +102,6 @@ fn has_bad_pick(extract: Extract, width: u32, max_states: States, entry: &[u8]) 
     has_bad_level(extract, width, states, level_part(width, states, entry))
 }
 
-// Whether a byte of a record may hold a picked level that is no code. The bytes are tried where all levels are picked; else they are more than
-// those of the picked levels.
-fn may_be_bad(extract: Extract, width: u32, used: &[u8]) -> bool
-    ensures { result ≡ false → any is_bad_byte used.now ≡ false }
-{
-    if (extract.width as u32) < width {
-        return true;
-    }
-    has_bad_byte(used)
-}
-
 // Whether a picked level of an entry of a record is no code.
 fn any_bad_pick(extract: Extract, description: Description, used: &[u8]) -> bool
     requires { RecordPick extract description used.now }
@@ -123,9 +112,6 @@ fn any_bad_pick(extract: Extract, description: Description, used: &[u8]) -> bool
         return false;
     };
     if max_states.bits() < 4 {
-        return false;
-    }
-    if !may_be_bad(extract, width, used) {
         return false;
     }
     let count = description.count;
@@ -222,6 +208,9 @@ pub fn first_refusal(
     }
     if is_unfit(derivation, inputs, bytes, indices) {
         return Verdict::Refused(Refusal::BadDerivation);
+    }
+    if any_fails(InputTest::Late, inputs, bytes, indices) {
+        return Verdict::Refused(Refusal::LateInput);
     }
     if any_fails(InputTest::Falling, inputs, bytes, indices) {
         return Verdict::Refused(Refusal::IndexFalls);

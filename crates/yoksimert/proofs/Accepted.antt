@@ -5,7 +5,7 @@ use mathlib.Core.Logic.Iff
 use mathlib.Core.Logic.{◌↔◌}
 use mathlib.Core.Bool.{false}
 use mathlib.Core.List.{List, [], ◌∷◌}
-use Prim.Native.Nat.{suc, ℕ}
+use Prim.Native.Nat.{suc}
 use native.Mathlib.Omega.{arith}
 use lib.ListN.{replicate}
 use Rattle.value.specs.Digits.{number, digits}
@@ -13,7 +13,7 @@ use Rattle.value.specs.Level.{place_in, code_of, letter_of, fold, set_of, join_a
 use Rattle.value.specs.Slice.{part, overlay, same, any, sum}
 use Rattle.layout.specs.Entry.{entry_size, entry_of}
 use Rattle.fst.specs.declared.Description.{Description}
-use Rattle.fst.specs.Refusal.{Reply, Test, given, refused, tried}
+use Rattle.fst.specs.Refusal.{Reply, Test, given, tried}
 use Rattle.fst.specs.Record.{Kept, Lent, has_no_text, kept_in, width_stands, fits_bytes, fits, is_bad}
 use Rattle.fst.proofs.Refusals.{Result, through, stopped, result}
 use Rattle.runs.specs.Runs.{ends_like, joined, entries_of, laid_out, Same}
@@ -23,13 +23,10 @@ use Rattle.derivation.specs.declared.DerivedBitVecSignal.{DerivedBitVecSignal}
 use Rattle.derivation.specs.Piece.{extract_of, is_bad_piece, is_bad_derivation}
 use Rattle.steps.specs.declared.Inputs.{Inputs}
 use Rattle.steps.specs.Steps.{smallest, moved, moments_from, moments_of, kept_steps}
-use Rattle.transform.specs.Derive.{begin_apart, picked, largest_among, derived_kept, is_unfit, lent_out, derive_refusals, derived_by, derive}
+use Rattle.transform.specs.Derive.{picked, largest_among, derived_kept, is_unfit, lent_out, derive_refusals, derived_by, derive}
 use Rattle.transform.specs.Accepted.{Accepted, record_of}
 use Rattle.transform.proofs.Derived.{demand_3_derived, derived_record_rises}
-use Rattle.transform.proofs.Late.{never_15}
-use Rattle.yoksimert.specs.declared.FlatDerivation.{FlatDerivation}
 use Rattle.yoksimert.specs.declared.FlatInput.{FlatInput}
-use Rattle.yoksimert.specs.declared.FlatInputs.{FlatInputs}
 use Rattle.yoksimert.specs.Flat.{decoded, flat_made}
 use Rattle.yoksimert.specs.Derivations.{derivation_of, inputs_by, flat_derive}
 use Rattle.yoksimert.specs.Recorder.{by_numbers}
@@ -93,18 +90,6 @@ flat_demand_3_derived a b e =
     rw (record_by a, record_by b)
     (Iff.trans (same_iff (record_of (accepted a)) (record_of (accepted b))) (demand_3_derived (accepted a) (accepted b) e))
 
--- no call is refused with 15
-pub flat_never_15 : (f : FlatDerivation) (names pieces : List ℕ) (inputs : FlatInputs) (bytes indices out_bytes out_indices : List ℕ)
-    → (flat_derive f names pieces inputs bytes indices out_bytes out_indices).answer.number ≡ 15 → ⊥
-unfolding flat_derive
-flat_never_15 f names pieces inputs bytes indices out_bytes out_indices =
-    go (derive (derivation_of f names pieces) (inputs_by inputs) bytes indices out_bytes out_indices).answer
-    (never_15 (derivation_of f names pieces) (inputs_by inputs) bytes indices out_bytes out_indices)
-  where
-    go : (r : Reply Description) → (r ≡ refused 15 → ⊥) → (flat_made r).number ≡ 15 → ⊥
-    go (refused n) h e = h (ap refused e)
-    go (given m) h e = omega arith
-
 -- ---- a call that is accepted
 
 -- one wire, 1 at index 0
@@ -113,7 +98,7 @@ wire = record { description = record { kind = 2; width = 1; set = 0; count = 1 }
 
 -- all of it, as bit 0 of input 0
 pub one_wire : FlatAccepted
-unfolding wire flat_derive decoded number digits part overlay same any sum place_in code_of letter_of fold set_of join_all tried entry_size entry_of kept_in width_stands fits_bytes fits is_bad ends_like joined entries_of laid_out entry_at entries_from mark_in set_in level_part levels_in has_bad_mark has_no_text falls extract_of is_bad_piece is_bad_derivation smallest moved moments_from moments_of picked kept_steps begin_apart is_unfit derive_refusals derive
+unfolding wire flat_derive decoded number digits part overlay same any sum place_in code_of letter_of fold set_of join_all tried entry_size entry_of kept_in width_stands fits_bytes fits is_bad ends_like joined entries_of laid_out entry_at entries_from mark_in set_in level_part levels_in has_bad_mark has_no_text falls extract_of is_bad_piece is_bad_derivation smallest moved moments_from moments_of picked kept_steps is_unfit derive_refusals derive
 one_wire =
     record {
       derivation = record { width = 1; input_count = 1; piece_count = 1 };

@@ -11,10 +11,8 @@ use std::time::Duration;
 const ENTRIES: u32 = 1_000_000;
 const ROUNDS: u32 = 3;
 
-/// The inputs of one derivation: wellen's records, and the same in two shared slices, where the last ones may begin late. wellen can't start
-/// a late record, so that in its own the first entry is put at index 0, and all others are where they are in the slices.
+/// The inputs of one derivation: wellen's records, and the same in two shared slices.
 struct Inputs {
-    late: u32,
     records: Vec<Record>,
     places: Vec<Input>,
     bytes: Vec<u8>,
@@ -22,24 +20,21 @@ struct Inputs {
 }
 
 impl Inputs {
-    /// Records of one width and set that change in turn. So many begin halfway, all others at index 0.
-    fn new(count: u32, width: u32, states: States, late: u32) -> Self {
+    /// Records of one width and set that change in turn, all of them at index 0.
+    fn new(count: u32, width: u32, states: States) -> Self {
         let mut all = Self {
-            late,
             records: Vec::new(),
             places: Vec::new(),
             bytes: Vec::new(),
             indices: Vec::new(),
         };
         for input in 0..count {
-            let is_late = input >= count - late;
-            let delay = if is_late { ENTRIES / 2 } else { 0 };
             let mut writer = Writer::fresh(width);
             for change in 0..ENTRIES / count {
                 let index = if change == 0 {
                     0
                 } else {
-                    change * count + input + delay
+                    change * count + input
                 };
                 let seed = u64::from(change * count + input);
                 writer.add_string_unguarded(index, &string(states, width as usize, seed));
@@ -50,34 +45,28 @@ impl Inputs {
                 index_start: all.indices.len(),
             });
             all.bytes.extend_from_slice(writer.bytes());
-            all.indices.push(if is_late { input + delay } else { 0 });
-            all.indices.extend_from_slice(&writer.indices()[1..]);
+            all.indices.extend_from_slice(writer.indices());
             all.records.push(writer.finish().expect("wellen made it"));
         }
         all
     }
 }
 
-/// ms for a derivation of a million entries: one wire of eight, eight records joined, of which none or half begin late, and a shuffle of 64
-/// pieces of two wide records.
+/// ms for a derivation of a million entries: one wire of eight, eight records joined, and a shuffle of 64 pieces of two wide records.
 pub fn derive() {
-    println!(
-        "\nderive: ms for inputs of a million entries; for wellen the first entry of a late record is at index 0\n"
-    );
+    println!("\nderive: ms for inputs of a million entries\n");
     println!("| derivation | set | entries made | yoksimert | wellen | wellen / yoksimert |");
     println!("|---|---|---|---|---|---|");
     for states in SETS {
         let slice = joined(&[(1, 3, 3)]);
-        let inputs = Inputs::new(1, 8, states, 0);
-        timed("one wire of 8", states, &slice, &inputs);
+        timed("one wire of 8", states, &slice, &Inputs::new(1, 8, states));
         let eight: Vec<_> = (1..=8).map(|name| (name, 0, 0)).collect();
-        for (name, late) in [
-            ("eight records of one wire", 0),
-            ("eight records of one wire, four of them late", 4),
-        ] {
-            let inputs = Inputs::new(8, 1, states, late);
-            timed(name, states, &joined(&eight), &inputs);
-        }
+        timed(
+            "eight records of one wire",
+            states,
+            &joined(&eight),
+            &Inputs::new(8, 1, states),
+        );
         let shuffle: Vec<_> = (0..64)
             .map(|piece| (piece % 2 + 1, piece * 4 % 256 + 3, piece * 4 % 256))
             .collect();
@@ -85,7 +74,7 @@ pub fn derive() {
             "64 pieces of 4 wires of two records of 256",
             states,
             &joined(&shuffle),
-            &Inputs::new(2, 256, states, 0),
+            &Inputs::new(2, 256, states),
         );
     }
 }
@@ -106,11 +95,7 @@ fn timed(name: &str, states: States, derivation: &Derivation, inputs: &Inputs) {
         (made, theirs_made) = (made_here as usize, made_there);
         [ours, theirs]
     });
-    let steps = theirs_made..=theirs_made + inputs.late as usize;
-    assert!(
-        steps.contains(&made),
-        "both make as many entries, but for those at which one begins late"
-    );
+    assert_eq!(made, theirs_made, "both make as many entries");
     println!(
         "| {name} | {states:?} | {made} | {ours:.1} | {theirs:.1} | {:.1} |",
         theirs / ours

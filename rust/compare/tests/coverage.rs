@@ -9,7 +9,7 @@ use compare::operations::derive::Derive;
 use compare::operations::look_up::LookUp;
 use compare::operations::number::{Decimal, Form, Number, Signed, Unsigned};
 use compare::record::SETS;
-use oracle::{Encoding, Input, States};
+use oracle::{Encoding, States};
 use std::collections::BTreeSet;
 
 #[derive(Default)]
@@ -20,10 +20,6 @@ struct Coverage {
     raises: BTreeSet<(States, States, u32)>,
     inputs: BTreeSet<u32>,
     pieces: BTreeSet<u32>,
-    /// Of accepted derivations: where the inputs begin, and whether one that no piece picks begins after another.
-    begins: BTreeSet<(Begin, bool)>,
-    /// Of accepted derivations: where the inputs begin, whether one has an index twice, and whether two share one.
-    equal_indices: BTreeSet<(Begin, bool, bool)>,
     longest_list: usize,
     /// Of comparisons: whether wellen is a reference, the answer, and whether the used bytes are equal.
     comparisons: BTreeSet<(bool, bool, bool)>,
@@ -31,15 +27,6 @@ struct Coverage {
     counted: BTreeSet<(&'static str, u32, States)>,
     /// Whether a signed number is below zero, with its width.
     signs: BTreeSet<(bool, u32)>,
-}
-
-#[derive(Clone, Copy, PartialEq, Eq, PartialOrd, Ord, Debug)]
-enum Begin {
-    AtZero,
-    OnAnotherIndex,
-    Apart,
-    BesideEmpty,
-    Nowhere,
 }
 
 /// The call and its answer, if it is an accepted one of this operation.
@@ -59,10 +46,6 @@ impl Receiver for Coverage {
         } else if let Some((call, _)) = accepted::<Derive>(case) {
             self.inputs.insert(call.derivation.input_count);
             self.pieces.insert(call.derivation.piece_count);
-            let (begin, waits) = begin(call);
-            self.begins.insert((begin, waits));
-            let (within, across) = equal_indices(call);
-            self.equal_indices.insert((begin, within, across));
         } else if let Some((call, equal)) = accepted::<Compare>(case) {
             let same_bytes = call.first.used_bytes() == call.second.used_bytes();
             let comparison = (call.is_in_domain(), *equal, same_bytes);
@@ -120,41 +103,6 @@ impl Coverage {
     }
 }
 
-/// Where the inputs of a derivation begin, and whether one that no piece picks begins after another or never.
-fn begin(call: &Derive) -> (Begin, bool) {
-    let first = |input: &Input| {
-        let is_empty = input.description.count == 0;
-        (!is_empty).then(|| call.indices[input.index_start])
-    };
-    let firsts: Vec<Option<u32>> = call.inputs.iter().map(first).collect();
-    let smallest = firsts.iter().flatten().min().copied();
-    let begin = match smallest {
-        None => Begin::Nowhere,
-        Some(_) if firsts.contains(&None) => Begin::BesideEmpty,
-        Some(_) if firsts.iter().any(|first| *first != smallest) => Begin::Apart,
-        Some(0) => Begin::AtZero,
-        Some(_) => Begin::OnAnotherIndex,
-    };
-    let derivation = &call.derivation;
-    let pieces = &derivation.pieces[..derivation.piece_count as usize];
-    let is_picked = |input: usize| pieces.iter().any(|piece| piece >> 48 == input as u64);
-    let waits = |input: usize| firsts[input] != smallest && !is_picked(input);
-    (begin, (0..firsts.len()).any(waits))
-}
-
-/// Whether one input of a derivation has an index twice, and whether two inputs share one.
-fn equal_indices(call: &Derive) -> (bool, bool) {
-    let used = |input: &Input| {
-        let count = input.description.count as usize;
-        call.indices[input.index_start..][..count].to_vec()
-    };
-    let lists: Vec<Vec<u32>> = call.inputs.iter().map(used).collect();
-    let distinct = |indices: &[u32]| indices.iter().collect::<BTreeSet<_>>().len();
-    let apart: usize = lists.iter().map(|list| distinct(list)).sum();
-    let within = lists.iter().any(|list| distinct(list) < list.len());
-    (within, distinct(&lists.concat()) < apart)
-}
-
 /// Every number of every operation. 2 of Look up and of Search needs a list above the maximum, which the edges have.
 fn all_numbers() -> BTreeSet<(&'static str, u8)> {
     let mut out = BTreeSet::new();
@@ -187,31 +135,6 @@ fn everything_is_reached() {
     assert_eq!(coverage.raises, raises);
     assert_eq!(coverage.inputs, (1..=8).collect());
     assert_eq!(coverage.pieces.last(), Some(&64));
-    let begins = [
-        (Begin::AtZero, false),
-        (Begin::OnAnotherIndex, false),
-        (Begin::Apart, false),
-        (Begin::Apart, true),
-        (Begin::BesideEmpty, false),
-        (Begin::BesideEmpty, true),
-        (Begin::Nowhere, false),
-    ];
-    assert_eq!(coverage.begins, BTreeSet::from(begins));
-    let begun = [
-        Begin::AtZero,
-        Begin::OnAnotherIndex,
-        Begin::Apart,
-        Begin::BesideEmpty,
-    ];
-    let equal_indices = begun.into_iter().flat_map(|begin| {
-        let pairs = [(false, false), (false, true), (true, false), (true, true)];
-        pairs.map(|(within, across)| (begin, within, across))
-    });
-    let nowhere = (Begin::Nowhere, false, false);
-    assert_eq!(
-        coverage.equal_indices,
-        equal_indices.chain([nowhere]).collect()
-    );
     assert_eq!(coverage.comparisons.len(), 8, "{:?}", coverage.comparisons);
     assert!(
         coverage.longest_list >= 131_071,

@@ -347,34 +347,16 @@ fn derive_takes_a_record_fewer_than_inputs() {
     );
 }
 
-/// The used bytes and indices that wellen leaves where document 02 says others, under this largest set.
-fn derived_otherwise(
-    (derivation, records): (Derivation, &[LentRecord]),
-    max_states: States,
-    (bytes, indices): (&[u8], &[u32]),
-) -> (Vec<u8>, Vec<u32>) {
-    let call = derive(derivation, records);
-    let width = derivation.width;
-    let encoding = Encoding::BitVector { width, max_states };
-    let description = Description::of(encoding, indices);
-    let theirs = differing(&call, Ok(description)).expect("wellen derives it");
-    let ours = outcome(&call);
-    let ours = cut(description, &ours.bytes, &ours.indices);
-    assert_eq!((&ours.bytes[..], &ours.indices[..]), (bytes, indices));
-    let outcome = accepted(verdict(&call)).expect("wellen derives it");
-    let used = cut(theirs, &outcome.bytes, &outcome.indices);
-    (used.bytes, used.indices)
-}
-
-fn both() -> Derivation {
-    derivation(2, &[(0, 1, 0), (1, 1, 0)])
+#[test]
+fn derive_starts_after_index_0() {
+    let late = vector(1, States::Two, &[1], &[1]);
+    assert_eq!(derived(bit_0(), &[late], 15), (vec![1], vec![1]));
 }
 
 #[test]
 fn derive_takes_an_index_for_an_offset() {
     let late = vector(1, States::Two, &[0, 1], &[1, 2]);
-    let theirs = derived_otherwise((bit_0(), &[late]), States::Two, (&[0, 1], &[1, 2]));
-    assert_eq!(theirs, (vec![1], vec![1]));
+    assert_eq!(derived(bit_0(), &[late], 15), (vec![1], vec![1]));
 }
 
 /// The second level stays x, under the step's set Two: it spills into the first one, and `02` says `10`.
@@ -382,42 +364,12 @@ fn derive_takes_an_index_for_an_offset() {
 fn derive_never_starts_a_late_input() {
     let early = vector(1, States::Four, &[0x00], &[0]);
     let late = vector(1, States::Two, &[1], &[1]);
-    let theirs = derived_otherwise(
-        (both(), &[early, late]),
-        States::Four,
-        (&[0x42, 0x01], &[0, 1]),
-    );
-    assert_eq!(theirs, (vec![0x02], vec![0]));
+    let both = derivation(2, &[(0, 1, 0), (1, 1, 0)]);
+    assert_eq!(derived(both, &[early, late], 15), (vec![0x02], vec![0]));
 }
 
-/// Its x spills as a late input's does.
 #[test]
-fn derive_stores_an_empty_inputs_x_in_one_bit() {
-    let early = vector(1, States::Two, &[1], &[0]);
+fn derive_takes_an_empty_input() {
     let empty = vector(1, States::Two, &[], &[]);
-    let theirs = derived_otherwise((both(), &[early, empty]), States::Four, (&[0x46], &[0]));
-    assert_eq!(theirs, (vec![0x02], vec![0]));
-}
-
-#[test]
-fn derive_passes_over_a_late_input_that_no_piece_names() {
-    let early = vector(1, States::Two, &[1], &[0]);
-    let late = vector(1, States::Two, &[0], &[1]);
-    let one = derivation(2, &[(0, 1, 0)]);
-    let theirs = derived_otherwise(
-        (one, &[early, late]),
-        States::Four,
-        (&[0x41, 0x01], &[0, 1]),
-    );
-    assert_eq!(theirs, (vec![1], vec![0]));
-}
-
-/// One input with one entry after index 0, or with none: outside the domain, and no difference.
-#[test]
-fn derive_of_one_late_entry_or_none_is_alike() {
-    for (bytes, indices) in [(&[1][..], &[1][..]), (&[], &[])] {
-        let call = derive(bit_0(), &[vector(1, States::Two, bytes, indices)]);
-        assert!(!call.is_in_domain());
-        assert!(verdict(&call).agrees(&call, &outcome(&call)));
-    }
+    assert_eq!(derived(bit_0(), &[empty], 15), (vec![], vec![]));
 }

@@ -1,4 +1,4 @@
-//! Derive and its derived list (document 01, A derived record; document 02, E4).
+//! Derive and its derived list (document 01, A derived record).
 
 use crate::derivation::{Derivation, Piece};
 use crate::history::laid_out;
@@ -26,24 +26,20 @@ pub struct Step {
     pub index: u32,
     /// The picked levels in small letters, the highest piece first.
     pub string: Vec<u8>,
-    /// The largest of the inputs' current own sets, an unbegun input's being Four.
+    /// The largest of the inputs' current own sets.
     pub states: States,
 }
 
-/// Own set and codes of what an input shows.
-type Shown = (States, Vec<u8>);
-
-/// An input's entries, and what it shows before the first of them.
+/// An input's entries as indices, own sets and codes.
 struct Entries<'a> {
-    unbegun: Shown,
     indices: &'a [u32],
-    levels: Vec<Shown>,
+    levels: Vec<(States, Vec<u8>)>,
 }
 
 /// Writes the derived record to the front of the output slices (document 01, Derive).
 ///
 /// # Errors
-/// 2, 14, 11, 9, 10, 7.
+/// 2, 14, 15, 11, 9, 10, 7.
 pub fn derive(
     d: &Derivation,
     inputs: &[Input],
@@ -60,13 +56,15 @@ pub fn derive(
     refuse_if(!inputs.iter().all(stands), 2)?;
     refuse_if(!fits(d, inputs), 14)?;
     let index_lists: Vec<&[u32]> = inputs.iter().map(|i| used_indices(i, indices)).collect();
+    let starts_at_zero = |list: &&[u32]| list.first() == Some(&0);
+    refuse_if(!index_lists.iter().all(starts_at_zero), 15)?;
     refuse_if(index_lists.iter().any(|list| falls(list)), 11)?;
     let entries = all_entries(inputs, bytes, indices)?;
     picked_levels_stand(d, &entries)?;
 
     let list = derived_list(d, inputs, bytes, indices);
     let (description, derived_bytes, derived_indices) =
-        derived_laid_out(d.width, derived_set(inputs, indices), &list);
+        derived_laid_out(d.width, largest_set(inputs), &list);
     let exceeds = list.len() > MAXIMUM as usize
         || derived_bytes.len() > out_bytes.len()
         || derived_indices.len() > out_indices.len();
@@ -111,7 +109,6 @@ fn all_entries<'a>(
     for input in inputs {
         let decoded = |k| codes_of(input.description, bytes, input.byte_start, k);
         all.push(Entries {
-            unbegun: unbegun(width_of(input).expect("14 is tried before 9")),
             indices: used_indices(input, indices),
             levels: (0..input.description.count)
                 .map(decoded)
@@ -119,12 +116,6 @@ fn all_entries<'a>(
         });
     }
     Ok(all)
-}
-
-/// "Levels of an unbegun input are `x`, and the step's set is then at least Four."
-fn unbegun(width: u32) -> Shown {
-    let string = vec![b'x'; width as usize];
-    (States::Four, codes(&string).expect("x is a level"))
 }
 
 /// The codes of a piece's bits, the highest first. Bit 0 is the last character.
@@ -144,51 +135,33 @@ fn picked_levels_stand(d: &Derivation, inputs: &[Entries]) -> Result<(), Refusal
     Ok(())
 }
 
-/// The largest set of the derived record: the largest of the inputs' largest sets, and "at least Four when the inputs do
-/// not all begin on one index, an empty input counting as one that begins elsewhere; if all are empty, [..] under the
-/// inputs' largest set".
-fn derived_set(inputs: &[Input], indices: &[u32]) -> States {
+/// The largest of the inputs' largest sets.
+fn largest_set(inputs: &[Input]) -> States {
     let largest = |input: &Input| match input.description.encoding {
         Encoding::BitVector { max_states, .. } => max_states,
         Encoding::Event | Encoding::Real => States::Two,
     };
-    let of_inputs = inputs.iter().map(largest).max().unwrap_or(States::Two);
-    let firsts: Vec<Option<&u32>> = inputs
-        .iter()
-        .map(|input| used_indices(input, indices).first())
-        .collect();
-    let all_empty = firsts.iter().all(|first| first.is_none());
-    let on_one_index = firsts
-        .iter()
-        .all(|first| first.is_some() && *first == firsts[0]);
-    if all_empty || on_one_index {
-        of_inputs
-    } else {
-        of_inputs.max(States::Four)
-    }
+    inputs.iter().map(largest).max().unwrap_or(States::Two)
 }
 
-/// The steps of a derived record less the dropped ones (document 01, Derived list). "The first step is at the smallest
-/// first index; inputs whose first entry carries it are at entry 0, others have not begun, and an unbegun input's next
-/// entry is its entry 0": each step is made by one rule, from inputs that have not begun.
+/// The steps of a derived record less the dropped ones (document 01, Derived list).
 ///
 /// # Panics
 /// On inputs that Derive refuses before number 7.
 pub fn derived_list(d: &Derivation, inputs: &[Input], bytes: &[u8], indices: &[u32]) -> Vec<Step> {
     let inputs = all_entries(inputs, bytes, indices).expect("9 is tried before 7");
     let pieces = d.used_pieces();
-    let mut next_entries = vec![0; inputs.len()];
-    let mut list: Vec<Step> = Vec::new();
-    while let Some(index) = next_index(&inputs, &next_entries) {
-        for (input, next) in inputs.iter().zip(&mut next_entries) {
-            if input.indices.get(*next) == Some(&index) {
-                *next += 1;
+    let mut current = vec![0; inputs.len()];
+    let mut list = vec![step(0, &pieces, &inputs, &current)];
+    while let Some(index) = next_index(&inputs, &current) {
+        for (input, entry) in inputs.iter().zip(&mut current) {
+            if input.indices.get(*entry + 1) == Some(&index) {
+                *entry += 1;
             }
         }
-        let step = step(index, &pieces, &inputs, &next_entries);
-        let repeats =
-            |before: &Step| (&step.string, step.states) == (&before.string, before.states);
-        if !list.last().is_some_and(repeats) {
+        let step = step(index, &pieces, &inputs, &current);
+        let before = list.last().expect("the first step is kept");
+        if (&step.string, step.states) != (&before.string, before.states) {
             list.push(step);
         }
     }
@@ -196,23 +169,20 @@ pub fn derived_list(d: &Derivation, inputs: &[Input], bytes: &[u8], indices: &[u
 }
 
 /// The smallest index among the inputs' next entries.
-fn next_index(inputs: &[Entries], next_entries: &[usize]) -> Option<u32> {
-    let indices = inputs
+fn next_index(inputs: &[Entries], current: &[usize]) -> Option<u32> {
+    let next = inputs
         .iter()
-        .zip(next_entries)
-        .filter_map(|(input, next)| input.indices.get(*next));
-    indices.min().copied()
+        .zip(current)
+        .filter_map(|(input, entry)| input.indices.get(entry + 1));
+    next.min().copied()
 }
 
 /// What a step yields: the picked levels under the largest of the current own sets.
-fn step(index: u32, pieces: &[Piece], inputs: &[Entries], next_entries: &[usize]) -> Step {
-    let shown: Vec<&Shown> = inputs
+fn step(index: u32, pieces: &[Piece], inputs: &[Entries], current: &[usize]) -> Step {
+    let shown: Vec<&(States, Vec<u8>)> = inputs
         .iter()
-        .zip(next_entries)
-        .map(|(input, next)| match next.checked_sub(1) {
-            None => &input.unbegun,
-            Some(entry) => &input.levels[entry],
-        })
+        .zip(current)
+        .map(|(input, &entry)| &input.levels[entry])
         .collect();
     let codes: Vec<u8> = pieces
         .iter()

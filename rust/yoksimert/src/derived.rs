@@ -148,18 +148,15 @@ impl DerivedBitVecSignal {
 /// Derives a record: of each change of an input the picked levels, under the largest of the inputs' own sets at that time. The inputs are
 /// the records of [`DerivedBitVecSignal::inputs`], in that order. A step that shows the levels and the set of the one before is dropped.
 ///
-/// The inputs may begin at any time indices, or be empty. The derived record begins where the first of them does; until an input begins, its
-/// levels are `x`, and its set is [`States::Four`]. Of empty inputs alone the derived record is empty.
-///
 /// # Errors
 /// Each is tried over all inputs before the next: [`Refusal::BadDerivation`] if there is not one record for each input, or one is no bit
-/// vector or narrower than a piece; [`Refusal::IndexFalls`], [`Refusal::BadMark`]; [`Refusal::BadCode`] at a picked level;
-/// [`Refusal::NoRoom`] for more than 1,048,576 changes. [`Refusal::OutOfMemory`].
+/// vector or narrower than a piece; [`Refusal::LateInput`], [`Refusal::IndexFalls`], [`Refusal::BadMark`]; [`Refusal::BadCode`] at a
+/// picked level; [`Refusal::NoRoom`] for more than 1,048,576 changes. [`Refusal::OutOfMemory`].
 ///
 /// ```
-/// use yoksimert::{DerivedBitVecSignal, SignalWriter, transform_signal};
+/// use yoksimert::{DerivedBitVecSignal, Refusal, SignalWriter, transform_signal};
 ///
-/// # fn main() -> Result<(), yoksimert::Refusal> {
+/// # fn main() -> Result<(), Refusal> {
 /// let mut tariff = SignalWriter::new(4)?;
 /// tariff.add_change(0, "0001")?;
 /// tariff.add_change(5, "0101")?; // the two lower wires stay as they are
@@ -168,18 +165,9 @@ impl DerivedBitVecSignal {
 /// let low = transform_signal(&low, &[&tariff.finish()])?;
 /// assert_eq!((low.time_indices(), low.bytes()), (&[0, 9][..], &[0b01, 0b10][..]));
 ///
-/// // The lamp is clipped on after the pulse wire.
-/// let mut pulse = SignalWriter::new(1)?;
-/// pulse.add_change(2, "0")?;
-/// pulse.add_change(6, "1")?;
-/// let mut lamp = SignalWriter::new(1)?;
-/// lamp.add_change(4, "1")?;
-/// let mut both = DerivedBitVecSignal::new_slice(1, 0, 0)?;
-/// both.concat_right(2, 0, 0)?;
-/// let both = transform_signal(&both, &[&pulse.finish(), &lamp.finish()])?;
-/// assert_eq!(both.time_indices(), [2, 4, 6]);
-/// assert_eq!(both.get_entry(0)?.to_string(), "0x");
-/// assert_eq!(both.get_entry(1)?.to_string(), "01");
+/// let late = SignalWriter::new(2)?.finish();
+/// let both = DerivedBitVecSignal::new_slice(0, 1, 0)?;
+/// assert_eq!(transform_signal(&both, &[&late]), Err(Refusal::LateInput));
 /// # Ok(())
 /// # }
 /// ```
@@ -188,7 +176,7 @@ pub fn transform_signal(
     inputs: &[&Signal],
 ) -> Result<Signal, Refusal> {
     let shared = Shared::new(inputs)?;
-    // A step for each entry of an input at most.
+    // The first step, and one for each later entry of an input at most.
     let most = shared.indices.len().min(MAXIMUM);
     let mut room = shared.longest().min(most);
     loop {
@@ -240,7 +228,6 @@ struct Shared {
     inputs: FlatInputs,
     bytes: Vec<u8>,
     indices: Vec<u32>,
-    begin_apart: bool,
 }
 
 impl Shared {
@@ -260,7 +247,6 @@ impl Shared {
             },
             bytes: room_for(signals.iter().map(|signal| signal.bytes().len()).sum())?,
             indices: room_for(signals.iter().map(|signal| signal.len()).sum())?,
-            begin_apart: begin_apart(signals),
         };
         for (input, signal) in zip(&mut shared.inputs.inputs, signals) {
             *input = FlatInput {
@@ -279,20 +265,11 @@ impl Shared {
         counts.max().unwrap_or(0) as usize
     }
 
-    /// The bytes of a derived entry of this width. Its largest set is the largest of the inputs', and Four at least where they begin apart.
+    /// The bytes of a derived entry of this width: its largest set is the largest of the inputs'.
     fn derived_size(&self, width: u32) -> usize {
-        let inputs = self.inputs.inputs.iter();
-        let sets = inputs.map(|input| States::of_number(input.description.set));
-        let apart = self.begin_apart.then_some(States::Four);
-        let max_states = sets.chain(apart).max().unwrap_or(States::Two);
+        let sets = self.inputs.inputs.iter().map(|i| i.description.set);
+        let max_states = States::of_number(sets.max().unwrap_or(0));
         let derived = FixedWidthEncoding::BitVector { max_states, width };
         derived.bytes_per_entry().unwrap_or_default()
     }
-}
-
-/// Whether the signals do not all begin at one time index. An empty one begins elsewhere than one that is not.
-fn begin_apart(signals: &[&Signal]) -> bool {
-    let mut firsts = signals.iter().map(|signal| signal.get_first_time_idx());
-    let first = firsts.next();
-    firsts.any(|other| Some(other) != first)
 }

@@ -1,7 +1,7 @@
 use std::error::Error;
 use std::fmt::{self, Display, Formatter};
 
-/// The refusals by their numbers in documents 01 and 02, rising. No call gives 15, which was a late input's.
+/// The refusals by their numbers in documents 01 and 02, rising.
 macro_rules! refusals {
     ($($number:literal $name:ident $reason:literal)*) => {
         /// Why a call was refused. A refused call alters nothing.
@@ -67,6 +67,7 @@ refusals! {
     12 BadRange "the piece's msb is below its lsb or above 4,095"
     13 DerivationFull "the derivation has 8 inputs, 64 pieces or 4,096 bits, and the piece would exceed that"
     14 BadDerivation "the derivation has no piece, does not fit the records it is given, or breaks a limit"
+    15 LateInput "an input is empty, or does not start at time index 0"
     16 WrongWidth "the width is above 64, or, for packed decimal, not a multiple of 4"
     17 NotBinary "a level is neither 0 nor 1"
     18 NotDecimal "a digit of packed decimal is above 9"

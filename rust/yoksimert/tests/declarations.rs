@@ -271,7 +271,7 @@ fn refusals() -> Vec<(u32, String)> {
 
 #[test]
 fn the_numbers_of_refusals_agree() {
-    assert!(refusals().len() >= 17, "{:?}", refusals());
+    assert!(refusals().len() >= 18, "{:?}", refusals());
     assert_eq!(refusals_of_rattle(), refusals());
 }
 

@@ -170,81 +170,8 @@ fn an_input_that_no_piece_names_counts_for_steps_and_sets() {
     let derived = derive_into(&d, &[&a, &b], 9, 9).unwrap();
     assert_eq!(derived.used_indices(), [0, 3, 7]);
     assert_eq!(derived.used_bytes(), [0x01, 0x41, 0x81]);
-}
-
-/// A derived record of bit 0 of each input: its largest set, indices and bytes.
-fn joined(records: &[&Recorder]) -> (States, Vec<u32>, Vec<u8>) {
-    let pieces: Vec<_> = (0..records.len() as u32).map(|name| (name, 0, 0)).collect();
-    parts(&derive_into(&derivation(&pieces), records, 20, 20).unwrap())
-}
-
-fn parts(derived: &Recorder) -> (States, Vec<u32>, Vec<u8>) {
-    let (indices, bytes) = (derived.used_indices(), derived.used_bytes());
-    (derived.max_states(), indices.to_vec(), bytes.to_vec())
-}
-
-#[test]
-fn an_input_shows_x_until_it_begins() {
-    let pulse = line(&[(2, "0"), (4, "1"), (9, "0")]);
-    let lamp = line(&[(4, "1"), (6, "0")]);
-    let late = [&pulse, &lamp];
-    // 0x, 11, 10 and 00: the first under Four, the others under Two.
-    let expected = (States::Four, vec![2, 4, 6, 9], vec![0x42, 3, 2, 0]);
-    assert_eq!(joined(&late), expected);
-    let d = derivation(&[(0, 0, 0), (1, 0, 0)]);
-    let derived = derive_into(&d, &late, 4, 4).unwrap();
-    let texts = [(2, "0x"), (4, "11"), (6, "10"), (9, "00")];
-    assert_eq!(listed(&derived), owned(&texts));
-}
-
-#[test]
-fn an_empty_input_never_begins() {
-    let (pulse, empty) = (line(&[(3, "0"), (5, "1")]), line(&[]));
-    let expected = (States::Four, vec![3, 5], vec![0x48, 0x49]);
-    assert_eq!(joined(&[&empty, &pulse]), expected);
-    let nine = Recorder::with(bit_vector(1, States::Nine, 0), &[], &[]);
-    for inputs in [&[&empty][..], &[&empty, &empty], &[&empty, &nine]] {
-        let largest = inputs.iter().map(|input| input.max_states()).max();
-        assert_eq!(joined(inputs), (largest.unwrap(), vec![], vec![]));
-    }
-}
-
-#[test]
-fn inputs_that_begin_on_one_index_add_no_four() {
-    let (a, b) = (line(&[(7, "1"), (8, "0")]), line(&[(7, "0"), (7, "1")]));
-    let expected = (States::Two, vec![7, 7, 8], vec![2, 3, 1]);
-    assert_eq!(joined(&[&a, &b]), expected);
-    let late = line(&[(8, "0")]);
-    let expected = (States::Four, vec![7, 7, 8], vec![0x52, 0x56, 2]);
-    assert_eq!(joined(&[&a, &b, &late]), expected);
-    assert_eq!(joined(&[&late]), (States::Two, vec![8], vec![0]));
-}
-
-/// Its x is nobody's level, but the steps before it begins are Four, and one of them is kept for the set alone.
-#[test]
-fn an_unpicked_input_that_has_not_begun_makes_the_set_four() {
-    let (a, late) = (line(&[(0, "1")]), line(&[(1, "0")]));
-    let d = by_hand(&[1, 2], &[packed(0, 1, 0)]);
-    let derived = derive_into(&d, &[&a, &late], 9, 9).unwrap();
-    let expected = (States::Four, vec![0, 1], vec![0x41, 0x01]);
-    assert_eq!(parts(&derived), expected);
-    let derived = derive_into(&d, &[&a, &line(&[])], 9, 9).unwrap();
-    assert_eq!(parts(&derived), (States::Four, vec![0], vec![0x41]));
-    // A picked x of an input that has begun is dropped as a repeat of the unbegun one's.
-    let unknown = line(&[(1, "x"), (2, "1")]);
-    let expected = (States::Four, vec![0, 2], vec![0x46, 0x03]);
-    assert_eq!(joined(&[&a, &unknown]), expected);
-}
-
-/// Of the entries at one index an unbegun input takes its first, and the others pair up from there.
-#[test]
-fn a_late_input_pairs_up_from_its_first_entry() {
-    let a = line(&[(1, "0"), (3, "1"), (3, "0"), (3, "1")]);
-    let b = line(&[(3, "0"), (3, "1")]);
-    let d = derivation(&[(0, 0, 0), (1, 0, 0)]);
-    let derived = derive_into(&d, &[&a, &b], 9, 9).unwrap();
-    let texts = [(1, "0x"), (3, "10"), (3, "01"), (3, "11")];
-    assert_eq!(listed(&derived), owned(&texts));
+    let late = line(&[(1, "0")]);
+    assert_eq!(derive_into(&d, &[&a, &late], 9, 9).err(), Some(Refusal(15)));
 }
 
 #[test]

@@ -3,9 +3,8 @@
 use std::collections::{BTreeMap, BTreeSet};
 
 use oracle::{
-    Change, Derivation, Encoding, Fed, MAX_WIDTH, Offset, Refusal, Side, States, Step, add_piece,
-    compare, derived_laid_out, derived_list, empty_derivation, fresh, history, history_laid_out,
-    look_up,
+    Change, Derivation, Encoding, Fed, Offset, Refusal, Side, States, Step, add_piece, compare,
+    derived_laid_out, derived_list, empty_derivation, fresh, history, history_laid_out, look_up,
 };
 
 use crate::support::{Recorder, bit_vector, derive_into, entry_size, shared};
@@ -264,8 +263,7 @@ fn equal_records_and_equal_histories_go_together() {
     assert!(outcomes.values().all(|&count| count > 50), "{outcomes:?}");
 }
 
-/// A record of any bytes, mostly with marks that stand, whose indices seldom fall. At least half of those with an entry begin at
-/// index 0.
+/// A record of any bytes, mostly with marks that stand, whose indices seldom fall.
 fn any_record(random: &mut Random, width: u32) -> Recorder {
     let max_states = random.pick(&SETS);
     let count = random.pick(&[0, 1, 2, 3, 4, 5, 6, 6, 7]);
@@ -279,7 +277,7 @@ fn any_record(random: &mut Random, width: u32) -> Recorder {
     if !random.one_in(20) {
         indices.sort_unstable();
     }
-    if let Some(first) = indices.first_mut().filter(|_| random.one_in(2)) {
+    if let Some(first) = indices.first_mut().filter(|_| !random.one_in(20)) {
         *first = 0;
     }
     Recorder::with(description, &bytes, &indices)
@@ -366,20 +364,16 @@ fn any_derivation(random: &mut Random, widths: &[u32]) -> Derivation {
 }
 
 /// The derived list by keys: an entry's key is its index and how many entries of that index came
-/// before it; a step is at each key of any input, and shows each input's last entry not above it, or
-/// `x` under Four.
+/// before it; a step is at each key of any input, and shows each input's last entry not above it.
 fn list_by_keys(d: &Derivation, records: &[&Recorder]) -> Vec<Step> {
     let keys: Vec<Vec<(u32, usize)>> = records.iter().map(|record| keys_of(record)).collect();
     let steps: BTreeSet<(u32, usize)> = keys.iter().flatten().copied().collect();
     let shown: Vec<Vec<(States, String)>> = records.iter().map(|r| contents(r).unwrap()).collect();
     let mut list: Vec<Step> = Vec::new();
     for key in steps {
-        let begun = |input: usize| keys[input].iter().filter(|&&k| k <= key).count();
+        let last = |input: usize| keys[input].iter().filter(|&&k| k <= key).count() - 1;
         let current: Vec<_> = (0..records.len())
-            .map(|input| match begun(input) {
-                0 => (States::Four, "x".repeat(MAX_WIDTH as usize)),
-                entries => shown[input][entries - 1].clone(),
-            })
+            .map(|input| &shown[input][last(input)])
             .collect();
         let string = picked(d, &current);
         let states = current.iter().map(|(states, _)| *states).max().unwrap();
@@ -408,7 +402,7 @@ fn keys_of(record: &Recorder) -> Vec<(u32, usize)> {
 }
 
 /// The characters of the pieces, by their places in the inputs' texts.
-fn picked(d: &Derivation, current: &[(States, String)]) -> Vec<u8> {
+fn picked(d: &Derivation, current: &[&(States, String)]) -> Vec<u8> {
     let mut string = Vec::new();
     for piece in &d.pieces[..d.piece_count as usize] {
         let text = current[(piece >> 48) as usize].1.as_bytes();
@@ -443,7 +437,7 @@ fn an_accepted_derive_leaves_its_derived_list_laid_out() {
             assert_is_derived_list(&d, &records, &derived);
         }
     }
-    let refused = [2, 7, 9, 10, 11, 14].map(|number| Some(Refusal(number)));
+    let refused = [2, 7, 9, 10, 11, 14, 15].map(|number| Some(Refusal(number)));
     let numbers: BTreeSet<_> = refused.into_iter().chain([None]).collect();
     assert_eq!(
         seen.keys().copied().collect::<BTreeSet<_>>(),
@@ -456,7 +450,12 @@ fn an_accepted_derive_leaves_its_derived_list_laid_out() {
 fn assert_is_derived_list(d: &Derivation, records: &[&Recorder], derived: &Recorder) {
     let (inputs, bytes, indices) = shared(records);
     let list = derived_list(d, &inputs, &bytes, &indices);
-    let laid_out = derived_laid_out(d.width, largest_set(records), &list);
+    let largest = records
+        .iter()
+        .map(|record| record.max_states())
+        .max()
+        .unwrap();
+    let laid_out = derived_laid_out(d.width, largest, &list);
     assert_eq!(derived.description, laid_out.0);
     assert_eq!(derived.used_bytes(), laid_out.1);
     assert_eq!(derived.used_indices(), laid_out.2);
@@ -472,14 +471,6 @@ fn assert_is_derived_list(d: &Derivation, records: &[&Recorder], derived: &Recor
     if records.iter().all(|record| contents(record).is_ok()) {
         assert_eq!(list, list_by_keys(d, records));
     }
-}
-
-/// The largest set that any input says, and Four if the inputs begin at more than one place.
-fn largest_set(records: &[&Recorder]) -> States {
-    let begin: BTreeSet<Option<&u32>> = records.iter().map(|r| r.used_indices().first()).collect();
-    let apart = (begin.len() > 1).then_some(States::Four);
-    let said = records.iter().map(|record| record.max_states());
-    said.chain(apart).max().unwrap()
 }
 
 #[test]

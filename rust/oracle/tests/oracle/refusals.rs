@@ -364,39 +364,17 @@ fn derive_refuses_14_for_the_records() {
 }
 
 #[test]
-fn derive_refuses_14_before_11() {
-    let falling = alternating(vec![5, 3]);
+fn derive_refuses_14_before_15() {
     let empty = Recorder::empty(fresh(1).unwrap(), 0, 0);
     let two_bits = derivation(&[(1, 0, 0), (2, 1, 1)]);
-    assert_eq!(derive_refuses(&two_bits, &[&falling, &empty]), Some(14));
-    assert_eq!(derive_refuses(&bit_0(), &[&falling]), Some(11));
-}
-
-/// Inputs that document 01 refuses with 15, alone and beside one that begins at index 0. Request E4 takes them.
-#[test]
-fn derive_takes_late_and_empty_inputs() {
-    let empty = Recorder::empty(fresh(1).unwrap(), 0, 0);
-    let late = Recorder::with(bit_vector(1, States::Two, 1), &[0], &[u32::MAX]);
-    let both = derivation(&[(1, 0, 0), (2, 0, 0)]);
-    let made = |d: &Derivation, records: &[&Recorder]| {
-        let derived = derive_into(d, records, 2, 2).unwrap();
-        let (bytes, indices) = (derived.used_bytes(), derived.used_indices());
-        (derived.description, bytes.to_vec(), indices.to_vec())
-    };
-    let none = bit_vector(1, States::Two, 0);
-    assert_eq!(made(&bit_0(), &[&empty]), (none, vec![], vec![]));
-    let one = bit_vector(1, States::Two, 1);
-    assert_eq!(made(&bit_0(), &[&late]), (one, vec![0], vec![u32::MAX]));
-    // 1x under Four, and once the late one has begun 10 under Two.
-    let one = bit_vector(2, States::Four, 1);
-    assert_eq!(made(&both, &[&good(), &empty]), (one, vec![0x46], vec![0]));
-    let two = bit_vector(2, States::Four, 2);
-    let expected = (two, vec![0x46, 0x02], vec![0, u32::MAX]);
-    assert_eq!(made(&both, &[&good(), &late]), expected);
+    assert_eq!(derive_refuses(&two_bits, &[&empty, &good()]), Some(14));
+    assert_eq!(derive_refuses(&bit_0(), &[&empty]), Some(15));
+    let late = Recorder::with(bit_vector(1, States::Two, 1), &[0], &[1]);
+    assert_eq!(derive_refuses(&bit_0(), &[&late]), Some(15));
 }
 
 #[test]
-fn derive_tries_11_then_9_over_all_inputs() {
+fn derive_tries_15_then_11_then_9_over_all_inputs() {
     let nine = |bytes: &[u8], indices: &[u32]| {
         Recorder::with(
             bit_vector(1, States::Nine, bytes.len() as u32),
@@ -404,11 +382,13 @@ fn derive_tries_11_then_9_over_all_inputs() {
             indices,
         )
     };
-    let falling = nine(&[0, 1, 0], &[1, 5, 3]);
+    let late = nine(&[0], &[1]);
+    let falling = nine(&[0, 1, 0], &[0, 5, 3]);
     let bad_mark = nine(&[0xC0], &[0]);
     let bad_code = nine(&[0x8F, 0x00], &[0, 1]);
     let full = nine(&[0x00, 0x01], &[0, 1]);
     let d = derivation(&[(1, 0, 0), (2, 0, 0)]);
+    assert_eq!(derive_refuses(&d, &[&falling, &late]), Some(15));
     assert_eq!(derive_refuses(&d, &[&bad_mark, &falling]), Some(11));
     assert_eq!(derive_refuses(&d, &[&bad_code, &bad_mark]), Some(9));
     assert_eq!(derive_refuses(&d, &[&full, &bad_code]), Some(10));

@@ -30,9 +30,8 @@ pub fn hire(text: &str) -> Result<Vec<String>, Box<dyn Error>> {
         "\nDerived: flag, lamp and tariff side by side, and the two lower wires of the tariff"
             .into(),
     );
-    lines.push("(until it is clipped on the lamp is x;".into());
     lines.push(
-        " a step is kept where the levels change, or the set of the levels they come from)".into(),
+        "(a step is kept where the levels change, or the set of the levels they come from)".into(),
     );
     let (meter, low) = (meter(flag, lamp, tariff)?, low(tariff)?);
     lines.extend(record("meter", &meter)?);

@@ -42,8 +42,8 @@ unsafe extern "C" {
     ) -> FlatMade;
 }
 
-/// Derive: the record of a derivation of bit vectors, into the first bytes and indices of the output slices. An input may begin at any
-/// index or have no entry; until its first entry its levels are x. Refused: 2, 14, 11, 9, 10, 7.
+/// Derive: the record of a derivation of bit vectors, into the first bytes and indices of the output slices. Refused: 2, 14, 15, 11, 9,
+/// 10, 7.
 #[inline]
 #[must_use]
 #[expect(

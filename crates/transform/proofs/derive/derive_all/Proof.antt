@@ -1,13 +1,13 @@
 -- `transform::derive::derive_all` meets its contract.
 -- Assumes nothing.
 use borrow.Author.Rules.{rules}
-use mathlib.Core.Path.{refl}
+use mathlib.Core.Path.{◌∙◌, refl}
 use Rattle.derivation.proofs.Walks.{sized}
+use Rattle.steps.specs.Inputs.{inputs_of}
 use Rattle.steps.proofs.InputTests.{slotted}
-use Rattle.steps.proofs.Sources.{indexable}
 use Rattle.transform.specs.Picking.{Walkable}
 use Rattle.transform.proofs.ByRoom.{all_stored, no_room, roomy}
-use Rattle.transform.proofs.Given.{stand}
+use Rattle.transform.proofs.Given.{few_inputs, largest_is}
 use Rattle.transform.proofs.derive.derive_all.Statement.{statement}
 use Rattle.transform.proofs.derive.derive_all.Tie as tie
 
@@ -20,19 +20,18 @@ module _ (g : tie.After-largest-states) where
   walkable =
       record {
         derivable = start.pre;
-        largest = g.largest-states.ensures start.args.bytes.now;
+        largest = g.largest-states.ensures ∙ largest_is start.args.bytes.now start.args.indices.now (inputs_of start.args.inputs);
       }
 
 largest-states-requires : tie.Need-largest-states-requires
 largest-states-requires c κs =
     let s = c.before.before.before.before in
-    indexable
-    (stand
+    few_inputs
     (record {
       walkable = record { derivable = s.requires; largest = refl };
       slots = slotted s.args.inputs _ s.well-formed.1.0;
       size = sized s.args.derivation _ s.well-formed.0;
-    }))
+    })
 
 steps-fit-requires : tie.Need-steps-fit-requires
 steps-fit-requires c κs = walkable c

@@ -1,76 +1,115 @@
--- `transform::picking::write_pieces` meets its contract: the pieces of the input that are passed are written.
+-- `transform::picking::write_pieces` meets its contract: the pieces passed are stored, and those that are left make the rest.
 -- Assumes nothing.
-use Prim.Native.Nat.{◌+◌, ◌-◌, ◌<◌, ◌≤◌, ℕ}
+use Prim.Native.Nat.{◌+◌, ◌-◌, ◌<◌, ◌≤◌}
 use borrow.Author.Rules.{rules}
-use lib.ListN.{length}
-use mathlib.Core.List.{List}
+use lib.ListN.{drop, get_or, length}
+use mathlib.Core.List.{map}
+use mathlib.Core.Path.{◌∙◌, ◌≡◌, ap, refl, sym}
 use native.Mathlib.Omega.{arith}
-use Rattle.signal.specs.Decode.{codes_at}
-use Rattle.signal.proofs.Decoding.{codes_length}
-use Rattle.derivation.specs.Piece.{end_of}
-use Rattle.transform.specs.Picking.{piece_at, place_of}
-use Rattle.transform.proofs.Picked.{picked_length}
-use Rattle.transform.proofs.Placing.{Partly, partly_done, partly_on, partly_start, place_fits}
+use Rattle.value.specs.Level.{text_of}
+use Rattle.value.specs.Slice.{overlay}
+use Rattle.derivation.specs.Piece.{extract_of}
+use Rattle.steps.specs.Stepping.{cursor, cursors_of, levels_now}
+use Rattle.steps.specs.Table.{input_in, inputs_in}
+use Rattle.steps.specs.declared.Input.{Input}
+use Rattle.steps.specs.declared.Inputs.{Inputs}
+use Rattle.steps.proofs.InputTests.{no_input}
+use Rattle.steps.proofs.Tables.{slot_is}
+use Rattle.transform.specs.Derive.{picked_of}
+use Rattle.transform.specs.Picking.{Picks, picked_now}
+use Rattle.transform.proofs.Picked.{piece_picks, pieces_done, pieces_more, room_more, signal_in, widths}
 use Rattle.transform.proofs.picking.write_pieces.Statement.{statement}
 use Rattle.transform.proofs.picking.write_pieces.Tie as tie
 
 abbrev invariant-loop : tie.invariant-loop
-invariant-loop i pieces links width states levels text₀ p₀ text p = Partly pieces i (codes_at width states levels) text₀ text p
+invariant-loop pieces count numbers starts bytes begun text₀ at₀ i₀ text at i =
+    (i ≤ length pieces)
+    × (length text ≡ length text₀)
+    × (at + widths (drop i pieces) ≤ length text₀)
+    × (overlay text at (text_of (picked_now bytes (cursors_of (inputs_in count numbers starts) begun) (map extract_of (drop i pieces)))) ≡ overlay text₀ 0 (text_of (picked_now bytes (cursors_of (inputs_in count numbers starts) begun) (map extract_of pieces))))
 
 abbrev decreases-loop : tie.decreases-loop
-decreases-loop i pieces links width states levels text₀ p₀ text p = length pieces - p
+decreases-loop pieces count numbers starts bytes begun text₀ at₀ i₀ text at i = length pieces - i
 
-shared-slice-read-p : tie.Need-shared-slice-read-p invariant-loop decreases-loop
-shared-slice-read-p c = let s = c.before.before.before.before.before in omega (arith, s.requires.0, s.requires.2.long)
+-- what is known of the piece at hand
+module _ (k : tie.After-from-u64 invariant-loop decreases-loop) where
+  abbrev start : tie.Start invariant-loop decreases-loop
+  start = k.before.before.before.before.before.before.before.before.before
+
+  abbrev turn : tie.At-loop invariant-loop decreases-loop
+  turn = k.before.before.before
+
+  abbrev its : Inputs
+  its = inputs_in start.args.count start.args.numbers.now start.args.starts.now
+
+  places : length start.args.begun.now ≡ 8
+  places = start.pre.1.shown.places
+
+  among : k.from-u64.result.signal < start.args.count
+  among =
+      signal_in start.pre.1
+      refl places turn.loop.i k.before.before.loop-test.taken k.from-u64.result k.from-u64.ensures
+
+  in-eight : k.from-u64.result.signal < 8
+  in-eight = omega (arith, among, start.pre.1.shown.few)
+
+  picks : Picks start.args.bytes.now (cursor (get_or its.slots k.from-u64.result.signal no_input) (get_or start.args.begun.now k.from-u64.result.signal 0)) k.from-u64.result (length start.args.text.now) turn.loop.at
+  picks =
+      piece_picks start.pre.1
+      refl places turn.loop.i k.before.before.loop-test.taken k.from-u64.result k.from-u64.ensures turn.loop.at turn.loop.inv.2
+
+  told : input_in start.args.numbers.now start.args.starts.now k.from-u64.result.signal ≡ get_or its.slots k.from-u64.result.signal no_input
+  told = slot_is start.args.count start.args.numbers.now start.args.starts.now k.from-u64.result.signal in-eight
 
 loop-holds : tie.Need-loop-init invariant-loop decreases-loop
-loop-holds c = let s = c.before.before.before.before.before in partly_start (codes_at s.args.width s.args.states s.args.levels.now) s.args.text.now (s.requires.2.first s.args.i s.requires.0)
+loop-holds c = (omega arith, refl, omega (arith, c.before.before.before.before.before.requires.1.fits), refl)
 
--- the piece at hand
-module _ (e : tie.After-from-u64 invariant-loop decreases-loop) where
-  abbrev turn : tie.At-loop invariant-loop decreases-loop
-  turn = e.before.before.before
+cast-signal : tie.Need-overflow-cast-signal invariant-loop decreases-loop
+cast-signal c = omega (arith, in-eight c.before)
 
-  abbrev start : tie.Start invariant-loop decreases-loop
-  start = turn.before.before.before.before.before.before
+mul-write-piece : tie.Need-overflow-mul-write-piece invariant-loop decreases-loop
+mul-write-piece c = omega (arith, in-eight c.before)
 
-  abbrev pieces : List ℕ
-  pieces = start.args.pieces.now
-
-  abbrev p : ℕ
-  p = turn.loop.p
-
-  here : p < length pieces
-  here = e.before.before.loop-test.taken
-
-  in-64 : p < 64
-  in-64 = omega (arith, here, start.pre.1.few)
-
-  inside : end_of (piece_at pieces p) ≤ start.args.width
-  inside = start.pre.4 p here (turn.loop.inv.its here)
-
-  placed : place_of pieces p + (piece_at pieces p).width ≤ length turn.loop.text
-  placed = omega (arith, place_fits pieces p here, start.pre.1.fits, turn.loop.inv.long)
+element-copy-out-write-piece : tie.Need-element-copy-out-write-piece invariant-loop decreases-loop
+element-copy-out-write-piece c = in-eight c.before
 
 write-piece-requires : tie.Need-write-piece-requires invariant-loop decreases-loop
 write-piece-requires c κs =
-    let e = c.before.before in
-    rw (e.from-u64.ensures, (start e).requires.2.places (p e) (here e)) ((start e).requires.3, inside e, placed e)
+    let k = c.before.before.before in
+    (in-eight k, (start k).requires.0.held, (start k).requires.0.sized k.from-u64.result.signal (among k), rw ((turn k).loop.invariant.1, told k) (picks k))
 
-loop-less : tie.Need-loop-smaller invariant-loop decreases-loop
-loop-less c = let e = c.before.before.before.before.before.before in omega (arith, here e, ((start e).requires.2.following (p e) (here e)).after)
+add_at : tie.Need-overflow-add-at invariant-loop decreases-loop
+add_at c =
+    let k = c.before.before.before.before.before.before.before in
+    let g = (start k).well-formed.1.1.1.1.1.1 in
+    omega (arith, (picks k).ranges)
 
 loop-again : tie.Need-loop-preserved invariant-loop decreases-loop
 loop-again c =
     let w = c.before.before.before in
-    let e = w.before.before.before in
-    let s = start e in
-    let codes = codes_at s.args.width s.args.states s.args.levels.now in
-    partly_on (turn e).loop.invariant (here e) s.pre.1 (picked_length (piece_at (pieces e) (p e)) codes (rw (codes_length s.args.width s.args.states s.args.levels.now) (inside e))) (s.pre.2.following (p e) (here e))
-    (rw (e.from-u64.ensures, s.pre.2.places (p e) (here e)) at w.write-piece.ensures)
+    let k = w.before.before.before.before in (
+      omega arith,
+      w.write-piece.auto.1.1.1.1.1.0 ∙ (turn k).loop.invariant.1,
+      room_more (start k).requires.1
+          refl (places k) (turn k).loop.i k.before.before.loop-test.true k.from-u64.result k.from-u64.ensures (turn k).loop.at (turn k).loop.invariant.2,
+      pieces_more (start k).requires.1
+          refl (places k) (turn k).loop.i k.before.before.loop-test.true k.from-u64.result k.from-u64.ensures (turn k).loop.at (turn k).loop.invariant.2
+          (turn k).loop.text _ (turn k).loop.invariant.1
+          (w.write-piece.ensures
+          ∙ ap (λ (x : Input). overlay (turn k).loop.text (turn k).loop.at (text_of (picked_of k.from-u64.result (levels_now (start k).args.bytes.now (cursor x (get_or (start k).args.begun.now k.from-u64.result.signal 0))))))
+          (told k))
+          ∙ (turn k).loop.invariant.3,
+    )
+
+same_length : tie.Need-same-length invariant-loop decreases-loop
+same_length c = c.before.loop.invariant.1
 
 returns : tie.Need-returns invariant-loop decreases-loop
-returns c = partly_done c.before.loop.invariant c.loop-test.false
+returns c =
+    let l = c.before in
+    let s = l.before.before.before.before.before.before in
+    sym (pieces_done s.args.bytes.now (cursors_of (inputs_in s.args.count s.args.numbers.now s.args.starts.now) s.args.begun.now) s.args.pieces.now l.loop.at l.loop.i l.loop.text c.loop-test.false)
+    ∙ l.loop.invariant.3
 
 pub write-pieces-spec : {M : Type 1} → statement M
 write-pieces-spec =
@@ -78,23 +117,18 @@ write-pieces-spec =
     (tie.spec
     invariant-loop
     decreases-loop
-    (λ c. omega (arith, c.before.before.before.before.requires.0))
-    shared-slice-read-p
-    (λ c. omega (arith, c.shared-slice-known4.given c.before.before.before.before.before.args.i))
     loop-holds
-    (λ c. omega (arith, c.loop-test.true, c.before.before.before.before.before.before.before.requires.1.few))
-    (λ c. c.before.loop-test.true)
+    (λ c. search rules)
+    (λ c. omega arith)
     (λ c κs. search rules)
-    (λ c. omega (arith, in-64 c.before))
-    (λ c. omega (arith, in-64 c.before))
-    (λ c. omega (arith, in-64 c.before.before, (start c.before.before).pre.2.long))
-    (λ c. omega (arith, c.shared-slice-known6.given (72 + p c.before.before)))
+    cast-signal
+    mul-write-piece
+    element-copy-out-write-piece
     write-piece-requires
-    (λ c. omega (arith, in-64 c.before.before.before.before.before))
-    (λ c. omega (arith, in-64 c.before.before.before.before.before))
-    (λ c. let e = c.before.before.before.before.before.before in omega (arith, in-64 e, (start e).requires.2.long))
-    (λ c. omega (arith, c.shared-slice-known7.given (8 + p c.before.before.before.before.before.before)))
-    loop-less
+    (λ c. search rules)
+    add_at
+    (λ c. omega arith)
+    (λ c. omega arith)
     loop-again
-    (λ c. c.before.loop.invariant.long)
+    same_length
     returns)

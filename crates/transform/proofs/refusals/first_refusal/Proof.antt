@@ -6,9 +6,9 @@ use mathlib.Core.Path.{◌∙◌, ◌≡◌, sym}
 use Rattle.value.specs.Slice.{any}
 use Rattle.value.proofs.Lists.{any_map}
 use Rattle.fst.specs.Record.{Kept}
-use Rattle.steps.specs.Inputs.{indices_fall, input_kept, inputs_of, is_bad_input, kept_all, mark_is_bad}
+use Rattle.steps.specs.Inputs.{indices_fall, input_kept, inputs_of, is_bad_input, kept_all, mark_is_bad, starts_late}
 use Rattle.steps.specs.declared.Input.{Input}
-use Rattle.transform.proofs.RefusalsInOrder.{first_bad, first_code, first_falls, first_mark, first_none, first_unfit}
+use Rattle.transform.proofs.RefusalsInOrder.{first_bad, first_code, first_falls, first_late, first_mark, first_none, first_unfit}
 use Rattle.transform.proofs.refusals.first_refusal.Statement.{statement}
 use Rattle.transform.proofs.refusals.first_refusal.Tie as tie
 
@@ -51,7 +51,7 @@ returns-3 c =
     let e2 = c.before.before in
     let e1 = e2.before.before in
     let s = e1.before.before.before.before in
-    first_falls s.args.derivation s.args.inputs s.args.bytes.now s.args.indices.now (stand e1) (sym e2.before.is-unfit.ensures ∙ e2.if2.false) (of-all s indices_fall _ _ c.before.any-fails2.ensures c.if3.true)
+    first_late s.args.derivation s.args.inputs s.args.bytes.now s.args.indices.now (stand e1) (sym e2.before.is-unfit.ensures ∙ e2.if2.false) (of-all s starts_late _ _ c.before.any-fails2.ensures c.if3.true)
 
 any-fails-requires-3 : tie.Need-any-fails-requires-3
 any-fails-requires-3 c κs n =
@@ -63,15 +63,11 @@ returns-4 c =
     let e2 = e3.before.before in
     let e1 = e2.before.before in
     let s = e1.before.before.before.before in
-    first_mark s.args.derivation s.args.inputs s.args.bytes.now s.args.indices.now (stand e1) (sym e2.before.is-unfit.ensures ∙ e2.if2.false) (of-all s indices_fall _ _ e3.before.any-fails2.ensures e3.if3.false) (of-all s mark_is_bad _ _ c.before.any-fails3.ensures c.if4.true)
+    first_falls s.args.derivation s.args.inputs s.args.bytes.now s.args.indices.now (stand e1) (sym e2.before.is-unfit.ensures ∙ e2.if2.false) (of-all s starts_late _ _ e3.before.any-fails2.ensures e3.if3.false) (of-all s indices_fall _ _ c.before.any-fails3.ensures c.if4.true)
 
-any-bad-code-requires : tie.Need-any-bad-code-requires
-any-bad-code-requires c κs =
-    let e3 = c.before.before in
-    let e2 = e3.before.before in
-    let e1 = e2.before.before in
-    let s = e1.before.before.before.before in
-    record { stand = stand e1; fit = sym e2.before.is-unfit.ensures ∙ e2.if2.false; marked = of-all s mark_is_bad _ _ c.before.any-fails3.ensures c.if4.false }
+any-fails-requires-4 : tie.Need-any-fails-requires-4
+any-fails-requires-4 c κs n =
+    stand c.before.before.before.before.before.before
 
 returns-5 : tie.Need-returns-5
 returns-5 c =
@@ -80,11 +76,31 @@ returns-5 c =
     let e2 = e3.before.before in
     let e1 = e2.before.before in
     let s = e1.before.before.before.before in
-    first_code s.args.derivation s.args.inputs s.args.bytes.now s.args.indices.now (stand e1) (sym e2.before.is-unfit.ensures ∙ e2.if2.false) (of-all s indices_fall _ _ e3.before.any-fails2.ensures e3.if3.false) (of-all s mark_is_bad _ _ e4.before.any-fails3.ensures e4.if4.false) (sym c.before.any-bad-code.ensures ∙ c.if5.true)
+    first_mark s.args.derivation s.args.inputs s.args.bytes.now s.args.indices.now (stand e1) (sym e2.before.is-unfit.ensures ∙ e2.if2.false) (of-all s starts_late _ _ e3.before.any-fails2.ensures e3.if3.false) (of-all s indices_fall _ _ e4.before.any-fails3.ensures e4.if4.false) (of-all s mark_is_bad _ _ c.before.any-fails4.ensures c.if5.true)
+
+any-bad-code-requires : tie.Need-any-bad-code-requires
+any-bad-code-requires c κs =
+    let e4 = c.before.before in
+    let e3 = e4.before.before in
+    let e2 = e3.before.before in
+    let e1 = e2.before.before in
+    let s = e1.before.before.before.before in
+    record { stand = stand e1; fit = sym e2.before.is-unfit.ensures ∙ e2.if2.false; marked = of-all s mark_is_bad _ _ c.before.any-fails4.ensures c.if5.false }
 
 returns-6 : tie.Need-returns-6
 returns-6 c =
-    let e4 = c.before.before in
+    let e5 = c.before.before in
+    let e4 = e5.before.before in
+    let e3 = e4.before.before in
+    let e2 = e3.before.before in
+    let e1 = e2.before.before in
+    let s = e1.before.before.before.before in
+    first_code s.args.derivation s.args.inputs s.args.bytes.now s.args.indices.now (stand e1) (sym e2.before.is-unfit.ensures ∙ e2.if2.false) (of-all s starts_late _ _ e3.before.any-fails2.ensures e3.if3.false) (of-all s indices_fall _ _ e4.before.any-fails3.ensures e4.if4.false) (of-all s mark_is_bad _ _ e5.before.any-fails4.ensures e5.if5.false) (sym c.before.any-bad-code.ensures ∙ c.if6.true)
+
+returns-7 : tie.Need-returns-7
+returns-7 c =
+    let e5 = c.before.before in
+    let e4 = e5.before.before in
     let e3 = e4.before.before in
     let e2 = e3.before.before in
     let e1 = e2.before.before in
@@ -93,9 +109,10 @@ returns-6 c =
     (record {
       stand = stand e1;
       fit = sym e2.before.is-unfit.ensures ∙ e2.if2.false;
-      rising = of-all s indices_fall _ _ e3.before.any-fails2.ensures e3.if3.false;
-      marked = of-all s mark_is_bad _ _ e4.before.any-fails3.ensures e4.if4.false;
-      coded = sym c.before.any-bad-code.ensures ∙ c.if5.false;
+      begun = of-all s starts_late _ _ e3.before.any-fails2.ensures e3.if3.false;
+      rising = of-all s indices_fall _ _ e4.before.any-fails3.ensures e4.if4.false;
+      marked = of-all s mark_is_bad _ _ e5.before.any-fails4.ensures e5.if5.false;
+      coded = sym c.before.any-bad-code.ensures ∙ c.if6.false;
     })
 
 pub first-refusal-spec : {M : Type 1} → statement M
@@ -110,6 +127,8 @@ first-refusal-spec =
     returns-3
     any-fails-requires-3
     returns-4
-    any-bad-code-requires
+    any-fails-requires-4
     returns-5
-    returns-6)
+    any-bad-code-requires
+    returns-6
+    returns-7)

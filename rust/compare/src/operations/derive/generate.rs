@@ -4,7 +4,7 @@ use super::super::add_piece::Named;
 use super::Derive;
 use crate::generate::{Generator, Receiver, added};
 use crate::record::{cut, entry_size};
-use oracle::{Change, Derivation, Description, Encoding, Input, MAX_WIDTH, Side, States};
+use oracle::{Change, Derivation, Description, Encoding, Input, MAX_WIDTH, States};
 use reference::Used;
 
 impl Generator {
@@ -15,10 +15,7 @@ impl Generator {
         let Some(inputs) = named_inputs(&derivation, &named) else {
             return;
         };
-        let records: Vec<Used> = inputs
-            .iter()
-            .map(|input| self.input(input.width, 0))
-            .collect();
+        let records: Vec<Used> = inputs.iter().map(|input| self.input(input.width)).collect();
         let Some(derived) = self.derive_variously(&derivation, &records, to) else {
             return;
         };
@@ -29,75 +26,11 @@ impl Generator {
         }
     }
 
-    /// Inputs that begin apart, on one index, or nowhere, and now and then one that no piece picks; what is derived of
-    /// them, looked at and compared; and such with a derived record among them.
-    pub(super) fn late_derivation(&mut self, to: &mut dyn Receiver) {
-        let count = self.random.pick(&[1, 2, 2, 2, 2, 3, 3, 3, 4, 7]);
-        let mut records = self.late_inputs(count);
-        let derivation = self.picks(&records);
-        let Some(derived) = self.derive_variously(&derivation, &records, to) else {
-            return;
-        };
-        self.look_at(&derived, to);
-        self.compare_with_rewritten(&derived, to);
-        records.truncate(2);
-        records[0] = derived;
-        let derivation = self.picks(&records);
-        self.derive_variously(&derivation, &records, to);
-    }
-
-    /// So many records: once in a while all on one index (kind 0) or all empty (kind 1), and else mostly apart, with empty
-    /// ones among them.
-    fn late_inputs(&mut self, count: usize) -> Vec<Used> {
-        let kind = self.random.below(16);
-        let together = self.random.pick(&[1, 2, 9, u32::MAX - 40]);
-        let mut records = Vec::new();
-        for _ in 0..count {
-            let first = match kind {
-                0 => together,
-                _ => self.random.pick(&[0, 0, 1, 1, 2, 4]),
-            };
-            let width = self.width();
-            let written = self.input(width, first);
-            let is_empty = kind == 1 || kind > 1 && self.random.once_in(6);
-            records.push(if is_empty {
-                Used::of(written.description.encoding, &[], &[])
-            } else {
-                written
-            });
-        }
-        records
-    }
-
-    /// Pieces of all the records, or of all but one.
-    fn picks(&mut self, records: &[Used]) -> Derivation {
-        let mut derivation = oracle::empty_derivation();
-        derivation.input_count = records.len() as u32;
-        derivation.inputs = std::array::from_fn(|at| at as u32 + 1);
-        let unpicked = self.random.below(records.len() * 2);
-        for (at, used) in records.iter().enumerate() {
-            let Encoding::BitVector { width, .. } = used.description.encoding else {
-                continue;
-            };
-            if at == unpicked && records.len() > 1 {
-                continue;
-            }
-            for _ in 0..self.random.from_to(1, 2) {
-                let lsb = self.random.below(width as usize) as u32;
-                let msb = lsb + self.random.below((width - lsb) as usize) as u32;
-                let side = self.random.pick(&[Side::Left, Side::Right]);
-                let next = oracle::add_piece(&derivation, side, at as u32 + 1, msb, lsb);
-                derivation = next.unwrap_or(derivation);
-            }
-        }
-        derivation
-    }
-
-    /// A record that starts at this index, with equal indices in it.
-    fn input(&mut self, width: u32, first: u32) -> Used {
+    /// A record that starts at index 0, with equal indices in it.
+    fn input(&mut self, width: u32) -> Used {
         let description = oracle::fresh(width).expect("the generator's widths stand");
         let mut used = Used::empty(description);
-        let mut index = first;
+        let mut index = 0;
         let mut last = Vec::new();
         for _ in 0..self.random.from_to(1, 6) {
             let string = self.string(width, Some(&last));
@@ -127,8 +60,9 @@ impl Generator {
         let mut tight = call;
         let length = derived.bytes.len().saturating_sub(fewer_bytes);
         tight.out_bytes.truncate(length);
-        let length = derived.indices.len().saturating_sub(fewer_indices);
-        tight.out_indices.truncate(length);
+        tight
+            .out_indices
+            .truncate(derived.indices.len() - fewer_indices);
         to.call(tight);
         Some(derived)
     }
@@ -190,13 +124,8 @@ impl Generator {
         out
     }
 
-    /// Another first index, another index, another mark, or levels with more bits set; an empty record gets an entry of
-    /// whatever is there.
+    /// Another first index, another index, another mark, or levels with more bits set.
     fn spoil_slices(&mut self, call: &mut Derive, at: usize, record: &Used) {
-        if record.indices.is_empty() {
-            call.inputs[at].description.count = 1;
-            return;
-        }
         let input = call.inputs[at];
         let entry = self.random.below(record.indices.len());
         let entry_start = entry * entry_size(input.description.encoding);

@@ -3,12 +3,10 @@
 mod generate;
 
 use crate::domain;
-use crate::generate::{Generator, Receiver};
 use crate::operation::{Operation, Outcome, Slices};
 use crate::record::LentRecord;
 use crate::stored::{Fields, Module, Reader, terms};
 use oracle::{Derivation, Description, Encoding, Input, MAX_INPUTS, Refusal, States};
-use std::collections::BTreeSet;
 #[cfg(wellen)]
 use {
     crate::by_wellen::{Verdict, stored, whole},
@@ -29,7 +27,7 @@ impl Operation for Derive {
     type Answer = Description;
 
     const NAMES: &'static [&'static str] = &["derive"];
-    const NUMBERS: &'static [u8] = &[2, 14, 11, 9, 10, 7];
+    const NUMBERS: &'static [u8] = &[2, 14, 15, 11, 9, 10, 7];
     const DEFINITIONS: &'static [Module] = &[
         Module::new("Rattle·runs.specs.Runs", ""),
         Module::new("Rattle·steps.specs.declared.Input", "Input"),
@@ -161,12 +159,6 @@ impl Operation for Derive {
             terms::list(&outcome.indices)
         ))
     }
-
-    fn ask_aside(from: &mut Generator, to: &mut dyn Receiver) {
-        if from.random.once_in(4) {
-            from.late_derivation(to);
-        }
-    }
 }
 
 type Function =
@@ -197,29 +189,19 @@ impl Derive {
 
     fn is_list_laid_out(&self, outcome: &Outcome<Description>) -> bool {
         let list = oracle::derived_list(&self.derivation, &self.inputs, &self.bytes, &self.indices);
+        let sets = self
+            .inputs
+            .iter()
+            .map(|input| match input.description.encoding {
+                Encoding::BitVector { max_states, .. } => max_states,
+                Encoding::Event | Encoding::Real => States::Two,
+            });
+        let largest = sets.max().unwrap_or(States::Two);
         let (description, bytes, indices) =
-            oracle::derived_laid_out(self.derivation.width, self.largest_set(), &list);
+            oracle::derived_laid_out(self.derivation.width, largest, &list);
         outcome.answer == Ok(description)
             && laid_over(&outcome.bytes, &self.out_bytes, &bytes)
             && laid_over(&outcome.indices, &self.out_indices, &indices)
-    }
-
-    /// The largest set that an input says, and Four if the inputs begin at more than one place, nowhere being one. The
-    /// oracle has the rule in other words.
-    fn largest_set(&self) -> States {
-        let records = self.records();
-        let begin: BTreeSet<Option<&u32>> = records
-            .iter()
-            .map(|record| record.used_indices().first())
-            .collect();
-        let apart = (begin.len() > 1).then_some(States::Four);
-        let said = records
-            .iter()
-            .filter_map(|record| match record.description.encoding {
-                Encoding::BitVector { max_states, .. } => Some(max_states),
-                Encoding::Event | Encoding::Real => None,
-            });
-        said.chain(apart).max().unwrap_or(States::Two)
     }
 }
 
@@ -246,8 +228,8 @@ fn has_inputs(derivation: &Derivation, records: &[LentRecord]) -> bool {
             .all(within)
 }
 
-/// "The Rust is the measure only where all begin at 0": it takes an index for an offset when the first index is not 0,
-/// and never starts late inputs. "11" too: wellen does not look whether an index falls. For 9 see Read.
+/// "The Rust takes an index for an offset when the first index is not 0, and never starts late inputs; 15 stands
+/// for both." "11" too: wellen does not look whether an index falls. For 9 see Read.
 fn is_input(record: &LentRecord) -> bool {
     let indices = record.used_indices();
     indices.first() == Some(&0)

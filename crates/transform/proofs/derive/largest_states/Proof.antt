@@ -1,4 +1,4 @@
--- `transform::largest::largest_of_all` meets its contract: what is held is the largest set of the inputs passed.
+-- `transform::derive::largest_states` meets its contract: what is held is the largest set of the inputs passed.
 -- Assumes nothing.
 use Prim.Native.Nat.{◌-◌, ◌≤◌, ℕ}
 use borrow.Author.Rules.{rules}
@@ -9,8 +9,8 @@ use Rattle.steps.specs.Inputs.{inputs_of}
 use Rattle.steps.proofs.InputTests.{slotted}
 use Rattle.transform.specs.Picking.{largest_over}
 use Rattle.transform.proofs.Sets.{over_more, over_none}
-use Rattle.transform.proofs.largest.largest_of_all.Statement.{statement}
-use Rattle.transform.proofs.largest.largest_of_all.Tie as tie
+use Rattle.transform.proofs.derive.largest_states.Statement.{statement}
+use Rattle.transform.proofs.derive.largest_states.Tie as tie
 
 abbrev invariant-loop : tie.invariant-loop
 invariant-loop inputs states₀ i₀ states i = (i ≤ inputs.count) × (states ≡ largest_over (drop i (inputs_of inputs)))
@@ -37,8 +37,8 @@ returns c =
     let z : l.loop.i ≡ 0 = omega arith in
     l.loop.invariant.1 ∙ ap (λ (i : ℕ). largest_over (drop i (inputs_of l.before.args.t1))) z
 
-pub largest-of-all-spec : {M : Type 1} → statement M
-largest-of-all-spec =
+pub largest-states-spec : {M : Type 1} → statement M
+largest-states-spec =
     tie.close
     (tie.spec
     invariant-loop
