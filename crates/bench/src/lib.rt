@@ -47,7 +47,7 @@ pub extern "C" fn bench_expand(from: u32, to: u32, data: &mut [u8], entries: usi
 
 // What a search finds: the fields of `offset::DataOffset` by numbers.
 #[repr(C)]
-#[derive(Drop)]
+#[derive(Clone, Copy)]
 pub struct Place {
     pub start: usize,
     pub elements: u32,

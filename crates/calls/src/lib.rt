@@ -100,7 +100,7 @@ pub fn fresh(line: &[u8]) -> bool {
 }
 
 // What Add a change is asked beside the value and the slices.
-#[derive(Drop)]
+#[derive(Clone, Copy)]
 struct Offer {
     record: Description,
     byte_start: usize,

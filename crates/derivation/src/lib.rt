@@ -5,7 +5,7 @@ pub mod add;
 pub mod piece;
 
 // One piece of a derivation: `width` wires of input number `signal` from bit `lsb` up.
-#[derive(Drop)]
+#[derive(Clone, Copy)]
 pub struct Extract {
     pub signal: u16,
     pub width: u16,
@@ -13,7 +13,7 @@ pub struct Extract {
 }
 
 // A signal that is derived from others by slices and joins. The first piece is the highest. What lies past a count is free.
-#[derive(Drop)]
+#[derive(Clone, Copy)]
 pub struct DerivedBitVecSignal {
     pub width: u32,
     pub input_count: u32,
@@ -23,21 +23,21 @@ pub struct DerivedBitVecSignal {
 }
 
 // The answer of Add a piece: the next derivation, after a refusal the unchanged one.
-#[derive(Drop)]
+#[derive(Clone, Copy)]
 pub struct Joined {
     pub verdict: Verdict,
     pub next: DerivedBitVecSignal,
 }
 
 // The number of an input by its name.
-#[derive(Drop)]
+#[derive(Clone, Copy)]
 pub enum InputNumber {
     At(u16),
     Missing,
 }
 
 // Where a piece joins a derivation: Left is the most significant side.
-#[derive(Drop)]
+#[derive(Clone, Copy)]
 pub enum Side {
     Left,
     Right,

@@ -20,7 +20,7 @@ use signal::read::entry_at;
 use value::{States, wide};
 
 // The answer of Compare.
-#[derive(Drop)]
+#[derive(Clone, Copy)]
 pub enum EqualAnswer {
     Equal,
     Unequal,

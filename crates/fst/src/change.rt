@@ -19,7 +19,7 @@ use value::{States, StatesAnswer};
 use wavemem::scan::scan;
 
 // The size of a string's entry, and the number of its levels where that is at most eight bytes.
-#[derive(Drop)]
+#[derive(Clone, Copy)]
 struct ShortLevels {
     size: usize,
     levels: u64,

@@ -11,7 +11,7 @@ pub mod real;
 pub mod record;
 
 // Why a call was refused, by the numbers of documents 01 and 02.
-#[derive(Drop)]
+#[derive(Clone, Copy)]
 pub enum Refusal {
     WidthTooLarge,
     BadRecord,
@@ -62,7 +62,7 @@ impl Refusal {
 }
 
 // Whether a call was accepted.
-#[derive(Drop)]
+#[derive(Clone, Copy)]
 pub enum Verdict {
     Accepted,
     Refused(Refusal),
@@ -81,7 +81,7 @@ impl Verdict {
     }
 }
 
-#[derive(Drop)]
+#[derive(Clone, Copy)]
 pub enum Encoding {
     Event,
     Real,
@@ -145,7 +145,7 @@ impl Encoding {
 }
 
 // What is known of a record besides its bytes and time indices, which the caller lends.
-#[derive(Drop)]
+#[derive(Clone, Copy)]
 pub struct Description {
     pub encoding: Encoding,
     pub count: u32,
@@ -160,21 +160,21 @@ impl Description {
 }
 
 // A time index, where there is one.
-#[derive(Drop)]
+#[derive(Clone, Copy)]
 pub enum NextIndex {
     Absent,
     At(u32),
 }
 
 // The answer of a call that makes a record.
-#[derive(Drop)]
+#[derive(Clone, Copy)]
 pub enum Made {
     Record(Description),
     Refused(Refusal),
 }
 
 // The answer of Add a change: the next description, after a refusal the unchanged one.
-#[derive(Drop)]
+#[derive(Clone, Copy)]
 pub struct Added {
     pub verdict: Verdict,
     pub next: Description,

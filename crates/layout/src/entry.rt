@@ -8,7 +8,7 @@ ghost use Rattle.layout.specs.Writable.{Writable, mark_in_front, entry_from};
 use value::States;
 
 // The bytes that levels take under a set, and whether a byte of its own holds the mark.
-#[derive(Drop)]
+#[derive(Clone, Copy)]
 pub struct LenAndMeta {
     pub len: usize,
     pub has_meta: bool,
@@ -46,7 +46,7 @@ pub fn entry_size(states: States, bits: u32) -> usize
 }
 
 // The bytes that a string's levels take, the bytes of its entry, and the byte with the mark of its set in the top two bits.
-#[derive(Drop)]
+#[derive(Clone, Copy)]
 struct EntryLayout {
     len: usize,
     size: usize,

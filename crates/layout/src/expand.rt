@@ -14,7 +14,7 @@ const LEVEL_MASK: u8 = 63;
 
 // What the sets and the width say of each entry's move: its sizes, its level bytes, and the bits of a mark in its first byte and of
 // levels in its first level byte.
-#[derive(Drop)]
+#[derive(Clone, Copy)]
 pub struct Widening {
     pub from_size: usize,
     pub to_size: usize,

@@ -9,7 +9,7 @@ use fst::record::MAXIMUM;
 use fst::{NextIndex, Refusal};
 
 // The entries that carry the greatest time index not above the sought one.
-#[derive(Drop)]
+#[derive(Clone, Copy)]
 pub struct DataOffset {
     pub start: usize,
     pub elements: u32,
@@ -18,7 +18,7 @@ pub struct DataOffset {
 }
 
 // The answer of Look up.
-#[derive(Drop)]
+#[derive(Clone, Copy)]
 pub enum OffsetAnswer {
     Nothing,
     At(DataOffset),

@@ -5,7 +5,7 @@ use value::States;
 pub mod decode;
 pub mod read;
 
-#[derive(Drop)]
+#[derive(Clone, Copy)]
 pub enum Kind {
     Event,
     Real,
@@ -13,14 +13,14 @@ pub enum Kind {
 }
 
 // The answer of Read, beside the part of the lent bytes that holds the levels.
-#[derive(Drop)]
+#[derive(Clone, Copy)]
 pub enum EntryAnswer {
     Entry { kind: Kind, states: States },
     Refused(Refusal),
 }
 
 // An entry's own set, unless its mark is 3 or above the largest set's.
-#[derive(Drop)]
+#[derive(Clone, Copy)]
 pub enum OwnStates {
     Own(States),
     Bad,

@@ -8,7 +8,7 @@ pub mod store;
 pub mod table;
 
 // An input record by its description and where it starts in the two slices that all inputs share.
-#[derive(Drop)]
+#[derive(Clone, Copy)]
 pub struct Input {
     pub description: Description,
     pub byte_start: usize,
@@ -16,14 +16,14 @@ pub struct Input {
 }
 
 // The input records, in the order of the derivation's input names.
-#[derive(Drop)]
+#[derive(Clone, Copy)]
 pub struct Inputs {
     pub count: u32,
     pub slots: [Input; 8],
 }
 
 // What an input can be refused for by itself.
-#[derive(Drop)]
+#[derive(Clone, Copy)]
 pub enum InputTest {
     BadRecord,
     NoBitVector,

@@ -19,7 +19,7 @@ pub const SIZES: usize = 16;
 // The inputs as numbers, eight for one field before eight for the next: `numbers` has how many entries each has, its width and the mark of
 // its largest set; `starts` has its byte start, its index start and the size of its entries. They are lent where a copy of all inputs would
 // cost more than a step.
-#[derive(Drop)]
+#[derive(Clone, Copy)]
 pub struct Table {
     pub numbers: [u32; 24],
     pub starts: [usize; 24],

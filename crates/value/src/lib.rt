@@ -1,11 +1,13 @@
 // Levels and state sets, after wellen's src/signal/value.rs.
+#![tactic(auto)]
+
 ghost use Rattle.std.specs.Prelude.{◌≡◌, false, ◌-◌, ◌/◌, ◌^◌, min, eqb, length};
 ghost use Rattle.value.specs.Level.{letter_of, mark_of, bits_of, len_of};
 ghost use Rattle.value.specs.Level as level;
 ghost use Rattle.value.specs.Answer.{char_code, least_states, holds_one, holds_all, level_at, LevelIn};
 
 // A state set, by how many values a level can have.
-#[derive(Drop)]
+#[derive(Clone, Copy)]
 pub enum States {
     Two,
     Four,
@@ -13,14 +15,14 @@ pub enum States {
 }
 
 // What a byte of a string stands for.
-#[derive(Drop)]
+#[derive(Clone, Copy)]
 pub enum CharCode {
     Code(u8),
     Foreign,
 }
 
 // The least set of a string.
-#[derive(Drop)]
+#[derive(Clone, Copy)]
 pub enum StatesAnswer {
     Least(States),
     Foreign,

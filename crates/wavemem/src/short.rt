@@ -9,7 +9,7 @@ use crate::word;
 use value::{States, StatesAnswer, wide};
 
 // The least set of a string, and the number of its levels under that set.
-#[derive(Drop)]
+#[derive(Clone, Copy)]
 pub struct Scanned {
     pub answer: StatesAnswer,
     pub levels: u64,

@@ -9,7 +9,7 @@ pub mod recorder;
 // A description by numbers. Kind: 0 event, 1 real, 2 bit vector. Set: the mark of the largest set, 0 to 2. The width and the set of an event
 // or a real are 0. Other numbers are no description, which every operation refuses with 2.
 #[repr(C)]
-#[derive(Drop)]
+#[derive(Clone, Copy)]
 pub struct FlatDescription {
     pub kind: u32,
     pub width: u32,
@@ -18,7 +18,7 @@ pub struct FlatDescription {
 }
 
 // What numbers describe.
-#[derive(Drop)]
+#[derive(Clone, Copy)]
 pub enum Decoded {
     Known(Description),
     Unknown,
@@ -28,14 +28,14 @@ pub enum Decoded {
 
 // The answer of Fresh and of Derive. On a refusal the description is none: its kind is 3, and it is 0 elsewhere.
 #[repr(C)]
-#[derive(Drop)]
+#[derive(Clone, Copy)]
 pub struct FlatMade {
     pub number: u32,
     pub description: FlatDescription,
 }
 
 // What a call leaves of a recorder. On a refusal it is the given one.
-#[derive(Drop)]
+#[derive(Clone, Copy)]
 pub struct FlatAdded {
     pub number: u32,
     pub next: FlatDescription,
@@ -43,7 +43,7 @@ pub struct FlatAdded {
 
 // The answer of Read: the part that holds the levels is `length` of the lent bytes from `start` on. On a refusal all but the number is 0.
 #[repr(C)]
-#[derive(Drop)]
+#[derive(Clone, Copy)]
 pub struct FlatEntry {
     pub number: u32,
     pub kind: u32,
@@ -54,7 +54,7 @@ pub struct FlatEntry {
 
 // The answer of Compare. On a refusal it is not equal.
 #[repr(C)]
-#[derive(Drop)]
+#[derive(Clone, Copy)]
 pub struct FlatEqual {
     pub number: u32,
     pub equal: bool,
@@ -62,7 +62,7 @@ pub struct FlatEqual {
 
 // The answer of Look up. Where nothing is found, all but the number is 0, and where there is no next index, that is 0.
 #[repr(C)]
-#[derive(Drop)]
+#[derive(Clone, Copy)]
 pub struct FlatOffset {
     pub number: u32,
     pub found: bool,
@@ -75,7 +75,7 @@ pub struct FlatOffset {
 
 // A derivation without its eight names and 64 pieces, which are lent beside it.
 #[repr(C)]
-#[derive(Drop)]
+#[derive(Clone, Copy)]
 pub struct FlatDerivation {
     pub width: u32,
     pub input_count: u32,
@@ -84,7 +84,7 @@ pub struct FlatDerivation {
 
 // The answer of Add a piece. On a refusal the next derivation is the given one.
 #[repr(C)]
-#[derive(Drop)]
+#[derive(Clone, Copy)]
 pub struct FlatJoined {
     pub number: u32,
     pub next: FlatDerivation,
@@ -92,7 +92,7 @@ pub struct FlatJoined {
 
 // An input record of Derive.
 #[repr(C)]
-#[derive(Drop)]
+#[derive(Clone, Copy)]
 pub struct FlatInput {
     pub description: FlatDescription,
     pub byte_start: usize,
@@ -101,7 +101,7 @@ pub struct FlatInput {
 
 // The input records of Derive, in C an array of eight. Those from `count` on are not looked at.
 #[repr(C)]
-#[derive(Drop)]
+#[derive(Clone, Copy)]
 pub struct FlatInputs {
     pub count: u32,
     pub input_0: FlatInput,

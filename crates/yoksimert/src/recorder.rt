@@ -16,7 +16,7 @@ use fst::record::{fresh, fresh_real};
 use fst::{Added, Made};
 
 // What a change leaves of a recorder: its kind and width stay.
-#[derive(Drop)]
+#[derive(Clone, Copy)]
 pub struct Recorded {
     pub number: u32,
     pub set: u32,

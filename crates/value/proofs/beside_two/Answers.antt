@@ -7,12 +7,8 @@ use lib.Bits.{bit_and, bit_xor}
 use Rattle.value.specs.Level.{place_in, code_of, fold}
 use Rattle.value.specs.Answer.{holds_one}
 use Rattle.value.proofs.Classes.{same_tests}
-use Rattle.value.proofs.beside_two.Statement.{statement}
-use Rattle.value.proofs.beside_two.Tie as tie
+use Rattle.value.proofs.beside_two.Goals as goal
 
-returns : tie.Need-returns
+pub returns : goal.returns
 unfolding holds_one code_of place_in fold
 returns c = same_tests (λ (n : ℕ). eqb (bit_and (bit_xor n 48) 254) 0) (holds_one 2) tt c.args.value (omega arith)
-
-pub beside-two-spec : {M : Type 1} → statement M
-beside-two-spec = tie.close (tie.spec returns)

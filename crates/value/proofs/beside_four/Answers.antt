@@ -6,21 +6,15 @@ use Prim.Native.Nat.{ℕ}
 use native.Mathlib.Omega.{arith}
 use lib.Dec.{eqb}
 use lib.Bits.{bit_and, bit_or, bit_xor}
-use borrow.Author.Rules.{rules}
 use Rattle.value.specs.Level.{place_in, code_of, fold}
 use Rattle.value.specs.Answer.{holds_one}
 use Rattle.value.proofs.Classes.{same_tests, min_zero}
-use Rattle.value.proofs.beside_four.Statement.{statement}
-use Rattle.value.proofs.beside_four.Tie as tie
+use Rattle.value.proofs.beside_four.Goals as goal
 
-returns : tie.Need-returns
+pub returns : goal.returns
 unfolding holds_one code_of place_in fold
 returns c =
-    let b = c.before in
-    let x = b.before.args.value in
+    let x = c.args.value in
     min_zero _ _ c.min.ensures
-    ∙ ap (λ (t : Bool). t || eqb (bit_xor (bit_and (bit_or x 32) 253) 120) 0) b.Beside-two.ensures
+    ∙ ap (λ (t : Bool). t || eqb (bit_xor (bit_and (bit_or x 32) 253) 120) 0) c.beside_two.ensures
     ∙ same_tests (λ (n : ℕ). holds_one 2 n || eqb (bit_xor (bit_and (bit_or n 32) 253) 120) 0) (holds_one 4) tt x (omega arith)
-
-pub beside-four-spec : {M : Type 1} → statement M
-beside-four-spec = tie.close (tie.spec (λ c κs. search rules) (λ c κs. search rules) returns)
