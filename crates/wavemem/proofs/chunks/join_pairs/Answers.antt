@@ -1,0 +1,37 @@
+-- `wavemem::chunks::join_pairs` meets its contract: each turn stores the byte of the next two levels.
+-- Assumes nothing.
+use mathlib.Core.Path.{◌≡◌, sym, ap, ◌∙◌}
+use mathlib.Core.List.{List}
+use Prim.Native.Nat.{ℕ, ◌-◌, ◌*◌, ◌≤◌, zero-le}
+use native.Mathlib.Omega.{arith}
+use borrow.Author.Rules.{rules}
+use lib.ListN.{length, take, replicate}
+use lib.Seq.{take_all}
+use Rattle.value.specs.Digits.{digits}
+use Rattle.value.specs.Slice.{overlay}
+use Rattle.value.proofs.Slices.{overlay_nil}
+use Rattle.value.proofs.Backward.{overlay_whole}
+use Rattle.wavemem.specs.Packed.{packed_with}
+use Rattle.wavemem.proofs.Packing.{packed_length}
+use Rattle.wavemem.proofs.Blocks.{pair_stored}
+use Rattle.wavemem.proofs.chunks.join_pairs.Goals.{Start}
+use Rattle.wavemem.proofs.chunks.join_pairs.Goals as goal
+
+pub loop-k-init : goal.loop-k-init
+unfolding packed_with digits
+loop-k-init c = (zero-le, sym (overlay_nil (replicate 16 0) 0))
+
+-- how many levels there are
+levels : (s : Start) → length s.args.codes ≡ 32
+levels s = search rules
+
+pub loop-k-preserved : goal.loop-k-preserved
+loop-k-preserved c =
+    (omega arith, pair_stored c.args.codes c.requires (levels (goal.at.loop-k-preserved c).Start) c.loop-k.k (omega arith) c.loop-k.invariant.1)
+
+pub returns : goal.returns
+returns c =
+    let cs = c.args.codes in
+    c.loop-k.invariant.1
+    ∙ ap (λ (l : List ℕ). overlay (replicate 16 0) 0 (packed_with 4 0 l)) (take_all (2 * c.loop-k.k) cs (omega (arith, levels (goal.at.returns c).Start)))
+    ∙ overlay_whole (replicate 16 0) (packed_with 4 0 cs) (packed_length 4 0 cs ∙ rw (levels (goal.at.returns c).Start))

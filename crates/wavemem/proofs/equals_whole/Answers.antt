@@ -1,0 +1,83 @@
+-- `wavemem::equals_whole` meets its contract.
+-- Assumes nothing.
+use mathlib.Core.Path.{◌≡◌, refl, sym, subst, ◌∙◌}
+use mathlib.Core.Bool.{◌&&◌}
+use Prim.Native.Nat.{◌+◌, ◌/◌, ◌%◌}
+use native.Mathlib.Omega.{arith}
+use borrow.Author.Rules.{rules}
+use lib.ListN.{length, drop}
+use Rattle.value.specs.declared.States.{States}
+use Rattle.value.specs.declared.States.TheVariants.{Four}
+use Rattle.wavemem.specs.Packed.{WholeBytes}
+use Rattle.wavemem.proofs.Parts.{Passed, agree, lead_four, front_length, front_whole, back_is, back_lent, both_compared}
+use Rattle.wavemem.proofs.equals_whole.Goals.{After-equals_bytes, In-Four}
+use Rattle.wavemem.proofs.equals_whole.Goals as goal
+
+four : (c : In-Four) → let x = c.args in WholeBytes Four x.value.now (length x.bytes.now) x.at
+four c =
+    let x = c.args in
+    subst (λ (t : States). WholeBytes t x.value.now (length x.bytes.now) x.at) c.in-Four.is c.requires
+
+lead : (c : In-Four)
+    → let x = c.args in
+    let n = length x.value.now % 8 in
+    Passed Four (length x.value.now) x.at 8 n (x.at + n / 4)
+lead c =
+    let four : let x = c.args in WholeBytes Four x.value.now (length x.bytes.now) x.at = let x = c.args in
+    subst (λ (t : States). WholeBytes t x.value.now (length x.bytes.now) x.at) c.in-Four.is c.requires in
+    let f = four.full in lead_four four (omega arith)
+
+pub slice_bounds-equals_bytes-end : goal.slice_bounds-equals_bytes-end
+slice_bounds-equals_bytes-end c = sym (front_length (four (goal.at.slice_bounds-equals_bytes-end c).In-Four) (lead (goal.at.slice_bounds-equals_bytes-end c).In-Four))
+
+pub equals_bytes-requires : goal.equals_bytes-requires
+equals_bytes-requires c = (front_whole (four (goal.at.equals_bytes-requires c).In-Four) (lead (goal.at.equals_bytes-requires c).In-Four), c.codes_by_low_bits-codes.ensures)
+
+pub slice_bounds-equals_words-count : goal.slice_bounds-equals_words-count
+slice_bounds-equals_words-count c = (lead (goal.at.slice_bounds-equals_words-count c).In-Four).within
+
+pub slice_bounds-equals_words-start : goal.slice_bounds-equals_words-start
+slice_bounds-equals_words-start c = (lead (goal.at.slice_bounds-equals_words-start c).In-Four).within
+
+pub overflow_add-at : goal.overflow_add-at
+overflow_add-at c =
+    omega (arith, (four (goal.at.overflow_add-at c).In-Four).ranges)
+
+pub equals_words-requires : goal.equals_words-requires
+equals_words-requires c = back_lent (four (goal.at.equals_words-requires c).In-Four) (lead (goal.at.equals_words-requires c).In-Four)
+
+pub equals_bytes-requires-in-Nine : goal.equals_bytes-requires-in-Nine
+equals_bytes-requires-in-Nine c =
+    (rw c.in-Nine.is at c.requires, c.codes_by_low_bits-codes.ensures)
+
+-- the comparison of the whole, by that of the characters in front
+compared : (w : After-equals_bytes)
+    → let x = w.args in
+    let n = length x.value.now % 8 in
+    agree Four x.bytes.now x.at x.value.now ≡ w.equals_bytes.result && agree Four x.bytes.now (x.at + n / 4) (drop n x.value.now)
+compared w =
+    let lead : let x = w.args in
+    let n = length x.value.now % 8 in
+    Passed Four (length x.value.now) x.at 8 n (x.at + n / 4) = let four : let x = w.args in WholeBytes Four x.value.now (length x.bytes.now) x.at = let x = w.args in
+    subst (λ (t : States). WholeBytes t x.value.now (length x.bytes.now) x.at) w.in-Four.is w.requires in
+    let f = four.full in lead_four four (omega arith) in
+    let four : let x = w.args in WholeBytes Four x.value.now (length x.bytes.now) x.at = let x = w.args in
+    subst (λ (t : States). WholeBytes t x.value.now (length x.bytes.now) x.at) w.in-Four.is w.requires in
+    rw w.equals_bytes.ensures (both_compared four lead.args.bytes.now refl)
+
+pub returns-then-equals_bytes : goal.returns-then-equals_bytes
+returns-then-equals_bytes c =
+    rw c.in-Four.is ((rw (back_is (four (goal.at.returns-then-equals_bytes c).In-Four) (lead (goal.at.returns-then-equals_bytes c).In-Four)) at c.equals_words.ensures) ∙ sym (compared (goal.at.returns-then-equals_bytes c).After-equals_bytes ∙ rw c.if-equals_bytes.true))
+
+pub returns-else-equals_bytes : goal.returns-else-equals_bytes
+returns-else-equals_bytes c =
+    rw c.in-Four.is (sym (compared (goal.at.returns-else-equals_bytes c).After-equals_bytes ∙ rw c.if-equals_bytes.false))
+
+pub equals_bits-requires : goal.equals_bits-requires
+equals_bits-requires c = rw c.in-Two.is at c.requires
+
+pub returns-in-Two : goal.returns-in-Two
+returns-in-Two c = rw c.in-Two.is c.equals_bits.ensures
+
+pub returns-in-Nine : goal.returns-in-Nine
+returns-in-Nine c = rw c.in-Nine.is c.equals_bytes-in-Nine.ensures

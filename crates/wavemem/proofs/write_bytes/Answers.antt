@@ -1,0 +1,68 @@
+-- `wavemem::write_bytes` meets its contract: each turn stores the next byte.
+-- Assumes nothing.
+use mathlib.Core.Path.{◌≡◌}
+use Prim.Native.Nat.{◌-◌, ◌+◌, ◌<◌, ◌≤◌}
+use native.Mathlib.Omega.{arith}
+use borrow.Author.Rules.{rules}
+use lib.ListN.{length}
+use Rattle.wavemem.proofs.Packing.{per_byte, per_small, per_pos}
+use Rattle.wavemem.proofs.Parts.{Stored, stored_start, stored_long, stored_end, byte_turns, byte_within, byte_fits, byte_lent, byte_stored}
+use Rattle.wavemem.proofs.write_bytes.Goals.{At-loop-from, In-loop-from}
+use Rattle.wavemem.proofs.write_bytes.Goals as goal
+
+pub loop-from-init : goal.loop-from-init
+loop-from-init c = stored_start _ (byte_turns c.requires.0) (omega arith)
+
+per : (a : At-loop-from) → a.bits_in_a_byte-per_byte.result ≡ per_byte a.args.states
+per a = a.bits_in_a_byte-per_byte.ensures
+
+within : (c : In-loop-from) → c.loop-from.from + per_byte c.args.states ≤ length c.args.value.now
+within c = byte_within c.requires.0 c.loop-from.invariant.passed c.loop-from-test.true
+
+fits : (c : In-loop-from) → c.args.at + c.loop-from.k < length c.args.out.now
+fits c = byte_fits c.requires.0 c.loop-from.invariant.passed c.loop-from-test.true
+
+pub overflow_add-to : goal.overflow_add-to
+overflow_add-to c = omega (arith, per (goal.at.overflow_add-to c).At-loop-from, per_small c.args.states, c.requires.0.short)
+
+pub slice_bounds-byte_by_low_bits-start : goal.slice_bounds-byte_by_low_bits-start
+slice_bounds-byte_by_low_bits-start c =
+    let z : c.loop-from.from ≤ c.loop-from.from + c.bits_in_a_byte-per_byte.result = omega arith in
+    z
+
+pub slice_bounds-byte_by_low_bits-end : goal.slice_bounds-byte_by_low_bits-end
+slice_bounds-byte_by_low_bits-end c = rw (per (goal.at.slice_bounds-byte_by_low_bits-end c).At-loop-from) (within (goal.at.slice_bounds-byte_by_low_bits-end c).In-loop-from)
+
+pub byte_by_low_bits-requires : goal.byte_by_low_bits-requires
+byte_by_low_bits-requires c =
+    (rw (per (goal.at.byte_by_low_bits-requires c).At-loop-from) (byte_lent c.requires.0 c.loop-from.invariant.passed c.loop-from-test.true).one, c.requires.1)
+
+pub overflow_add-out : goal.overflow_add-out
+overflow_add-out c = omega (arith, fits (goal.at.overflow_add-out c).In-loop-from)
+
+pub bounds-out-at : goal.bounds-out-at
+bounds-out-at c =
+    omega (arith, fits (goal.at.bounds-out-at c).In-loop-from, stored_long c.requires.0 c.loop-from.invariant)
+
+pub overflow_add-k : goal.overflow_add-k
+overflow_add-k c = omega (arith, fits (goal.at.overflow_add-k c).In-loop-from)
+
+pub loop-from-smaller : goal.loop-from-smaller
+loop-from-smaller c =
+    omega (arith, c.loop-from-test.true, per (goal.at.loop-from-smaller c).At-loop-from, per_pos c.args.states)
+
+pub loop-from-preserved : goal.loop-from-preserved
+loop-from-preserved c =
+    rw (per (goal.at.loop-from-preserved c).At-loop-from) (byte_stored c.requires.0 c.loop-from.invariant c.loop-from-test.true (omega arith) (rw (per (goal.at.loop-from-preserved c).At-loop-from) at c.byte_by_low_bits.ensures))
+
+pub overflow_add-result : goal.overflow_add-result
+overflow_add-result c =
+    omega (arith, (stored_end c.requires.0 c.loop-from.invariant c.loop-from-test.false).0, c.requires.0.fits)
+
+pub shape_of-out : goal.shape_of-out
+shape_of-out c = stored_long c.requires.0 c.loop-from.invariant
+
+pub returns : goal.returns
+returns c =
+    let told = stored_end c.requires.0 c.loop-from.invariant c.loop-from-test.false in
+    record { value = told.0; out_after = told.1 }
