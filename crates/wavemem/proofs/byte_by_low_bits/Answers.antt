@@ -1,7 +1,6 @@
 -- `wavemem::byte_by_low_bits` meets its contract.
 -- Assumes nothing.
 use native.Mathlib.Omega.{arith}
-use borrow.Author.Rules.{rules}
 use Rattle.wavemem.proofs.Packing.{one_word, byte_small}
 use Rattle.wavemem.proofs.byte_by_low_bits.Goals as goal
 

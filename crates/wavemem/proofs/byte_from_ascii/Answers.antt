@@ -1,6 +1,5 @@
 -- `wavemem::byte_from_ascii` meets its contract.
 -- Assumes nothing.
-use borrow.Author.Rules.{rules}
 use Rattle.wavemem.proofs.byte_from_ascii.Goals as goal
 
 pub byte_by_low_bits-requires : goal.byte_by_low_bits-requires

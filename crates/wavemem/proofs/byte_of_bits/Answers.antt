@@ -4,7 +4,6 @@ use mathlib.Core.Path.{ap, ◌∙◌}
 use mathlib.Core.List.{List}
 use Prim.Native.Nat.{ℕ}
 use native.Mathlib.Omega.{arith}
-use borrow.Author.Rules.{rules}
 use Rattle.value.specs.Digits.{number}
 use Rattle.value.specs.Level.{fold_all, codes_of}
 use Rattle.value.proofs.Digits.{below_all}

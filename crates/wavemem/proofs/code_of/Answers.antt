@@ -2,7 +2,6 @@
 -- Assumes nothing.
 use mathlib.Core.Path.{sym, ◌∙◌}
 use native.Mathlib.Omega.{arith}
-use borrow.Author.Rules.{rules}
 use Rattle.wavemem.proofs.Packing.{code_told}
 use Rattle.wavemem.proofs.code_of.Goals as goal
 

@@ -1,6 +1,5 @@
 -- `wavemem::codes_by_low_bits` meets its contract: the codes of the letters are those of the table.
 -- Assumes nothing.
-use borrow.Author.Rules.{rules}
 use Rattle.value.specs.Level.{code_of, fold, place_in}
 use Rattle.wavemem.proofs.Packing.{by_low_bits}
 use Rattle.wavemem.proofs.codes_by_low_bits.Goals as goal
@@ -8,5 +7,5 @@ use Rattle.wavemem.proofs.codes_by_low_bits.Goals as goal
 pub returns : goal.returns
 unfolding code_of place_in fold
 returns c =
-    rw (c.code_of_lem.ensures, c.code_of-x.ensures, c.code_of-zero.ensures, c.code_of-one.ensures)
+    rw (c.code_of-u.ensures, c.code_of-x.ensures, c.code_of-zero.ensures, c.code_of-one.ensures)
     (rw (c.code_of-z.ensures, c.code_of-w.ensures, c.code_of-l.ensures, c.code_of-h.ensures, c.code_of-d.ensures) by_low_bits)

@@ -1,10 +1,10 @@
 -- `wavemem::equals_bits` meets its contract: each turn compares the next byte.
 -- Assumes nothing.
-use Prim.Native.Nat.{◌-◌, ◌+◌, ◌<◌, ◌≤◌}
+use Prim.Native.Nat.{◌+◌, ◌<◌, ◌≤◌}
 use native.Mathlib.Omega.{arith}
 use lib.ListN.{length}
 use Rattle.value.specs.declared.States.TheVariants.{Two}
-use Rattle.wavemem.proofs.Parts.{Agrees, agrees_start, agrees_end, byte_turns, byte_within, byte_fits, byte_lent, byte_agrees, byte_differs}
+use Rattle.wavemem.proofs.Parts.{agrees_start, agrees_end, byte_turns, byte_within, byte_fits, byte_lent, byte_agrees, byte_differs}
 use Rattle.wavemem.proofs.equals_bits.Goals.{In-loop-from}
 use Rattle.wavemem.proofs.equals_bits.Goals as goal
 

@@ -1,12 +1,11 @@
 -- `wavemem::equals_bytes` meets its contract: each turn compares the next byte.
 -- Assumes nothing.
 use mathlib.Core.Path.{◌≡◌}
-use Prim.Native.Nat.{◌-◌, ◌+◌, ◌<◌, ◌≤◌}
+use Prim.Native.Nat.{◌+◌, ◌<◌, ◌≤◌}
 use native.Mathlib.Omega.{arith}
-use borrow.Author.Rules.{rules}
 use lib.ListN.{length}
 use Rattle.wavemem.proofs.Packing.{per_byte, per_small, per_pos}
-use Rattle.wavemem.proofs.Parts.{Agrees, agrees_start, agrees_end, byte_turns, byte_within, byte_fits, byte_lent, byte_agrees, byte_differs}
+use Rattle.wavemem.proofs.Parts.{agrees_start, agrees_end, byte_turns, byte_within, byte_fits, byte_lent, byte_agrees, byte_differs}
 use Rattle.wavemem.proofs.equals_bytes.Goals.{At-loop-from, In-loop-from}
 use Rattle.wavemem.proofs.equals_bytes.Goals as goal
 

@@ -4,7 +4,6 @@ use mathlib.Core.Path.{◌≡◌, refl, sym, ◌∙◌}
 use mathlib.Core.Bool.{◌&&◌}
 use Prim.Native.Nat.{◌+◌}
 use native.Mathlib.Omega.{arith}
-use borrow.Author.Rules.{rules}
 use borrow.Author.Tests.{eq-eqb, ne_eqb}
 use lib.Dec.{eqb}
 use lib.Bits.{bit_or}
@@ -14,21 +13,14 @@ use Rattle.value.specs.Slice.{part, same}
 use Rattle.value.specs.Level.{len_of}
 use Rattle.wavemem.specs.Packed.{packed_from, first_count}
 use Rattle.wavemem.proofs.Packing.{per_byte, all_whole, no_meta, first_fits, place_fits, first_byte, rest_whole, rest_is, first_compared, only_compared}
-use Rattle.wavemem.proofs.equals_n_state_from_ascii.Goals.{After-bits_in_a_byte, After-byte_from_ascii, Else-first-bits_in_a_byte, Then-first-bits_in_a_byte}
+use Rattle.wavemem.proofs.equals_n_state_from_ascii.Goals.{After-byte_from_ascii, Else-first-bits_in_a_byte, Then-first-bits_in_a_byte}
 use Rattle.wavemem.proofs.equals_n_state_from_ascii.Goals as goal
 
-count : (b : After-bits_in_a_byte) → b.first_count-first.result ≡ first_count b.args.states (length b.args.value.now)
-count b = b.first_count-first.ensures
-
 full : (c : Then-first-bits_in_a_byte) → first_count c.args.states (length c.args.value.now) ≡ per_byte c.args.states
-full c =
-    let count : c.first_count-first.result ≡ first_count c.args.states (length c.args.value.now) = c.first_count-first.ensures in
-    sym count ∙ c.if-first-bits_in_a_byte.true ∙ c.bits_in_a_byte.ensures
+full c = sym c.first_count-first.ensures ∙ c.if-first-bits_in_a_byte.true ∙ c.bits_in_a_byte.ensures
 
 short : (c : Else-first-bits_in_a_byte) → first_count c.args.states (length c.args.value.now) ≡ per_byte c.args.states → ⊥
-short c e =
-    let count : c.first_count-first.result ≡ first_count c.args.states (length c.args.value.now) = c.first_count-first.ensures in
-    c.if-first-bits_in_a_byte.false (count ∙ e ∙ sym c.bits_in_a_byte.ensures)
+short c e = c.if-first-bits_in_a_byte.false (c.first_count-first.ensures ∙ e ∙ sym c.bits_in_a_byte.ensures)
 
 pub equals_whole-requires : goal.equals_whole-requires
 equals_whole-requires c = all_whole c.requires (full (goal.at.equals_whole-requires c).Then-first-bits_in_a_byte)
@@ -43,45 +35,44 @@ bounds-bytes-at c =
 
 pub slice_bounds-byte_from_ascii-end : goal.slice_bounds-byte_from_ascii-end
 slice_bounds-byte_from_ascii-end c =
-    sym (length-take-le _ _ (rw (count (goal.at.slice_bounds-byte_from_ascii-end c).After-bits_in_a_byte) (first_fits c.requires (short (goal.at.slice_bounds-byte_from_ascii-end c).Else-first-bits_in_a_byte))))
+    sym (length-take-le _ _ (rw c.first_count-first.ensures (first_fits c.requires (short (goal.at.slice_bounds-byte_from_ascii-end c).Else-first-bits_in_a_byte))))
 
 pub byte_from_ascii-requires : goal.byte_from_ascii-requires
 byte_from_ascii-requires c =
-    rw (count (goal.at.byte_from_ascii-requires c).After-bits_in_a_byte) (first_byte c.requires (short (goal.at.byte_from_ascii-requires c).Else-first-bits_in_a_byte))
+    rw c.first_count-first.ensures (first_byte c.requires (short (goal.at.byte_from_ascii-requires c).Else-first-bits_in_a_byte))
 
 compared : (a : After-byte_from_ascii)
+    → (first_count a.args.states (length a.args.value.now) ≡ per_byte a.args.states → ⊥)
     → let f = first_count a.args.states (length a.args.value.now) in
     same (part a.args.at (len_of (length a.args.value.now) a.args.states) a.args.bytes.now) (packed_from a.args.states a.args.meta_data a.args.value.now)
     ≡ eqb (get_or a.args.bytes.now a.args.at 0) (bit_or a.byte_from_ascii.result a.args.meta_data)
     && same (part (a.args.at + 1) (len_of (length (drop f a.args.value.now)) a.args.states) a.args.bytes.now) (packed_from a.args.states 0 (drop f a.args.value.now))
-compared a =
-    let count : a.first_count-first.result ≡ first_count a.args.states (length a.args.value.now) = a.first_count-first.ensures in
-    first_compared a.requires (short a) a.args.bytes.now refl a.byte_from_ascii.result (omega arith) (rw count at a.byte_from_ascii.ensures)
+compared a less = first_compared a.requires less a.args.bytes.now refl a.byte_from_ascii.result (omega arith) (rw a.first_count-first.ensures at a.byte_from_ascii.ensures)
 
 pub returns-then-bytes-at : goal.returns-then-bytes-at
-returns-then-bytes-at c = sym (compared (goal.at.returns-then-bytes-at c).After-byte_from_ascii ∙ rw (ne_eqb _ _ c.if-bytes-at.true))
+returns-then-bytes-at c = sym (compared (goal.at.returns-then-bytes-at c).After-byte_from_ascii (short (goal.at.returns-then-bytes-at c).Else-first-bits_in_a_byte) ∙ rw (ne_eqb _ _ c.if-bytes-at.true))
 
 pub returns-then-first-value : goal.returns-then-first-value
 returns-then-first-value c =
     sym
-    (compared (goal.at.returns-then-first-value c).After-byte_from_ascii
+    (compared (goal.at.returns-then-first-value c).After-byte_from_ascii (short (goal.at.returns-then-first-value c).Else-first-bits_in_a_byte)
     ∙ rw (eq-eqb _ _ c.if-bytes-at.false)
     (sym
-    (only_compared c.requires (short (goal.at.returns-then-first-value c).Else-first-bits_in_a_byte) c.args.bytes.now refl c.byte_from_ascii.result (omega arith) (rw (count (goal.at.returns-then-first-value c).After-bits_in_a_byte) at c.byte_from_ascii.ensures)
-    (rw (count (goal.at.returns-then-first-value c).After-bits_in_a_byte) at c.if-first-value.true))))
+    (only_compared c.requires (short (goal.at.returns-then-first-value c).Else-first-bits_in_a_byte) c.args.bytes.now refl c.byte_from_ascii.result (omega arith) (rw c.first_count-first.ensures at c.byte_from_ascii.ensures)
+    (rw c.first_count-first.ensures at c.if-first-value.true))))
 
 pub slice_bounds-equals_whole-count : goal.slice_bounds-equals_whole-count
 slice_bounds-equals_whole-count c =
-    rw (count (goal.at.slice_bounds-equals_whole-count c).After-bits_in_a_byte) (first_fits c.requires (short (goal.at.slice_bounds-equals_whole-count c).Else-first-bits_in_a_byte))
+    rw c.first_count-first.ensures (first_fits c.requires (short (goal.at.slice_bounds-equals_whole-count c).Else-first-bits_in_a_byte))
 
 pub slice_bounds-equals_whole-start : goal.slice_bounds-equals_whole-start
 slice_bounds-equals_whole-start c =
-    rw (count (goal.at.slice_bounds-equals_whole-start c).After-bits_in_a_byte) (first_fits c.requires (short (goal.at.slice_bounds-equals_whole-start c).Else-first-bits_in_a_byte))
+    rw c.first_count-first.ensures (first_fits c.requires (short (goal.at.slice_bounds-equals_whole-start c).Else-first-bits_in_a_byte))
 
 pub equals_whole-requires-2 : goal.equals_whole-requires-2
 equals_whole-requires-2 c =
-    rw (count (goal.at.equals_whole-requires-2 c).After-bits_in_a_byte, rest_is c.requires (short (goal.at.equals_whole-requires-2 c).Else-first-bits_in_a_byte)) (rest_whole c.requires (short (goal.at.equals_whole-requires-2 c).Else-first-bits_in_a_byte))
+    rw (c.first_count-first.ensures, rest_is c.requires (short (goal.at.equals_whole-requires-2 c).Else-first-bits_in_a_byte)) (rest_whole c.requires (short (goal.at.equals_whole-requires-2 c).Else-first-bits_in_a_byte))
 
 pub returns : goal.returns
 returns c =
-    (rw (count (goal.at.returns c).After-bits_in_a_byte, rest_is c.requires (short (goal.at.returns c).Else-first-bits_in_a_byte)) at c.equals_whole-2.ensures) ∙ sym (compared (goal.at.returns c).After-byte_from_ascii ∙ rw (eq-eqb _ _ c.if-bytes-at.false))
+    (rw (c.first_count-first.ensures, rest_is c.requires (short (goal.at.returns c).Else-first-bits_in_a_byte)) at c.equals_whole-2.ensures) ∙ sym (compared (goal.at.returns c).After-byte_from_ascii (short (goal.at.returns c).Else-first-bits_in_a_byte) ∙ rw (eq-eqb _ _ c.if-bytes-at.false))

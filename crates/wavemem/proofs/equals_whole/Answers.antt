@@ -4,7 +4,6 @@ use mathlib.Core.Path.{◌≡◌, refl, sym, subst, ◌∙◌}
 use mathlib.Core.Bool.{◌&&◌}
 use Prim.Native.Nat.{◌+◌, ◌/◌, ◌%◌}
 use native.Mathlib.Omega.{arith}
-use borrow.Author.Rules.{rules}
 use lib.ListN.{length, drop}
 use Rattle.value.specs.declared.States.{States}
 use Rattle.value.specs.declared.States.TheVariants.{Four}
@@ -22,10 +21,7 @@ lead : (c : In-Four)
     → let x = c.args in
     let n = length x.value.now % 8 in
     Passed Four (length x.value.now) x.at 8 n (x.at + n / 4)
-lead c =
-    let four : let x = c.args in WholeBytes Four x.value.now (length x.bytes.now) x.at = let x = c.args in
-    subst (λ (t : States). WholeBytes t x.value.now (length x.bytes.now) x.at) c.in-Four.is c.requires in
-    let f = four.full in lead_four four (omega arith)
+lead c = let f = (four c).full in lead_four (four c) (omega arith)
 
 pub slice_bounds-equals_bytes-end : goal.slice_bounds-equals_bytes-end
 slice_bounds-equals_bytes-end c = sym (front_length (four (goal.at.slice_bounds-equals_bytes-end c).In-Four) (lead (goal.at.slice_bounds-equals_bytes-end c).In-Four))
@@ -41,7 +37,7 @@ slice_bounds-equals_words-start c = (lead (goal.at.slice_bounds-equals_words-sta
 
 pub overflow_add-at : goal.overflow_add-at
 overflow_add-at c =
-    omega (arith, (four (goal.at.overflow_add-at c).In-Four).ranges)
+    omega (arith, (four (goal.at.overflow_add-at c).In-Four).fits)
 
 pub equals_words-requires : goal.equals_words-requires
 equals_words-requires c = back_lent (four (goal.at.equals_words-requires c).In-Four) (lead (goal.at.equals_words-requires c).In-Four)
@@ -52,26 +48,24 @@ equals_bytes-requires-in-Nine c =
 
 -- the comparison of the whole, by that of the characters in front
 compared : (w : After-equals_bytes)
+    → WholeBytes Four w.args.value.now (length w.args.bytes.now) w.args.at
+    → Passed Four (length w.args.value.now) w.args.at 8 (length w.args.value.now % 8) (w.args.at + length w.args.value.now % 8 / 4)
     → let x = w.args in
     let n = length x.value.now % 8 in
     agree Four x.bytes.now x.at x.value.now ≡ w.equals_bytes.result && agree Four x.bytes.now (x.at + n / 4) (drop n x.value.now)
-compared w =
-    let lead : let x = w.args in
-    let n = length x.value.now % 8 in
-    Passed Four (length x.value.now) x.at 8 n (x.at + n / 4) = let four : let x = w.args in WholeBytes Four x.value.now (length x.bytes.now) x.at = let x = w.args in
-    subst (λ (t : States). WholeBytes t x.value.now (length x.bytes.now) x.at) w.in-Four.is w.requires in
-    let f = four.full in lead_four four (omega arith) in
-    let four : let x = w.args in WholeBytes Four x.value.now (length x.bytes.now) x.at = let x = w.args in
-    subst (λ (t : States). WholeBytes t x.value.now (length x.bytes.now) x.at) w.in-Four.is w.requires in
-    rw w.equals_bytes.ensures (both_compared four lead.args.bytes.now refl)
+compared w whole front = rw w.equals_bytes.ensures (both_compared whole front w.args.bytes.now refl)
 
 pub returns-then-equals_bytes : goal.returns-then-equals_bytes
 returns-then-equals_bytes c =
-    rw c.in-Four.is ((rw (back_is (four (goal.at.returns-then-equals_bytes c).In-Four) (lead (goal.at.returns-then-equals_bytes c).In-Four)) at c.equals_words.ensures) ∙ sym (compared (goal.at.returns-then-equals_bytes c).After-equals_bytes ∙ rw c.if-equals_bytes.true))
+    let at = goal.at.returns-then-equals_bytes c in
+    let whole = four at.In-Four in
+    let front = lead at.In-Four in
+    rw c.in-Four.is ((rw (back_is whole front) at c.equals_words.ensures) ∙ sym (compared at.After-equals_bytes whole front ∙ rw c.if-equals_bytes.true))
 
 pub returns-else-equals_bytes : goal.returns-else-equals_bytes
 returns-else-equals_bytes c =
-    rw c.in-Four.is (sym (compared (goal.at.returns-else-equals_bytes c).After-equals_bytes ∙ rw c.if-equals_bytes.false))
+    let at = goal.at.returns-else-equals_bytes c in
+    rw c.in-Four.is (sym (compared at.After-equals_bytes (four at.In-Four) (lead at.In-Four) ∙ rw c.if-equals_bytes.false))
 
 pub equals_bits-requires : goal.equals_bits-requires
 equals_bits-requires c = rw c.in-Two.is at c.requires

@@ -1,7 +1,6 @@
 -- `wavemem::first_count` meets its contract.
 -- Assumes nothing.
 use native.Mathlib.Omega.{arith}
-use borrow.Author.Rules.{rules}
 use Rattle.wavemem.proofs.Packing.{spans, per_small}
 use Rattle.wavemem.proofs.first_count.Goals as goal
 

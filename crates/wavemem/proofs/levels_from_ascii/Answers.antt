@@ -1,11 +1,10 @@
 -- `wavemem::levels_from_ascii` meets its contract: the working number is that of the characters so far.
 -- Assumes nothing.
-use mathlib.Core.Path.{◌≡◌, refl, ◌∙◌}
-use Prim.Native.Nat.{◌-◌, ◌^◌, ◌≤◌, ◌<◌, zero-le}
+use mathlib.Core.Path.{refl, ◌∙◌}
+use Prim.Native.Nat.{◌≤◌, ◌<◌, zero-le}
 use native.Mathlib.Omega.{arith}
-use borrow.Author.Rules.{rules}
 use lib.Bits.{bit_and}
-use lib.ListN.{length, get_or, take, length-map}
+use lib.ListN.{get_or, length-map}
 use lib.Seq.{take_all}
 use Rattle.value.specs.Digits.{number}
 use Rattle.value.specs.Level.{fold_all, codes_of}

@@ -1,6 +1,5 @@
 -- `wavemem::number_from_ascii` meets its contract.
 -- Assumes nothing.
-use borrow.Author.Rules.{rules}
 use Rattle.wavemem.proofs.number_from_ascii.Goals as goal
 
 pub bits_from_ascii-requires : goal.bits_from_ascii-requires

@@ -1,6 +1,5 @@
 -- `wavemem::word_from_ascii` meets its contract.
 -- Assumes nothing.
-use borrow.Author.Rules.{rules}
 use Rattle.wavemem.proofs.word_from_ascii.Goals as goal
 
 pub levels_from_ascii-requires : goal.levels_from_ascii-requires

@@ -1,10 +1,10 @@
 -- `wavemem::write_bits` meets its contract: each turn stores the next byte.
 -- Assumes nothing.
-use Prim.Native.Nat.{◌-◌, ◌+◌, ◌<◌, ◌≤◌}
+use Prim.Native.Nat.{◌+◌, ◌<◌, ◌≤◌}
 use native.Mathlib.Omega.{arith}
 use lib.ListN.{length}
 use Rattle.value.specs.declared.States.TheVariants.{Two}
-use Rattle.wavemem.proofs.Parts.{Stored, stored_start, stored_long, stored_end, byte_turns, byte_within, byte_fits, byte_lent, byte_stored}
+use Rattle.wavemem.proofs.Parts.{stored_start, stored_long, stored_end, byte_turns, byte_within, byte_fits, byte_lent, byte_stored}
 use Rattle.wavemem.proofs.write_bits.Goals.{In-loop-from}
 use Rattle.wavemem.proofs.write_bits.Goals as goal
 

@@ -1,12 +1,11 @@
 -- `wavemem::write_bytes` meets its contract: each turn stores the next byte.
 -- Assumes nothing.
 use mathlib.Core.Path.{◌≡◌}
-use Prim.Native.Nat.{◌-◌, ◌+◌, ◌<◌, ◌≤◌}
+use Prim.Native.Nat.{◌+◌, ◌<◌, ◌≤◌}
 use native.Mathlib.Omega.{arith}
-use borrow.Author.Rules.{rules}
 use lib.ListN.{length}
 use Rattle.wavemem.proofs.Packing.{per_byte, per_small, per_pos}
-use Rattle.wavemem.proofs.Parts.{Stored, stored_start, stored_long, stored_end, byte_turns, byte_within, byte_fits, byte_lent, byte_stored}
+use Rattle.wavemem.proofs.Parts.{stored_start, stored_long, stored_end, byte_turns, byte_within, byte_fits, byte_lent, byte_stored}
 use Rattle.wavemem.proofs.write_bytes.Goals.{At-loop-from, In-loop-from}
 use Rattle.wavemem.proofs.write_bytes.Goals as goal
 

@@ -3,28 +3,20 @@
 use mathlib.Core.Path.{◌≡◌, refl, sym, ap, ◌∙◌}
 use Prim.Native.Nat.{ℕ, ◌+◌}
 use native.Mathlib.Omega.{arith}
-use borrow.Author.Rules.{rules}
 use lib.ListN.{length, length-set}
 use lib.Seq.{length-take-le}
 use Rattle.value.specs.Slice.{overlay}
 use Rattle.value.proofs.Slices.{overlay_length}
 use Rattle.wavemem.specs.Packed.{packed_from, first_count}
 use Rattle.wavemem.proofs.Packing.{per_byte, packed_from_length, all_whole, no_meta, first_fits, place_fits, first_byte, rest_whole, rest_size, rest_is, first_stored, only_size, only_stored}
-use Rattle.wavemem.proofs.write_n_state_from_ascii.Goals.{After-bits_in_a_byte, After-write_whole-2, Else-first-bits_in_a_byte, Then-first-bits_in_a_byte}
+use Rattle.wavemem.proofs.write_n_state_from_ascii.Goals.{After-write_whole-2, Else-first-bits_in_a_byte, Then-first-bits_in_a_byte}
 use Rattle.wavemem.proofs.write_n_state_from_ascii.Goals as goal
 
-count : (b : After-bits_in_a_byte) → b.first_count-first.result ≡ first_count b.args.states (length b.args.value.now)
-count b = b.first_count-first.ensures
-
 full : (c : Then-first-bits_in_a_byte) → first_count c.args.states (length c.args.value.now) ≡ per_byte c.args.states
-full c =
-    let count : c.first_count-first.result ≡ first_count c.args.states (length c.args.value.now) = c.first_count-first.ensures in
-    sym count ∙ c.if-first-bits_in_a_byte.true ∙ c.bits_in_a_byte.ensures
+full c = sym c.first_count-first.ensures ∙ c.if-first-bits_in_a_byte.true ∙ c.bits_in_a_byte.ensures
 
 short : (c : Else-first-bits_in_a_byte) → first_count c.args.states (length c.args.value.now) ≡ per_byte c.args.states → ⊥
-short c e =
-    let count : c.first_count-first.result ≡ first_count c.args.states (length c.args.value.now) = c.first_count-first.ensures in
-    c.if-first-bits_in_a_byte.false (count ∙ e ∙ sym c.bits_in_a_byte.ensures)
+short c e = c.if-first-bits_in_a_byte.false (c.first_count-first.ensures ∙ e ∙ sym c.bits_in_a_byte.ensures)
 
 pub write_whole-requires : goal.write_whole-requires
 write_whole-requires c = all_whole c.requires (full (goal.at.write_whole-requires c).Then-first-bits_in_a_byte)
@@ -35,11 +27,11 @@ returns-then-first-bits_in_a_byte c =
 
 pub slice_bounds-byte_from_ascii-end : goal.slice_bounds-byte_from_ascii-end
 slice_bounds-byte_from_ascii-end c =
-    sym (length-take-le _ _ (rw (count (goal.at.slice_bounds-byte_from_ascii-end c).After-bits_in_a_byte) (first_fits c.requires (short (goal.at.slice_bounds-byte_from_ascii-end c).Else-first-bits_in_a_byte))))
+    sym (length-take-le _ _ (rw c.first_count-first.ensures (first_fits c.requires (short (goal.at.slice_bounds-byte_from_ascii-end c).Else-first-bits_in_a_byte))))
 
 pub byte_from_ascii-requires : goal.byte_from_ascii-requires
 byte_from_ascii-requires c =
-    rw (count (goal.at.byte_from_ascii-requires c).After-bits_in_a_byte) (first_byte c.requires (short (goal.at.byte_from_ascii-requires c).Else-first-bits_in_a_byte))
+    rw c.first_count-first.ensures (first_byte c.requires (short (goal.at.byte_from_ascii-requires c).Else-first-bits_in_a_byte))
 
 pub bounds-out-at : goal.bounds-out-at
 bounds-out-at c =
@@ -47,37 +39,38 @@ bounds-out-at c =
 
 pub returns-then-first-value : goal.returns-then-first-value
 returns-then-first-value c =
-    let is = rw (count (goal.at.returns-then-first-value c).After-bits_in_a_byte) at c.byte_from_ascii.ensures in
-    let only = rw (count (goal.at.returns-then-first-value c).After-bits_in_a_byte) at c.if-first-value.true in (
-      ap (λ (n : ℕ). c.args.at + n) (sym (only_size c.requires (short (goal.at.returns-then-first-value c).Else-first-bits_in_a_byte) c.args.out.now refl c.byte_from_ascii.result (omega arith) is only)),
-      only_stored c.requires (short (goal.at.returns-then-first-value c).Else-first-bits_in_a_byte) c.args.out.now refl c.byte_from_ascii.result (omega arith) is only,
-    )
+    let is = rw c.first_count-first.ensures at c.byte_from_ascii.ensures in
+    let only = rw c.first_count-first.ensures at c.if-first-value.true in
+    record {
+      value = ap (λ (n : ℕ). c.args.at + n) (sym (only_size c.requires (short (goal.at.returns-then-first-value c).Else-first-bits_in_a_byte) c.args.out.now refl c.byte_from_ascii.result (omega arith) is only));
+      out_after = only_stored c.requires (short (goal.at.returns-then-first-value c).Else-first-bits_in_a_byte) c.args.out.now refl c.byte_from_ascii.result (omega arith) is only;
+    }
 
 pub slice_bounds-write_whole-count : goal.slice_bounds-write_whole-count
 slice_bounds-write_whole-count c =
-    rw (count (goal.at.slice_bounds-write_whole-count c).After-bits_in_a_byte) (first_fits c.requires (short (goal.at.slice_bounds-write_whole-count c).Else-first-bits_in_a_byte))
+    rw c.first_count-first.ensures (first_fits c.requires (short (goal.at.slice_bounds-write_whole-count c).Else-first-bits_in_a_byte))
 
 pub slice_bounds-write_whole-start : goal.slice_bounds-write_whole-start
 slice_bounds-write_whole-start c =
-    rw (count (goal.at.slice_bounds-write_whole-start c).After-bits_in_a_byte) (first_fits c.requires (short (goal.at.slice_bounds-write_whole-start c).Else-first-bits_in_a_byte))
+    rw c.first_count-first.ensures (first_fits c.requires (short (goal.at.slice_bounds-write_whole-start c).Else-first-bits_in_a_byte))
 
 pub write_whole-requires-2 : goal.write_whole-requires-2
 write_whole-requires-2 c =
-    rw (count (goal.at.write_whole-requires-2 c).After-bits_in_a_byte, rest_is c.requires (short (goal.at.write_whole-requires-2 c).Else-first-bits_in_a_byte), length-set) (rest_whole c.requires (short (goal.at.write_whole-requires-2 c).Else-first-bits_in_a_byte))
+    rw (c.first_count-first.ensures, rest_is c.requires (short (goal.at.write_whole-requires-2 c).Else-first-bits_in_a_byte), length-set) (rest_whole c.requires (short (goal.at.write_whole-requires-2 c).Else-first-bits_in_a_byte))
 
 stored : (w : After-write_whole-2)
-    → w.write_whole-2.new.1.1.0 ≡ overlay w.args.out.now w.args.at (packed_from w.args.states w.args.meta_data w.args.value.now)
-stored w =
-    let count : w.first_count-first.result ≡ first_count w.args.states (length w.args.value.now) = w.first_count-first.ensures in
-    (rw (count, rest_is w.requires (short w)) at w.write_whole-2.ensures.out_after)
-    ∙ first_stored w.requires (short w) w.args.out.now refl w.byte_from_ascii.result (omega arith) (rw count at w.byte_from_ascii.ensures)
+    → (first_count w.args.states (length w.args.value.now) ≡ per_byte w.args.states → ⊥)
+    → w.write_whole-2.new.out ≡ overlay w.args.out.now w.args.at (packed_from w.args.states w.args.meta_data w.args.value.now)
+stored w less =
+    (rw (w.first_count-first.ensures, rest_is w.requires less) at w.write_whole-2.ensures.out_after)
+    ∙ first_stored w.requires less w.args.out.now refl w.byte_from_ascii.result (omega arith) (rw w.first_count-first.ensures at w.byte_from_ascii.ensures)
 
 pub shape_of-out : goal.shape_of-out
 shape_of-out c =
-    ap length (stored (goal.at.shape_of-out c).After-write_whole-2) ∙ overlay_length c.args.out.now _ c.args.at (rw packed_from_length c.requires.fits)
+    ap length (stored (goal.at.shape_of-out c).After-write_whole-2 (short (goal.at.shape_of-out c).Else-first-bits_in_a_byte)) ∙ overlay_length c.args.out.now _ c.args.at (rw packed_from_length c.requires.fits)
 
 pub returns : goal.returns
 returns c =
-    let n = rw (count (goal.at.returns c).After-bits_in_a_byte, rest_is c.requires (short (goal.at.returns c).Else-first-bits_in_a_byte)) at c.write_whole-2.ensures.value in
-    let told = (omega (arith, n, rest_size c.requires (short (goal.at.returns c).Else-first-bits_in_a_byte)), stored (goal.at.returns c).After-write_whole-2) in
-    record { value = told.0; out_after = told.1 }
+    let n = rw (c.first_count-first.ensures, rest_is c.requires (short (goal.at.returns c).Else-first-bits_in_a_byte)) at c.write_whole-2.ensures.value in
+    let less = short (goal.at.returns c).Else-first-bits_in_a_byte in
+    record { value = omega (arith, n, rest_size c.requires less); out_after = stored (goal.at.returns c).After-write_whole-2 less }

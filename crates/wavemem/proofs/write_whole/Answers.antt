@@ -1,24 +1,26 @@
 -- `wavemem::write_whole` meets its contract.
 -- Assumes nothing.
 use mathlib.Core.Path.{◌≡◌, refl, sym, subst}
-use borrow.Author.Rules.{rules}
 use lib.ListN.{length}
 use Rattle.value.specs.declared.States.{States}
 use Rattle.value.specs.declared.States.TheVariants.{Four, Nine}
 use Rattle.wavemem.specs.Packed.{WholeBytes}
+use mathlib.Core.List.{List}
+use Prim.Native.Nat.{ℕ}
+use Rattle.value.specs.declared.States.{States}
 use Rattle.wavemem.proofs.Parts.{lead_four, lead_nine, front_length, front_whole, second_lent, both_stored}
 use Rattle.wavemem.proofs.write_whole.Goals.{In-Four, In-Nine, Start}
 use Rattle.wavemem.proofs.write_whole.Goals as goal
 
 -- the string under a set that is told
-whole : (c : Start) (s : States) → c.args.states ≡ s → WholeBytes s c.args.value.now (length c.args.out.now) c.args.at
-whole c s e = subst (λ (t : States). WholeBytes t c.args.value.now (length c.args.out.now) c.args.at) e c.requires
+told : {value : List ℕ} {long at : ℕ} {states : States} (s : States) → states ≡ s → WholeBytes states value long at → WholeBytes s value long at
+told {value} {long} {at} s e whole = subst (λ (t : States). WholeBytes t value long at) e whole
 
 four : (c : In-Four) → let x = c.args in WholeBytes Four x.value.now (length x.out.now) x.at
-four c = whole c Four c.in-Four.is
+four c = told Four c.in-Four.is c.requires
 
 nine : (c : In-Nine) → let x = c.args in WholeBytes Nine x.value.now (length x.out.now) x.at
-nine c = whole c Nine c.in-Nine.is
+nine c = told Nine c.in-Nine.is c.requires
 
 pub write_bits-requires : goal.write_bits-requires
 write_bits-requires c = rw c.in-Two.is at c.requires
@@ -32,7 +34,7 @@ write_bytes-next-requires c =
 
 pub write_words-requires : goal.write_words-requires
 write_words-requires c =
-    second_lent (four (goal.at.write_words-requires c).In-Four) (lead_four (four (goal.at.write_words-requires c).In-Four) refl) c.args.out.now refl c.write_bytes-next.ensures
+    second_lent (four (goal.at.write_words-requires c).In-Four) (lead_four (four (goal.at.write_words-requires c).In-Four) refl) c.args.out.now refl (c.write_bytes-next.ensures.value, c.write_bytes-next.ensures.out_after)
 
 pub slice_bounds-write_bytes-end-in-Nine : goal.slice_bounds-write_bytes-end-in-Nine
 slice_bounds-write_bytes-end-in-Nine c = let ok = nine (goal.at.slice_bounds-write_bytes-end-in-Nine c).In-Nine in sym (front_length ok (lead_nine ok refl))
@@ -43,7 +45,7 @@ write_bytes-next-requires-in-Nine c =
 
 pub write_chunks-requires : goal.write_chunks-requires
 write_chunks-requires c =
-    second_lent (nine (goal.at.write_chunks-requires c).In-Nine) (lead_nine (nine (goal.at.write_chunks-requires c).In-Nine) refl) c.args.out.now refl c.write_bytes-next-in-Nine.ensures
+    second_lent (nine (goal.at.write_chunks-requires c).In-Nine) (lead_nine (nine (goal.at.write_chunks-requires c).In-Nine) refl) c.args.out.now refl (c.write_bytes-next-in-Nine.ensures.value, c.write_bytes-next-in-Nine.ensures.out_after)
 
 pub returns-in-Two : goal.returns-in-Two
 returns-in-Two c =
@@ -51,10 +53,10 @@ returns-in-Two c =
 
 pub returns-in-Four : goal.returns-in-Four
 returns-in-Four c =
-    rw c.in-Four.is
-    (both_stored (four (goal.at.returns-in-Four c).In-Four) (lead_four (four (goal.at.returns-in-Four c).In-Four) refl) c.args.out.now refl c.write_bytes-next.ensures c.write_words.ensures)
+    let told = both_stored (four (goal.at.returns-in-Four c).In-Four) (lead_four (four (goal.at.returns-in-Four c).In-Four) refl) c.args.out.now refl (c.write_bytes-next.ensures.value, c.write_bytes-next.ensures.out_after) (c.write_words.ensures.value, c.write_words.ensures.out_after) in
+    rw c.in-Four.is (record { value = told.0; out_after = told.1 })
 
 pub returns-in-Nine : goal.returns-in-Nine
 returns-in-Nine c =
-    rw c.in-Nine.is
-    (both_stored (nine (goal.at.returns-in-Nine c).In-Nine) (lead_nine (nine (goal.at.returns-in-Nine c).In-Nine) refl) c.args.out.now refl c.write_bytes-next-in-Nine.ensures c.write_chunks.ensures)
+    let told = both_stored (nine (goal.at.returns-in-Nine c).In-Nine) (lead_nine (nine (goal.at.returns-in-Nine c).In-Nine) refl) c.args.out.now refl (c.write_bytes-next-in-Nine.ensures.value, c.write_bytes-next-in-Nine.ensures.out_after) (c.write_chunks.ensures.value, c.write_chunks.ensures.out_after) in
+    rw c.in-Nine.is (record { value = told.0; out_after = told.1 })

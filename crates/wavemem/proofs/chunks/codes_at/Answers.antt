@@ -1,11 +1,10 @@
 -- `wavemem::chunks::codes_at` meets its contract: each turn stores the code of the next character.
 -- Assumes nothing.
 use mathlib.Core.Path.{◌≡◌, sym, ap, ◌∙◌}
-use Prim.Native.Nat.{ℕ, ◌-◌, ◌+◌, ◌≤◌, ◌<◌, zero-le}
+use Prim.Native.Nat.{ℕ, ◌+◌, ◌<◌, zero-le}
 use native.Mathlib.Omega.{arith}
-use borrow.Author.Rules.{rules}
-use lib.ListN.{length, take, get_or, replicate}
-use Rattle.value.specs.Slice.{part, overlay}
+use lib.ListN.{length, get_or, replicate}
+use Rattle.value.specs.Slice.{part}
 use Rattle.value.specs.Level.{fold, fold_all, code_of, codes_of}
 use Rattle.value.proofs.Digits.{below_at}
 use Rattle.value.proofs.Slices.{part_length, part_at, overlay_nil}

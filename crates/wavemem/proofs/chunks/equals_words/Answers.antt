@@ -2,9 +2,8 @@
 -- Assumes nothing.
 use mathlib.Core.Path.{◌≡◌, refl, sym, ◌∙◌}
 use mathlib.Core.Bool.{false, ◌&&◌}
-use Prim.Native.Nat.{◌-◌, ◌+◌, ◌/◌, ◌≤◌}
+use Prim.Native.Nat.{◌+◌, ◌/◌, ◌≤◌}
 use native.Mathlib.Omega.{arith}
-use borrow.Author.Rules.{rules}
 use borrow.Author.Tests.{eq-eqb, ne_eqb}
 use lib.Dec.{eqb}
 use lib.Bits.{bit_and}
@@ -12,7 +11,7 @@ use lib.ListN.{length, get_or}
 use Rattle.value.specs.declared.States.TheVariants.{Four}
 use Rattle.value.specs.Slice.{part, same}
 use Rattle.wavemem.specs.Packed.{packed_from}
-use Rattle.wavemem.proofs.Parts.{Agrees, agree, agrees_start, agrees_on, agrees_not, agrees_end, turn_within, turn_fits, turn_codes, word_same}
+use Rattle.wavemem.proofs.Parts.{agree, agrees_start, agrees_on, agrees_not, agrees_end, turn_within, turn_fits, turn_codes, word_same}
 use Rattle.wavemem.proofs.chunks.equals_words.Goals.{After-levels_at-levels, In-loop-from}
 use Rattle.wavemem.proofs.chunks.equals_words.Goals as goal
 

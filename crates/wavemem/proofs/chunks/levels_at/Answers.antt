@@ -2,7 +2,6 @@
 -- Assumes nothing.
 use mathlib.Core.Path.{◌≡◌}
 use native.Mathlib.Omega.{arith}
-use borrow.Author.Rules.{rules}
 use Rattle.value.specs.Digits.{digits}
 use Rattle.value.specs.Slice.{part}
 use Rattle.value.proofs.Digits.{below_all}

@@ -1,13 +1,13 @@
 -- `wavemem::chunks::write_chunks` meets its contract: each turn stores the bytes of the next 32 characters.
 -- Assumes nothing.
 use mathlib.Core.Path.{◌≡◌, refl, ap, ◌∙◌}
-use Prim.Native.Nat.{◌-◌, ◌+◌, ◌≤◌}
+use Prim.Native.Nat.{◌+◌, ◌≤◌}
 use native.Mathlib.Omega.{arith}
 use lib.ListN.{length}
 use Rattle.value.specs.declared.States.TheVariants.{Nine}
 use Rattle.value.specs.Slice.{overlay}
 use Rattle.wavemem.specs.Packed.{packed_with}
-use Rattle.wavemem.proofs.Parts.{Stored, stored_start, stored_long, stored_on, stored_end, turn_within, turn_fits, turn_codes}
+use Rattle.wavemem.proofs.Parts.{stored_start, stored_long, stored_on, stored_end, turn_within, turn_fits, turn_codes}
 use Rattle.wavemem.proofs.chunks.write_chunks.Goals.{At-loop-from, In-loop-from}
 use Rattle.wavemem.proofs.chunks.write_chunks.Goals as goal
 

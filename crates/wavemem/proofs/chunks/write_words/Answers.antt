@@ -1,13 +1,13 @@
 -- `wavemem::chunks::write_words` meets its contract: each turn stores the bytes of the next eight characters.
 -- Assumes nothing.
 use mathlib.Core.Path.{◌≡◌, refl}
-use Prim.Native.Nat.{◌-◌, ◌+◌, ◌≤◌}
+use Prim.Native.Nat.{◌+◌, ◌≤◌}
 use native.Mathlib.Omega.{arith}
 use borrow.Author.Rules.{rules}
 use lib.ListN.{length, length-set}
 use Rattle.value.specs.declared.States.TheVariants.{Four}
 use Rattle.wavemem.proofs.Blocks.{low_byte}
-use Rattle.wavemem.proofs.Parts.{Stored, stored_start, stored_long, stored_on, stored_end, turn_within, turn_fits, turn_codes, word_stored}
+use Rattle.wavemem.proofs.Parts.{stored_start, stored_long, stored_on, stored_end, turn_within, turn_fits, turn_codes, word_stored}
 use Rattle.wavemem.proofs.chunks.write_words.Goals.{At-loop-from, In-loop-from}
 use Rattle.wavemem.proofs.chunks.write_words.Goals as goal
 

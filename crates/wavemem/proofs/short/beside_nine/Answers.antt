@@ -2,7 +2,6 @@
 -- Assumes nothing.
 use mathlib.Core.Path.{ap, ◌∙◌}
 use native.Mathlib.Omega.{arith}
-use borrow.Author.Rules.{rules}
 use Rattle.value.specs.Digits.{number}
 use Rattle.value.specs.Level.{place_in, code_of, fold}
 use Rattle.value.specs.Answer.{holds_one}

@@ -1,7 +1,6 @@
 -- `wavemem::short::scan_short` meets its contract.
 -- Assumes nothing.
 use native.Mathlib.Omega.{arith}
-use borrow.Author.Rules.{rules}
 use Rattle.value.proofs.Digits.{below_all}
 use Rattle.wavemem.proofs.Scans.{padded_scan}
 use Rattle.wavemem.proofs.short.scan_short.Goals as goal

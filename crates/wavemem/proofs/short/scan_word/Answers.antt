@@ -1,7 +1,6 @@
 -- `wavemem::short::scan_word` meets its contract.
 -- Assumes nothing.
 use native.Mathlib.Omega.{arith}
-use borrow.Author.Rules.{rules}
 use Rattle.value.specs.declared.States.TheVariants.{Two, Four, Nine}
 use Rattle.value.specs.Digits.{digits}
 use Rattle.value.specs.Answer.{holds_one}
