@@ -1,4 +1,6 @@
 // Entries of one size, one behind the other: whether a string repeats the last of them, and the next one stored.
+#![tactic(auto)]
+
 ghost use Rattle.std.specs.Prelude.{◌≡◌, ◌+◌, ◌≤◌, length};
 ghost use Rattle.value.specs.Slice.{part, overlay};
 ghost use Rattle.layout.specs.Writable.{Writable, Numbered, entry_from};
