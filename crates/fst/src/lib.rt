@@ -1,4 +1,6 @@
 // Records and their writer, after wellen's src/fst.rs.
+#![tactic(auto)]
+
 ghost use Rattle.std.specs.Prelude.{◌≡◌};
 ghost use Rattle.fst.specs.Refusal.{refusal_number, number_of};
 ghost use Rattle.fst.specs.Record.{size_of, width_of, largest_in, has_no_text, described};

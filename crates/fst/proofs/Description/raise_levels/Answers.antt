@@ -1,0 +1,127 @@
+-- `fst::Description::raise_levels` meets its contract.
+-- Assumes nothing.
+use mathlib.Core.Path.{◌≡◌, refl, sym, ap, ap₂, ◌∙◌}
+use mathlib.Core.Bool.{false, cond, not}
+use mathlib.Core.List.{List}
+use Prim.Native.Nat.{ℕ, ◌+◌, ◌*◌, ◌≤◌, ◌<◌}
+use native.Mathlib.Omega.{arith}
+use lib.ListN.{length, set}
+use Rattle.fst.specs.declared.Description.{Description}
+use Rattle.fst.specs.declared.Encoding.TheVariants.{BitVector}
+use Rattle.fst.specs.Record.{Lent, lent, width_stands, fits}
+use Rattle.entries.specs.Repeatable.{repeats_widened}
+use Rattle.value.specs.declared.States.{States}
+use Rattle.value.specs.Slice.{overlay}
+use Rattle.value.specs.Level.{join}
+use Rattle.layout.specs.Entry.{entry_size}
+use Rattle.layout.specs.Writable.{entry_from}
+use Rattle.fst.proofs.Adding.{beside, accepted_with}
+use Rattle.fst.proofs.AddingPlain.{Roomier}
+use Rattle.fst.proofs.AddingStrings.{string_standing, repeatable, width_then, widenable, wider_room, writable, levels_full, levels_stay, levels_grow}
+use Rattle.fst.proofs.Description.raise_levels.Goals.{After-entry_size, After-exceeds, Start}
+use Rattle.fst.proofs.Description.raise_levels.Goals as goal
+
+abbrev here : Start → Lent
+here x = lent x.args.bytes.now x.args.byte_start x.args.indices.now x.args.index_start
+
+-- an index's place counts no more bytes than a slice has
+few_indices : (x : Start) → length x.args.indices.now * 4 < 18446744073709551616
+few_indices x = omega arith
+
+few_bytes : (x : Start) → length x.args.bytes.now < 18446744073709551616
+few_bytes x = omega arith
+
+-- an acceptance by its parts
+left_by : (indices : List ℕ) {d e : Description} {b c : List ℕ} → d ≡ e → b ≡ c
+    → accepted_with (record { description = d; bytes = b; indices = indices }) ≡ accepted_with (record { description = e; bytes = c; indices = indices })
+left_by indices p q = ap₂ (λ (d : Description) (b : List ℕ). accepted_with (record { description = d; bytes = b; indices = indices })) p q
+
+-- what is known once the room is tried
+module _ (z : After-exceeds) where
+  abbrev joint : States
+  joint = z.join-joint.result
+
+  joined : joint ≡ join z.args.max_states z.args.states
+  joined = z.join-joint.ensures
+
+  told : z.repeats_last-repeat.result ≡ repeats_widened z.args.max_states joint z.args.states z.args.value.now z.args.byte_start z.args.self.count z.args.bytes.now
+  told = z.repeats_last-repeat.ensures
+
+  counted : z.next_count-total.result ≡ cond z.repeats_last-repeat.result z.args.self.count (z.args.self.count + 1)
+  counted = z.next_count-total.ensures
+
+  exceeded : z.exceeds.result ≡ not (fits (BitVector (length z.args.value.now) joint) z.next_count-total.result (lent z.args.bytes.now z.args.byte_start z.args.indices.now z.args.index_start))
+  exceeded = z.exceeds.ensures ∙ ap (λ (d : Description). not (fits d.encoding d.count (lent z.args.bytes.now z.args.byte_start z.args.indices.now z.args.index_start))) z.new-self.ensures
+
+  -- room for one entry more
+  places : z.exceeds.result ≡ false → z.repeats_last-repeat.result ≡ false → Roomier z.args.self (lent z.args.bytes.now z.args.byte_start z.args.indices.now z.args.index_start) (entry_size (length z.args.value.now) joint)
+  places h e = wider_room z.requires joined told counted (sym exceeded ∙ h) e
+
+-- the new entry's place
+place : (c : After-entry_size) (joint : States) → c.entry_size.result ≡ entry_size (length c.args.value.now) joint
+    → Roomier c.args.self (lent c.args.bytes.now c.args.byte_start c.args.indices.now c.args.index_start) (entry_size (length c.args.value.now) joint)
+    → c.args.byte_start + c.args.self.count * c.entry_size.result + c.entry_size.result ≤ length c.args.bytes.now
+place c joint e room = rw e room.bytes
+
+pub overflow_cast-width : goal.overflow_cast-width
+overflow_cast-width c =
+    let p = (repeatable c.requires refl).short in
+    omega arith
+
+pub repeats_last-repeat-requires : goal.repeats_last-repeat-requires
+repeats_last-repeat-requires c = repeatable c.requires c.join-joint.ensures
+
+pub next_count-total-requires : goal.next_count-total-requires
+next_count-total-requires c = (string_standing c.requires).room.count
+
+pub exceeds-requires : goal.exceeds-requires
+exceeds-requires c =
+    ap (λ (d : Description). width_stands d.encoding) c.new-self.ensures
+    ∙ width_then c.requires c.join-joint.ensures
+
+pub returns-then-exceeds : goal.returns-then-exceeds
+returns-then-exceeds c =
+    beside c.refused.ensures
+    ∙ levels_full c.requires (joined (goal.at.returns-then-exceeds c).After-exceeds) (told (goal.at.returns-then-exceeds c).After-exceeds) (counted (goal.at.returns-then-exceeds c).After-exceeds) (sym (exceeded (goal.at.returns-then-exceeds c).After-exceeds) ∙ c.if-exceeds.true)
+
+pub expand_entries-requires : goal.expand_entries-requires
+expand_entries-requires c =
+    widenable c.requires (joined (goal.at.expand_entries-requires c).After-exceeds) (told (goal.at.expand_entries-requires c).After-exceeds) (counted (goal.at.expand_entries-requires c).After-exceeds) (sym (exceeded (goal.at.expand_entries-requires c).After-exceeds) ∙ c.if-exceeds.false)
+
+pub returns-then-repeat : goal.returns-then-repeat
+returns-then-repeat c =
+    beside c.accepted.ensures
+    ∙ left_by c.args.indices.now c.new-self.ensures c.expand_entries.ensures
+    ∙ levels_stay c.requires (joined (goal.at.returns-then-repeat c).After-exceeds) (told (goal.at.returns-then-repeat c).After-exceeds) (counted (goal.at.returns-then-repeat c).After-exceeds) (sym (exceeded (goal.at.returns-then-repeat c).After-exceeds) ∙ c.if-exceeds.false) c.if-repeat.true
+
+pub overflow_mul-at : goal.overflow_mul-at
+overflow_mul-at c = omega (arith, place (goal.at.overflow_mul-at c).After-entry_size _ c.entry_size.ensures (places (goal.at.overflow_mul-at c).After-exceeds c.if-exceeds.false c.if-repeat.false), few_bytes (goal.at.overflow_mul-at c).Start)
+
+pub overflow_add-at : goal.overflow_add-at
+overflow_add-at c = omega (arith, place (goal.at.overflow_add-at c).After-entry_size _ c.entry_size.ensures (places (goal.at.overflow_add-at c).After-exceeds c.if-exceeds.false c.if-repeat.false), few_bytes (goal.at.overflow_add-at c).Start)
+
+pub write_entry-requires : goal.write_entry-requires
+write_entry-requires c =
+    let a = c.args in
+    writable c.requires (joined (goal.at.write_entry-requires c).After-exceeds) (told (goal.at.write_entry-requires c).After-exceeds) (counted (goal.at.write_entry-requires c).After-exceeds) (sym (exceeded (goal.at.write_entry-requires c).After-exceeds) ∙ c.if-exceeds.false) c.if-repeat.false c.expand_entries.auto.data
+    (ap (λ (k : ℕ). a.byte_start + a.self.count * k) c.entry_size.ensures)
+
+pub overflow_add-indices : goal.overflow_add-indices
+overflow_add-indices c = let p = (places (goal.at.overflow_add-indices c).After-exceeds c.if-exceeds.false c.if-repeat.false).index in omega (arith, few_indices (goal.at.overflow_add-indices c).Start)
+
+pub offset_bounds-indices-index_start : goal.offset_bounds-indices-index_start
+offset_bounds-indices-index_start c = let p = (places (goal.at.offset_bounds-indices-index_start c).After-exceeds c.if-exceeds.false c.if-repeat.false).index in omega (arith, few_indices (goal.at.offset_bounds-indices-index_start c).Start)
+
+pub bounds-indices-index_start : goal.bounds-indices-index_start
+bounds-indices-index_start c = (places (goal.at.bounds-indices-index_start c).After-exceeds c.if-exceeds.false c.if-repeat.false).index
+
+pub returns : goal.returns
+returns c =
+    beside c.accepted-2.ensures
+    ∙ left_by (set c.args.indices.now (c.args.index_start + c.args.self.count) c.args.index) c.new-self.ensures
+    (c.write_entry.ensures.out_after
+    ∙ ap₂
+    (λ (b : List ℕ) (k : ℕ).
+    overlay b (c.args.byte_start + c.args.self.count * k) (entry_from (joint (goal.at.returns c).After-exceeds) c.args.states c.args.value.now))
+    c.expand_entries.ensures c.entry_size.ensures)
+    ∙ levels_grow c.requires (joined (goal.at.returns c).After-exceeds) (told (goal.at.returns c).After-exceeds) (counted (goal.at.returns c).After-exceeds) (sym (exceeded (goal.at.returns c).After-exceeds) ∙ c.if-exceeds.false) c.if-repeat.false
