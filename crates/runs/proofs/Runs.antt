@@ -19,7 +19,7 @@ use Rattle.value.proofs.Slices.{part_overlay, same_sound, same_by}
 use Rattle.value.proofs.Levels.{mark_inj, mark_join, all_below_lem, under}
 use Rattle.fst.specs.declared.Description.{Description}
 use Rattle.fst.specs.declared.Encoding.TheVariants.{BitVector}
-use Rattle.fst.specs.Refusal.{Reply, refused, given, tried, Outcome, outcome}
+use Rattle.fst.specs.Refusal.{Reply, given, tried, Outcome, outcome}
 use Rattle.layout.specs.Entry.{entry_of}
 use Rattle.fst.specs.Record.{Lent, Kept, Held, Recorder, kept_in, held_in, kept_of}
 use Rattle.fst.specs.Change.{Change, text, real, is_other_kind, is_other_length, is_foreign, changed, with_change, refusals, in_hand, stored, add_change}
