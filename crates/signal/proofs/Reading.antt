@@ -3,12 +3,9 @@
 use mathlib.Core.Path.{◌≡◌, refl, sym, ap, ◌∙◌, subst}
 use mathlib.Core.Bool.{Bool, true, false, cond}
 use mathlib.Core.List.{List, [], ◌∷◌}
-use mathlib.Core.Logic.{⊎_elim}
 use Prim.Native.Nat.{ℕ, suc, ◌+◌, ◌-◌, ◌*◌, ◌≤◌, ◌<◌}
 use native.Mathlib.Nat.{mul-le-mul_right, suc-mul}
 use native.Mathlib.Omega.{arith}
-use denote.Enum.Declared.{tag_of}
-use types.Run.{OneOf}
 use lib.ListN.{length, drop, length-drop}
 use borrow.Author.Tests.{ltb-false, lt-ltb, le-ltb, le-leb, lt-leb}
 use Rattle.value.specs.declared.States.{States}
@@ -19,7 +16,6 @@ use Rattle.value.proofs.Levels.{mark_set, mark_small}
 use Rattle.value.proofs.Slices.{part_length, part_part}
 use Rattle.fst.specs.declared.Encoding.{Encoding}
 use Rattle.fst.specs.declared.Encoding.TheVariants.{Event, Real, BitVector}
-use Rattle.fst.specs.contracts.Encoding.{the_type}
 use Rattle.fst.specs.declared.Description.{Description}
 use Rattle.fst.specs.Refusal.{Reply, refused, given, ◌⇐◌, tried}
 use Rattle.layout.specs.Entry.{entry_size}
@@ -50,14 +46,14 @@ pub record Owned (w : ℕ) (M : States) (v : List ℕ) (S : States) : Type 0 whe
   pub codes : codes_at w S (level_part (BitVector w M) v) ≡ levels_in (BitVector w M) v
 
 module _ (e : Encoding) (v : List ℕ) where
-  pub own_plain : OneOf (0 ∷ 1 ∷ []) (tag_of the_type e) → own.Own Two ≡ own_in e v
+  pub own_plain : ((w : ℕ) (M : States) → e ≡ BitVector w M → ⊥) → own.Own Two ≡ own_in e v
   unfolding own_in has_bad_mark set_in
   own_plain o = go e o
     where
-      go : (e : Encoding) → OneOf (0 ∷ 1 ∷ []) (tag_of the_type e) → own.Own Two ≡ own_in e v
+      go : (e : Encoding) → ((w : ℕ) (M : States) → e ≡ BitVector w M → ⊥) → own.Own Two ≡ own_in e v
       go Event o = refl
       go Real o = refl
-      go (BitVector w M) o = absurd (⊎_elim (λ z. omega arith) (λ z. omega arith) o)
+      go (BitVector w M) o = absurd (o w M refl)
 
   pub own_vector : {w : ℕ} {M : States} → e ≡ BitVector w M → own_states M v ≡ own_in e v
   unfolding own_in own_states has_bad_mark set_in
@@ -105,11 +101,11 @@ module _ {w : ℕ} {M : States} {v : List ℕ} (h : Whole (BitVector w M) v) whe
 
 -- ---- Read
 
-pub part_plain : (e : Encoding) (v : List ℕ) → OneOf (0 ∷ 1 ∷ []) (tag_of the_type e) → v ≡ part_in e v
+pub part_plain : (e : Encoding) (v : List ℕ) → ((w : ℕ) (M : States) → e ≡ BitVector w M → ⊥) → v ≡ part_in e v
 unfolding part_in has_bad_mark level_part
 part_plain Event v o = refl
 part_plain Real v o = refl
-part_plain (BitVector w M) v o = absurd (⊎_elim (λ z. omega arith) (λ z. omega arith) o)
+part_plain (BitVector w M) v o = absurd (o w M refl)
 
 pub part_vector : {e : Encoding} {w : ℕ} {M S : States} {v : List ℕ} → e ≡ BitVector w M → Owned w M v S → level_part (BitVector w M) v ≡ part_in e v
 unfolding part_in
@@ -180,11 +176,11 @@ module _ {d : Description} {bytes : List ℕ} {start k : ℕ} (h : HasEntry d by
 -- ---- Text
 
 -- neither of an encoding's first two variants has a text
-pub no_text : (e : Encoding) → OneOf (0 ∷ 1 ∷ []) (tag_of the_type e) → has_no_text e ≡ true
+pub no_text : (e : Encoding) → ((w : ℕ) (M : States) → e ≡ BitVector w M → ⊥) → has_no_text e ≡ true
 unfolding has_no_text
 no_text Event o = refl
 no_text Real o = refl
-no_text (BitVector w M) o = absurd (⊎_elim (λ z. omega arith) (λ z. omega arith) o)
+no_text (BitVector w M) o = absurd (o w M refl)
 
 module _ (d : Description) (bytes : List ℕ) (start k : ℕ) (out : List ℕ) where
   pub text_bad : is_bad_bytes d start bytes ≡ true → text_left 2 out ≡ read_text d bytes start k out

@@ -1,4 +1,6 @@
 // Reading records, after wellen's src/signal/mod.rs.
+#![tactic(auto)]
+
 use fst::Refusal;
 use value::States;
 

@@ -1,0 +1,56 @@
+-- `signal::decode::has_bad_code` meets its contract: a code of the first byte is bad where that has but one, or one of the full bytes is.
+-- Assumes nothing.
+use mathlib.Core.Path.{◌≡◌, refl, sym, ap, ◌∙◌}
+use Prim.Native.Nat.{◌-◌, ◌%◌, ◌≤◌}
+use native.Mathlib.Omega.{arith}
+use lib.ListN.{length, drop, length-drop}
+use lib.Seq.{take_all}
+use Rattle.value.specs.declared.States.TheVariants.{Nine}
+use Rattle.value.specs.Digits.{Below}
+use Rattle.value.specs.Slice.{any}
+use Rattle.value.proofs.Digits.{below_all}
+use Rattle.signal.specs.Parts.{Levels, is_bad_byte}
+use Rattle.signal.proofs.Decoding.{few_bits}
+use Rattle.signal.proofs.CodesOfBytes.{nine_bits, bad_whole}
+use Rattle.signal.proofs.decode.has_bad_code.Goals.{Else-bits-lt4}
+use Rattle.signal.proofs.decode.has_bad_code.Goals as goal
+
+pub returns-then-bits-lt4 : goal.returns-then-bits-lt4
+returns-then-bits-lt4 c =
+    let a = c.args in
+    few_bits a.width a.states a.levels.now (rw c.bits.ensures at c.if-bits-lt4.true)
+
+-- the set is Nine
+nine : (c : Else-bits-lt4) → let a = c.args in a.states ≡ Nine
+nine c = nine_bits c.args.states (rw c.bits.ensures at c.if-bits-lt4.false)
+
+within : (c : Else-bits-lt4) → let a = c.args in a.width % 2 ≤ length a.levels.now
+within c =
+    let nine : let a = c.args in a.states ≡ Nine = nine_bits c.args.states (rw c.bits.ensures at c.if-bits-lt4.false) in
+    let h : Levels c.args.width Nine c.args.levels.now = rw nine at c.requires in
+    omega (arith, h.long)
+
+below : (c : Else-bits-lt4) → Below 256 c.args.levels.now
+below c = below_all 256 c.args.levels.now (λ i. omega (arith, c.type_inv.levels i))
+
+pub has_bad_first-requires : goal.has_bad_first-requires
+has_bad_first-requires c = (omega arith, within (goal.at.has_bad_first-requires c).Else-bits-lt4)
+
+pub returns-then-has_bad_first : goal.returns-then-has_bad_first
+returns-then-has_bad_first c =
+    bad_whole (nine (goal.at.returns-then-has_bad_first c).Else-bits-lt4) c.requires (below (goal.at.returns-then-has_bad_first c).Else-bits-lt4) (sym c.if-has_bad_first.true ∙ c.has_bad_first.ensures) refl
+
+pub slice_bounds-has_bad_byte-count : goal.slice_bounds-has_bad_byte-count
+slice_bounds-has_bad_byte-count c = within (goal.at.slice_bounds-has_bad_byte-count c).Else-bits-lt4
+
+pub slice_bounds-has_bad_byte-start : goal.slice_bounds-has_bad_byte-start
+slice_bounds-has_bad_byte-start c = within (goal.at.slice_bounds-has_bad_byte-start c).Else-bits-lt4
+
+pub returns : goal.returns
+returns c =
+    let a = c.args in
+    let v = a.levels.now in
+    let n = a.width % 2 in
+    let t = take_all (length v - n) (drop n v) (rw length-drop (omega arith)) in
+    bad_whole (nine (goal.at.returns c).Else-bits-lt4) c.requires (below (goal.at.returns c).Else-bits-lt4) (sym c.if-has_bad_first.false ∙ c.has_bad_first.ensures)
+    (c.has_bad_byte.ensures ∙ ap (any is_bad_byte) t)
