@@ -1,4 +1,6 @@
 // The entries that hold at a time index, after wellen's src/signal/mod.rs.
+#![tactic(auto)]
+
 ghost use Rattle.std.specs.Prelude.{◌≡◌, false, cond, ◌≤◌, ◌<◌, leb, length, get_or, drop};
 ghost use Rattle.value.specs.Level.{place_in};
 ghost use Rattle.fst.specs.Record.{maximum};

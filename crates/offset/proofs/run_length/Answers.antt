@@ -1,0 +1,52 @@
+-- `offset::run_length` meets its contract. The loop's invariant: the run from `start` on is `elements` longer than the run from where the loop stands.
+-- Assumes nothing.
+use mathlib.Core.Path.{◌≡◌, sym, ap, ◌∙◌}
+use native.Mathlib.Nat.{add-zero, zero-add}
+use Prim.Native.Nat.{◌<◌, ◌+◌}
+use native.Mathlib.Omega.{arith}
+use lib.ListN.{length, drop}
+use Rattle.fst.specs.declared.NextIndex.TheVariants.{At}
+use Rattle.offset.specs.Offset.{head_of}
+use Rattle.offset.proofs.Search.{head_is, run_ends, run_differs, run_more}
+use Rattle.offset.proofs.run_length.Goals.{In-At}
+use Rattle.offset.proofs.run_length.Goals as goal
+
+pub loop-next-init : goal.loop-next-init
+loop-next-init c = (omega (arith, c.requires), rw (add-zero, zero-add))
+
+-- the index that the loop has found
+found : (c : In-At) →
+    let a = c.args in
+    head_of (drop (a.start + c.loop-next.elements) a.indices.now) ≡ At c.in-At.next
+found c = sym c.get.ensures ∙ c.in-At.is
+
+within : (c : In-At) →
+    let a = c.args in
+    a.start + c.loop-next.elements < length a.indices.now
+within c = (head_is _ _ c.in-At.next (sym c.get.ensures ∙ c.in-At.is)).0
+
+pub overflow_add-elements : goal.overflow_add-elements
+overflow_add-elements c = omega (arith, within (goal.at.overflow_add-elements c).In-At)
+
+pub loop-next-smaller : goal.loop-next-smaller
+loop-next-smaller c = omega (arith, within (goal.at.loop-next-smaller c).In-At)
+
+pub loop-next-preserved : goal.loop-next-preserved
+loop-next-preserved c =
+    let a = c.args in (
+      omega (arith, within (goal.at.loop-next-preserved c).In-At),
+      run_more a.index a.start c.loop-next.elements a.indices.now c.loop-next.invariant.1 (found (goal.at.loop-next-preserved c).In-At ∙ ap At c.if-next-index.false),
+    )
+
+pub returns-in_default : goal.returns-in_default
+returns-in_default c =
+    let a = c.args in
+    let rest = drop (a.start + c.loop-next.elements) a.indices.now in
+    omega (arith, c.loop-next.invariant.1, run_ends a.index rest (sym c.get.ensures ∙ c.in_default.is))
+
+pub returns-then-next-index : goal.returns-then-next-index
+returns-then-next-index c =
+    let a = c.args in
+    let rest = drop (a.start + c.loop-next.elements) a.indices.now in
+    let next = c.in-At.next in
+    omega (arith, c.loop-next.invariant.1, run_differs a.index next rest (found (goal.at.returns-then-next-index c).In-At) c.if-next-index.true)
