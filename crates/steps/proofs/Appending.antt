@@ -15,7 +15,6 @@ use Rattle.value.specs.declared.States.{States}
 use Rattle.value.proofs.Slices.{overlay_store}
 use Rattle.layout.specs.Entry.{entry_size}
 use Rattle.layout.specs.Writable.{Writable}
-use Rattle.fst.specs.Record.{fits}
 use Rattle.steps.specs.Storing.{Appended, last_at, repeats_last}
 
 -- a string whose entry has room for itself, where there is as much room

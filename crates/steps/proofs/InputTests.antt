@@ -88,7 +88,7 @@ no_input = record { description = empty Event; byte_start = 0; index_start = 0 }
 
 -- inputs in the code have their places
 pub slotted : (inputs : Inputs) (vs : List Val) → Is (row the_type) inputs vs → length inputs.slots ≡ 8
-slotted inputs vs p = sym (length-map inputs.slots _) ∙ p.1.1.1.0.1.0.1
+slotted inputs vs p = p.1.1.1.0.1.0.1
 
 module _ (inputs : Inputs) (full : length inputs.slots ≡ 8) (i : ℕ) (h : i < min inputs.count 8) (test : Input → Bool) where
   pub slot_none : any test (inputs_of inputs) ≡ false → test (get_or inputs.slots i no_input) ≡ false

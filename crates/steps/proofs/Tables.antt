@@ -8,7 +8,6 @@ use mathlib.Core.List.{List, map}
 use mathlib.Core.Path.{◌∙◌, ◌≡◌, ap, refl, sym}
 use native.Mathlib.Omega.{arith}
 use Rattle.value.specs.Level.{len_of, mark_of, set_at}
-use Rattle.value.specs.Slice.{same}
 use Rattle.value.specs.declared.States.{States}
 use Rattle.value.proofs.Levels.{set_mark}
 use Rattle.value.proofs.Tests.{by_eq}

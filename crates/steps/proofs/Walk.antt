@@ -24,7 +24,7 @@ use Rattle.steps.specs.declared.Input.{Input}
 use Rattle.steps.specs.declared.Inputs.{Inputs}
 use Rattle.steps.proofs.InputTests.{Stands}
 use Rattle.steps.proofs.Loops.{cursors_length, next_within}
-use Rattle.steps.proofs.Sources.{AllStand, all_inputs, indexable, showing}
+use Rattle.steps.proofs.Sources.{AllStand, all_inputs, indexable}
 use Rattle.steps.proofs.Tracks.{Within, come_less, moves_tracks, shown_count, shown_of, soonest_smallest, to_come, tracks, tracks_start}
 
 -- ---- cursors as they start and move on

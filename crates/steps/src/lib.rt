@@ -1,4 +1,6 @@
 // Steps over input records that share two slices: what an input can be refused for by itself, what comes next, and the steps that are kept.
+#![tactic(auto)]
+
 use fst::Description;
 
 pub mod refusals;
