@@ -11,7 +11,7 @@ use borrow.Author.Tests.{lt-ltb, le-ltb, eq-eqb, ne_eqb}
 use denote.Laws.{Is}
 use denote.Struct.Declared.{row}
 use mir.Val.{Val}
-use lib.ListN.{length, take, drop, get_or, set, length-map, drop_of_length-le}
+use lib.ListN.{length, take, drop, get_or, set, drop_of_length-le}
 use lib.Seq.{length-take-le, take-suc, drop-cons, get_or-take, get_or_at}
 use Rattle.value.specs.Slice.{overlay, any, sum}
 use Rattle.value.specs.Level.{place_in}
@@ -28,8 +28,8 @@ use Rattle.derivation.proofs.Joins.{count_is, piece_at}
 pub sized : (d : DerivedBitVecSignal) (vs : List Val) → Is (row the_type) d vs → Sized d
 sized d vs p =
     record {
-      names = sym (length-map d.inputs _) ∙ p.1.1.1.1.0.1.0.1;
-      bits = sym (length-map d.bits _) ∙ p.1.1.1.1.1.1.0.1.0.1;
+      names = p.1.1.1.1.0.1.0.1;
+      bits = p.1.1.1.1.1.1.0.1.0.1;
     }
 
 -- ---- a name sought among the first so many: none of the i names passed is it

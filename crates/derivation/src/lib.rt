@@ -1,4 +1,6 @@
 // Which wires of which signals make a derived one, after the first half of wellen's src/signal/transform.rs.
+#![tactic(auto)]
+
 use fst::Verdict;
 
 pub mod add;
