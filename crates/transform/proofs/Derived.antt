@@ -2,7 +2,7 @@
 -- Assumes nothing.
 use Prim.Native.Nat.{◌+◌, ◌-◌, ◌<◌, ◌^◌, ◌≤◌, min, suc, zero, ℕ}
 use borrow.Author.Tests.{ltb-false}
-use lib.ListN.{get_or-eq_default, get_or-map, get_or, length, length-append, length-map, set}
+use lib.ListN.{get_or-eq_default, get_or-map, get_or, length, length-append, length-map}
 use mathlib.Core.Bool.{false, true≢false}
 use mathlib.Core.List.{List, [], ◌∷◌, foldl, map}
 use mathlib.Core.Logic.{◌↔◌}
@@ -48,7 +48,6 @@ use Rattle.steps.specs.Steps.{Moment, Shown, Track, count_of, kept_steps, moment
 use Rattle.steps.specs.declared.Inputs.{Inputs}
 use Rattle.steps.proofs.Levels.{levels_below, levels_length, mark_within}
 use Rattle.steps.proofs.Moments.{Each2, From, LeastOf, NextUp, NowFrom, Runs, ShowsEntries, Up, grown, least_under, moments_show, moments_up, rising_up, shown_from, shown_up, shows_all, up_falls, up_map, ups}
-use Rattle.steps.proofs.Sources.{showing}
 use Rattle.transform.specs.Accepted.{Accepted, ks_of, list_of, record_of}
 use Rattle.transform.specs.Derive.{code_is_bad, codes_shown, derive, derive_refusals, derived_by, derived_list, is_beyond, is_unfit, largest_among, largest_shown, lent_out, pick_is_bad, picked, picked_of, same_step, set_shown, yielded}
 use Rattle.transform.specs.Refusals.{Derivable}

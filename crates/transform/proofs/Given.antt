@@ -19,7 +19,6 @@ use Rattle.runs.specs.All.{All}
 use Rattle.runs.proofs.All.{all_both, all_of}
 use Rattle.signal.specs.Decode.{levels_in}
 use Rattle.signal.proofs.Entries.{entries_each}
-use Rattle.signal.proofs.Reading.{whole}
 use Rattle.derivation.specs.Piece.{Sized, is_bad_piece, pieces_of}
 use Rattle.derivation.specs.declared.DerivedBitVecSignal.{DerivedBitVecSignal}
 use Rattle.derivation.specs.declared.Extract.{Extract}

@@ -1,7 +1,6 @@
 -- The characters of a step, gathered piece by piece, and the entry that they make.
 -- Assumes nothing.
 use Prim.Native.Nat.{◌+◌, ◌-◌, ◌<◌, ◌^◌, ◌≤◌, suc, zero, ℕ}
-use lib.Ieee.{up}
 use lib.ListN.{drop, drop_of_length-le, get_or, length, length-append, length-map, take}
 use lib.Pow.{pow_mono}
 use lib.Seq.{drop-cons}
@@ -19,7 +18,7 @@ use Rattle.value.proofs.Levels.{bits_up, codes_text, fold_text}
 use Rattle.value.proofs.Slices.{overlay_nil, overlay_overlay, part_at, part_length, part_overlay}
 use Rattle.layout.specs.Entry.{entry_of, entry_size}
 use Rattle.layout.specs.Writable.{Writable, entry_from}
-use Rattle.fst.specs.Record.{fits, kept_in}
+use Rattle.fst.specs.Record.{kept_in}
 use Rattle.runs.specs.All.{All}
 use Rattle.signal.specs.Decode.{codes_at, levels_in, set_in}
 use Rattle.signal.proofs.Decoding.{codes_length}
@@ -31,7 +30,6 @@ use Rattle.steps.specs.declared.Inputs.{Inputs}
 use Rattle.steps.proofs.InputTests.{no_input}
 use Rattle.steps.proofs.Levels.{levels_below, levels_length}
 use Rattle.steps.proofs.Loops.{all_map_at, cursor_at, cursors_count, shown_at}
-use Rattle.steps.proofs.Sources.{shows}
 use Rattle.steps.proofs.Tracks.{Shows, bytes_shown, now_shown, track_of, tracks}
 use Rattle.transform.specs.Derive.{codes_shown, largest_shown, picked, picked_of, set_shown}
 use Rattle.transform.specs.Picking.{Pickable, Picks, PieceIn, Stepped, Under, largest_now, picked_now}

@@ -25,7 +25,7 @@ use Rattle.signal.specs.Decode.{codes_at, entries_in, entry_at, has_bad_mark, le
 use Rattle.signal.specs.Parts.{own_states}
 use Rattle.signal.proofs.Decoding.{codes_length, few_bits}
 use Rattle.signal.proofs.Entries.{entries_each}
-use Rattle.signal.proofs.Reading.{Owned, inside, owned, vector, whole}
+use Rattle.signal.proofs.Reading.{Owned, owned, vector, whole}
 use Rattle.derivation.specs.Piece.{Sized, end_of, extract_of, is_bad_derivation, is_bad_piece, piece_width, pieces_of}
 use Rattle.derivation.specs.declared.DerivedBitVecSignal.{DerivedBitVecSignal}
 use Rattle.derivation.specs.declared.Extract.{Extract}

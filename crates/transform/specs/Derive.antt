@@ -1,6 +1,6 @@
 -- Document 01, "A derived record", "Derive" and "Derived list".
 -- Assumes nothing.
-use Rattle.std.specs.Prelude.{◌-◌, ℕ, eqb, ltb, get_or, length, set, Bool, ◌&&◌, ◌||◌, not, List, [], ◌++◌, ◌∷◌, map}
+use Rattle.std.specs.Prelude.{◌-◌, ℕ, eqb, ltb, get_or, length, Bool, ◌&&◌, ◌||◌, not, List, [], ◌++◌, ◌∷◌, map}
 use Rattle.std.proofs.Math.Option.{Option, none, some}
 use Rattle.value.specs.Level.{has_no_code, join_all, mark_of, text_of}
 use Rattle.value.specs.Slice.{any, overlay, part, same}
