@@ -7,7 +7,7 @@ use std::slice;
 
 const ARCHIVE: &str = "libyoksimert.a";
 const VARIABLE: &str = "YOKSIMERT_LIB_DIR";
-/// Looked at where the variable isn't set: where `rt staticlib yoksimert` writes in the repository, and the folder of a package.
+/// Looked at where the variable isn't set: where `./staticlib yoksimert` writes in the repository, and the folder of a package.
 const OWN: [&str; 2] = ["../../target/staticlib", "../../lib"];
 
 fn main() {
@@ -65,7 +65,7 @@ fn folder() -> Result<PathBuf, String> {
             folder.display()
         ),
         None => format!(
-            "no {ARCHIVE}: run `rt staticlib yoksimert` in yoksimert's repository, or set {VARIABLE} to the folder of a built one"
+            "no {ARCHIVE}: run `./staticlib yoksimert` in yoksimert's repository, or set {VARIABLE} to the folder of a built one"
         ),
     })
 }

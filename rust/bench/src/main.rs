@@ -62,7 +62,7 @@ fn main() {
 #[cfg(not(all(wellen, inner)))]
 fn main() {
     eprintln!(
-        "bench: build the archive first (rt staticlib bench), and set WELLEN_SRC to the folder that holds wellen's src/fst.rs"
+        "bench: build the archive first (./staticlib bench), and set WELLEN_SRC to the folder that holds wellen's src/fst.rs"
     );
     std::process::exit(2);
 }

@@ -2,7 +2,7 @@
 
 use crate::folder::{Outside, accepted, files, package, refused};
 use std::os::unix::fs::PermissionsExt;
-use std::path::Path;
+use std::path::{Path, PathBuf};
 use std::process::Command;
 use std::{env, fs};
 
@@ -57,19 +57,24 @@ fn a_folder_that_is_there_is_left_alone() {
     assert_eq!(files(&there), Vec::<String>::new());
 }
 
-/// What `./package` reads.
+/// What `./package` reads, but for the archive that the toolchain builds.
 const READ: [&str; 8] = [
     "package",
+    "staticlib",
     "LICENSE",
     "NOTICE",
     "docs",
     "include",
     "rust/Cargo.toml",
     "rust/yoksimert",
-    "target/staticlib/libyoksimert.a",
 ];
 /// In place of the toolchain: it says that it would build, and is right or not.
-const RT: &str = "#!/bin/sh\necho \"$@\" >asked\necho not proved >&2\nexit \"$STATUS\"\n";
+const RT: &str = "#!/bin/sh\necho \"$@\" >asked\necho not proved >&2\n\
+    [ \"$STATUS\" != 0 ] || { mkdir -p out && cp \"$BUILT\" out; }\nexit \"$STATUS\"\n";
+
+fn root() -> PathBuf {
+    Path::new(env!("CARGO_MANIFEST_DIR")).join("../..")
+}
 
 /// `./package` in a copy of the repository.
 fn package_anew(outside: &Outside, status: &str) -> Command {
@@ -77,6 +82,7 @@ fn package_anew(outside: &Outside, status: &str) -> Command {
     let mut command = Command::new(outside.path("package"));
     command
         .env("PATH", format!("{}:{path}", outside.path("bin").display()))
+        .env("BUILT", root().join("target/staticlib/libyoksimert.a"))
         .env("STATUS", status);
     command
 }
@@ -84,19 +90,19 @@ fn package_anew(outside: &Outside, status: &str) -> Command {
 #[test]
 fn the_archive_is_built_first() {
     let outside = Outside::empty("built");
-    let root = Path::new(env!("CARGO_MANIFEST_DIR")).join("../..");
     let mut copy = Command::new("cp");
     copy.args(["-r", "--parents"])
         .args(READ)
         .arg(outside.path(""));
-    accepted(copy.current_dir(root));
+    accepted(copy.current_dir(root()));
+    let source = outside.make_folder("crates/yoksimert");
     let rt = outside.make_folder("bin").join("rt");
     fs::write(&rt, RT).expect("the script is written");
     fs::set_permissions(&rt, PermissionsExt::from_mode(0o755)).expect("it is ours");
 
     accepted(&mut package_anew(&outside, "0"));
-    let asked = fs::read_to_string(outside.path("asked"));
-    assert_eq!(asked.expect("rt was called"), "staticlib yoksimert\n");
+    let asked = fs::read_to_string(source.join("asked"));
+    assert_eq!(asked.expect("rt was called"), "lib\n");
     let old = outside.path("dist/old");
     fs::write(&old, "").expect("dist is there");
     let said = refused(&mut package_anew(&outside, "1"));

@@ -8,7 +8,7 @@ use std::process::Command;
 const SERVICE: &str = include_str!("programs/service.rs");
 const OUTPUT: &str =
     "7: 0001\nrefused: the time index is below the last one kept (refusal 6)\n0: zz\n7: 01\n";
-const NO_ARCHIVE: &str = "error: no libyoksimert.a: run `rt staticlib yoksimert` in yoksimert's repository, or set YOKSIMERT_LIB_DIR to the folder of a built one\n";
+const NO_ARCHIVE: &str = "error: no libyoksimert.a: run `./staticlib yoksimert` in yoksimert's repository, or set YOKSIMERT_LIB_DIR to the folder of a built one\n";
 
 #[test]
 fn a_service_runs_by_the_package_and_by_the_variable() {
