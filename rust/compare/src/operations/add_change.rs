@@ -27,8 +27,8 @@ impl Operation for AddChange {
     const NAMES: &'static [&'static str] = &["add"];
     const NUMBERS: &'static [u8] = &[2, 3, 4, 5, 6, 7];
     const DEFINITIONS: &'static [Module] = &[
-        Module::new("Rattle·entries.specs.Repeats", ""),
-        Module::new("Rattle·fst.specs.Change", "text real"),
+        Module::new("Rattle.entries.specs.Repeats", ""),
+        Module::new("Rattle.fst.specs.Change", "text real"),
     ];
 
     fn alterable(&self) -> (&[u8], &[u32]) {
@@ -124,7 +124,7 @@ impl Operation for AddChange {
             terms::list(&outcome.indices)
         );
         let lent = terms::lent(&self.record);
-        let call = format!("addChange {lent} {} {change}", self.index);
+        let call = format!("add_change {lent} {} {change}", self.index);
         Some(terms::leaves(
             "(Recorder Description)",
             &call,

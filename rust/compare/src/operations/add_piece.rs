@@ -24,14 +24,14 @@ impl Operation for AddPiece {
     const NUMBERS: &'static [u8] = &[14, 12, 13];
     const DEFINITIONS: &'static [Module] = &[
         Module::new(
-            "Rattle·derivation.specs.declared.DerivedBitVecSignal",
+            "Rattle.derivation.specs.declared.DerivedBitVecSignal",
             "DerivedBitVecSignal",
         ),
         Module::new(
-            "Rattle·derivation.specs.declared.Side.the-variants",
+            "Rattle.derivation.specs.declared.Side.TheVariants",
             "Left Right",
         ),
-        Module::new("Rattle·derivation.specs.Piece", ""),
+        Module::new("Rattle.derivation.specs.Piece", ""),
     ];
 
     fn name(&self) -> &'static str {
@@ -108,7 +108,7 @@ impl Operation for AddPiece {
         let given = terms::derivation(&self.derivation);
         let next = terms::derivation(outcome.answer.as_ref().unwrap_or(&self.derivation));
         let (name, msb, lsb) = (self.name, self.msb, self.lsb);
-        let call = format!("addPiece {given} {side} {name} {msb} {lsb}");
+        let call = format!("add_piece {given} {side} {name} {msb} {lsb}");
         Some(terms::leaves("DerivedBitVecSignal", &call, outcome, &next))
     }
 }

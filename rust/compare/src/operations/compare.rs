@@ -26,8 +26,8 @@ impl Operation for Compare {
     const NAMES: &'static [&'static str] = &["compare"];
     const NUMBERS: &'static [u8] = &[2, 9, 10];
     const DEFINITIONS: &'static [Module] = &[
-        Module::library("lib.Ieee", "", "eq ofBits ofFields odd"),
-        Module::new("Rattle·equality.specs.Compare", ""),
+        Module::library("lib.Ieee", "", "eq of_bits of_fields odd"),
+        Module::new("Rattle.equality.specs.Compare", ""),
     ];
 
     fn by_oracle(&self, _: Slices) -> Result<bool, Refusal> {
@@ -79,7 +79,7 @@ impl Operation for Compare {
     fn equation(&self, outcome: &Outcome<bool>) -> Option<String> {
         let lent = format!("{} {}", terms::lent(&self.first), terms::lent(&self.second));
         let reply = terms::reply(outcome, bool::to_string);
-        Some(format!("compareRecords {lent} ≡ {reply}"))
+        Some(format!("compare_records {lent} ≡ {reply}"))
     }
 
     fn ask_of_record(from: &mut Generator, used: &Used, to: &mut dyn Receiver) {

@@ -25,10 +25,10 @@ impl Operation for LookUp {
     const NUMBERS: &'static [u8] = &[2, 11];
     const DEFINITIONS: &'static [Module] = &[
         Module::new(
-            "Rattle·fst.specs.declared.NextIndex.the-variants",
+            "Rattle.fst.specs.declared.NextIndex.TheVariants",
             "Absent At",
         ),
-        Module::new("Rattle·offset.specs.Offset", "none at"),
+        Module::new("Rattle.offset.specs.Offset", "none at"),
     ];
 
     fn by_oracle(&self, _: Slices) -> Result<Option<Offset>, Refusal> {
@@ -75,7 +75,7 @@ impl Operation for LookUp {
     }
 
     fn equation(&self, outcome: &Outcome<Option<Offset>>) -> Option<String> {
-        Some(equation("lookUp", &self.indices, self.sought, outcome))
+        Some(equation("look_up", &self.indices, self.sought, outcome))
     }
 
     fn ask_of_record(from: &mut Generator, used: &Used, to: &mut dyn Receiver) {
@@ -151,7 +151,7 @@ fn data_offset(offset: &Offset) -> String {
         .next_index
         .map_or("Absent".to_string(), |index| format!("At {index}"));
     format!(
-        "(record {{ start = {}; elements = {}; «time_match» = {}; «next_index» = {next} }})",
+        "(record {{ start = {}; elements = {}; time_match = {}; next_index = {next} }})",
         offset.start, offset.elements, offset.time_match
     )
 }

@@ -46,8 +46,8 @@ impl Form for Unsigned {
     const NAMES: &'static [&'static str] = &["unsigned"];
     const NUMBERS: &'static [u8] = &[2, 3, 8, 9, 10, 16, 17];
     const DEFINITIONS: &'static [Module] = &[
-        Module::library("lib.IntN", "pos negsuc", ""),
-        Module::new("Rattle·numbers.specs.Number", "unsigned signed decimal"),
+        Module::library("Rattle.std.specs.Prelude", "pos negsuc", ""),
+        Module::new("Rattle.numbers.specs.Number", "unsigned signed decimal"),
     ];
     const FORM: oracle::Form = oracle::Form::Unsigned;
     const TERM: &'static str = "unsigned";
@@ -174,7 +174,7 @@ impl<F: Form> Operation for Number<F> {
         let record = terms::bytes_of(&self.record);
         let reply = terms::reply(outcome, |value| F::term(*value));
         let (form, entry) = (F::TERM, self.entry);
-        Some(format!("readNumber {form} {record} {entry} ≡ {reply}"))
+        Some(format!("read_number {form} {record} {entry} ≡ {reply}"))
     }
 
     /// One entry, in every form the same.

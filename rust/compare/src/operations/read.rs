@@ -28,8 +28,8 @@ impl Operation for Read {
     const NAMES: &'static [&'static str] = &["read"];
     const NUMBERS: &'static [u8] = &[2, 8, 9];
     const DEFINITIONS: &'static [Module] = &[
-        Module::new("Rattle·signal.specs.declared.Kind.the-variants as kind", ""),
-        Module::new("Rattle·signal.specs.Read", "Entry"),
+        Module::new("Rattle.signal.specs.declared.Kind.TheVariants as kind", ""),
+        Module::new("Rattle.signal.specs.Read", "Entry"),
     ];
 
     fn by_oracle(&self, _: Slices) -> Result<Entry, Refusal> {
@@ -130,7 +130,7 @@ impl Operation for Read {
             format!("(record {{ kind = kind.{kind}; set = {set}; part = {part} }})")
         };
         let (record, reply) = (terms::bytes_of(&self.record), terms::reply(outcome, value));
-        Some(format!("readEntry {record} {} ≡ {reply}", self.entry))
+        Some(format!("read_entry {record} {} ≡ {reply}", self.entry))
     }
 
     /// Reads and texts of every entry and one beyond, of any, and of a spoilt record.

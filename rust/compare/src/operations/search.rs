@@ -19,7 +19,7 @@ impl Operation for Search {
 
     const NAMES: &'static [&'static str] = &["search"];
     const NUMBERS: &'static [u8] = &[2];
-    const DEFINITIONS: &'static [Module] = &[Module::new("Rattle·search.specs.Quartering", "")];
+    const DEFINITIONS: &'static [Module] = &[Module::new("Rattle.search.specs.Quartering", "")];
     const DOCUMENT: u8 = 0;
 
     fn by_oracle(&self, _: Slices) -> Result<Option<Offset>, Refusal> {

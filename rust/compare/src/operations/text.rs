@@ -104,7 +104,7 @@ impl Operation for Text {
 
     fn equation(&self, outcome: &Outcome<()>) -> Option<String> {
         let (record, out) = (terms::bytes_of(&self.record), terms::list(&self.out));
-        let call = format!("readText {record} {} {out}", self.entry);
+        let call = format!("read_text {record} {} {out}", self.entry);
         let left = terms::list(&outcome.bytes);
         Some(terms::leaves("(List ℕ)", &call, outcome, &left))
     }

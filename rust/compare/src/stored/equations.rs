@@ -28,8 +28,8 @@ impl Module {
     }
 
     fn computed(&self, crates: &Path) -> Result<Vec<String>, String> {
-        let text = match self.path.strip_prefix("Rattle·") {
-            Some(path) if !path.contains(".declared.") => {
+        let text = match self.path.strip_prefix("Rattle.") {
+            Some(path) if !path.starts_with("std.") && !path.contains(".declared.") => {
                 let file = crates.join(path.replace('.', "/")).with_extension("antt");
                 fs::read_to_string(&file).map_err(|error| format!("{}: {error}", file.display()))?
             }
@@ -55,26 +55,27 @@ impl Module {
 
 /// What more than one operation goes through.
 const SHARED: &[Module] = &[
-    Module::new("mathlib.Core.Path", "_≡_ refl"),
-    Module::new("mathlib.Core.Bool", "true false"),
-    Module::new("Prim.Native.Nat", "ℕ"),
-    Module::new("mathlib.Core.List", "List [] _∷_"),
+    Module::library(
+        "Rattle.std.specs.Prelude",
+        "◌≡◌ refl ℕ true false List [] ◌∷◌",
+        "",
+    ),
     Module::new(
-        "Rattle·value.specs.declared.States.the-variants",
+        "Rattle.value.specs.declared.States.TheVariants",
         "Two Four Nine",
     ),
-    Module::new("Rattle·value.specs.Digits", ""),
-    Module::new("Rattle·value.specs.Slice", ""),
-    Module::new("Rattle·value.specs.Level", ""),
-    Module::new("Rattle·layout.specs.Entry", ""),
+    Module::new("Rattle.value.specs.Digits", ""),
+    Module::new("Rattle.value.specs.Slice", ""),
+    Module::new("Rattle.value.specs.Level", ""),
+    Module::new("Rattle.layout.specs.Entry", ""),
     Module::new(
-        "Rattle·fst.specs.declared.Encoding.the-variants",
+        "Rattle.fst.specs.declared.Encoding.TheVariants",
         "Event Real BitVector",
     ),
-    Module::new("Rattle·fst.specs.declared.Description", "Description"),
-    Module::new("Rattle·fst.specs.Refusal", "Reply refused given Outcome"),
-    Module::new("Rattle·fst.specs.Record", "Recorder"),
-    Module::new("Rattle·signal.specs.Decode", ""),
+    Module::new("Rattle.fst.specs.declared.Description", "Description"),
+    Module::new("Rattle.fst.specs.Refusal", "Reply refused given Outcome"),
+    Module::new("Rattle.fst.specs.Record", "Recorder"),
+    Module::new("Rattle.signal.specs.Decode", ""),
 ];
 
 /// The imports of all equations, and the names of what is computed.

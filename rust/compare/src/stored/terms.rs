@@ -44,7 +44,7 @@ pub fn bytes_of(record: &LentRecord) -> String {
 /// A description and what is lent with it.
 pub fn lent(record: &LentRecord) -> String {
     format!(
-        "{} (record {{ bytes = {}; byteStart = {}; indices = {}; indexStart = {} }})",
+        "{} (record {{ bytes = {}; byte_start = {}; indices = {}; index_start = {} }})",
         description(record.description),
         list(&record.bytes),
         record.byte_start,
@@ -55,7 +55,7 @@ pub fn lent(record: &LentRecord) -> String {
 
 pub fn derivation(derivation: &Derivation) -> String {
     format!(
-        "(record {{ width = {}; «input_count» = {}; inputs = {}; «piece_count» = {}; bits = {} }})",
+        "(record {{ width = {}; input_count = {}; inputs = {}; piece_count = {}; bits = {} }})",
         derivation.width,
         derivation.input_count,
         list(&derivation.inputs),
@@ -80,5 +80,5 @@ pub fn made(outcome: &Outcome<Description>) -> String {
 /// An equation of a call that leaves something of a type with the number.
 pub fn leaves<A>(of: &str, call: &str, outcome: &Outcome<A>, left: &str) -> String {
     let number = outcome.number();
-    format!("_≡_ {{A = Outcome {of}}} ({call}) (record {{ refused = {number}; left = {left} }})")
+    format!("◌≡◌ {{A = Outcome {of}}} ({call}) (record {{ refused = {number}; left = {left} }})")
 }

@@ -29,11 +29,11 @@ impl Operation for Derive {
     const NAMES: &'static [&'static str] = &["derive"];
     const NUMBERS: &'static [u8] = &[2, 14, 15, 11, 9, 10, 7];
     const DEFINITIONS: &'static [Module] = &[
-        Module::new("Rattle·runs.specs.Runs", ""),
-        Module::new("Rattle·steps.specs.declared.Input", "Input"),
-        Module::new("Rattle·steps.specs.declared.Inputs", "Inputs"),
-        Module::new("Rattle·steps.specs.Steps", ""),
-        Module::new("Rattle·transform.specs.Derive", "Derived"),
+        Module::new("Rattle.runs.specs.Runs", ""),
+        Module::new("Rattle.steps.specs.declared.Input", "Input"),
+        Module::new("Rattle.steps.specs.declared.Inputs", "Inputs"),
+        Module::new("Rattle.steps.specs.Steps", ""),
+        Module::new("Rattle.transform.specs.Derive", "Derived"),
     ];
 
     fn alterable(&self) -> (&[u8], &[u32]) {
@@ -255,7 +255,7 @@ fn inputs_term(inputs: &[Input]) -> String {
     let slot = |at: usize| {
         let input = inputs.get(at).unwrap_or(&blank);
         format!(
-            "(record {{ description = {}; «byte_start» = {}; «index_start» = {} }})",
+            "(record {{ description = {}; byte_start = {}; index_start = {} }})",
             terms::description(input.description),
             input.byte_start,
             input.index_start
