@@ -189,7 +189,7 @@ fn of_rattle() -> Items {
     let exported = functions(&text, EXPORTED, &[" ensures"]);
     assert_eq!(
         exported.len(),
-        text.matches("#[no_mangle]").count(),
+        text.matches("#[unsafe(no_mangle)]").count(),
         "an exported function with no contract"
     );
     items.extend(exported);

@@ -29,6 +29,9 @@ fn file(path: &str) -> String {
     fs::read_to_string(&path).unwrap_or_else(|error| panic!("{}: {error}", path.display()))
 }
 
+/// Folders of what is built, with copies of sources.
+const MADE: [&str; 2] = ["/target", "/out"];
+
 /// The files below a folder, by their paths from there.
 fn files(folder: &str) -> Vec<String> {
     let Ok(entries) = fs::read_dir(root().join(folder)) else {
@@ -38,10 +41,10 @@ fn files(folder: &str) -> Vec<String> {
     for entry in entries {
         let entry = entry.expect("the folder is read");
         let path = format!("{folder}/{}", entry.file_name().to_string_lossy());
-        if entry.path().is_dir() && !path.ends_with("/target") {
-            all.extend(files(&path));
-        } else {
+        if !entry.path().is_dir() {
             all.push(path);
+        } else if !MADE.iter().any(|made| path.ends_with(made)) {
+            all.extend(files(&path));
         }
     }
     all
@@ -49,8 +52,10 @@ fn files(folder: &str) -> Vec<String> {
 
 fn crates() -> Vec<String> {
     let list = file("crates.txt");
-    let lines = list.lines().filter_map(|line| line.split_once(':'));
-    lines.map(|(name, _)| name.to_string()).collect()
+    let lines = list.lines().filter(|line| !line.starts_with('#'));
+    let named = lines.filter_map(|line| line.split([' ', ':']).next());
+    let names: Vec<_> = named.filter(|name| !name.is_empty()).collect();
+    names.into_iter().map(str::to_string).collect()
 }
 
 /// The lines of a document outside its programs, numbered from 1.
