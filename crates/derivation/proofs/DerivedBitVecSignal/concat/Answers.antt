@@ -6,7 +6,7 @@ use Rattle.fst.specs.Refusal.{Outcome}
 use Rattle.derivation.specs.declared.DerivedBitVecSignal.{DerivedBitVecSignal}
 use Rattle.derivation.specs.declared.Side.{Side}
 use Rattle.derivation.specs.declared.Side.TheVariants.{Left, Right}
-use Rattle.derivation.specs.Piece.{pieces_of, piece_added, is_bad_derivation, is_bad_range, joined_of, add_piece}
+use Rattle.derivation.specs.Piece.{pieces_of, piece_added, is_bad_derivation, joined_of, add_piece}
 use Rattle.derivation.specs.Answer.{has_no_room, Joining, with_pieces}
 use Rattle.derivation.proofs.Walks.{sized}
 use Rattle.derivation.proofs.Joins.{Tried, no_room, naming, joining, joined}
@@ -18,17 +18,12 @@ use Rattle.derivation.proofs.DerivedBitVecSignal.concat.Goals as goal
 good : (c : Else-is_bad) → is_bad_derivation c.args.self ≡ false
 good c = sym c.is_bad.ensures ∙ c.if-is_bad.false
 
-range : (c : Else-is_bad_range) → is_bad_range c.args.msb c.args.lsb ≡ false
-range c = sym c.is_bad_range.ensures ∙ c.if-is_bad_range.false
-
 piece : (c : After-has_no_room) → Tried c.args.self c.args.side c.args.signal c.args.msb c.args.lsb c.make_extract-extract.result c.merges-merges.result
 piece c =
-    let range : is_bad_range c.args.msb c.args.lsb ≡ false = sym c.is_bad_range.ensures ∙ c.if-is_bad_range.false in
-    let good : is_bad_derivation c.args.self ≡ false = sym c.is_bad.ensures ∙ c.if-is_bad.false in
     record {
       sized = sized c.args.self _ c.well_formed.0;
-      good = good;
-      range = range;
+      good = sym c.is_bad.ensures ∙ c.if-is_bad.false;
+      range = sym c.is_bad_range.ensures ∙ c.if-is_bad_range.false;
       made = c.make_extract-extract.ensures;
       told = c.merges-merges.ensures;
     }
@@ -65,15 +60,6 @@ returns-then-is_bad_range c =
     let a = c.args in
     ap joined_of c.refused-then-is_bad_range.ensures
     ∙ sym (refused_range a.self a.side a.signal a.msb a.lsb (good (goal.at.returns-then-is_bad_range c).Else-is_bad) (sym c.is_bad_range.ensures ∙ c.if-is_bad_range.true))
-
-pub make_extract-extract-requires : goal.make_extract-extract-requires
-make_extract-extract-requires c = (good (goal.at.make_extract-extract-requires c).Else-is_bad, range (goal.at.make_extract-extract-requires c).Else-is_bad_range)
-
-pub merges-merges-requires : goal.merges-merges-requires
-merges-merges-requires c = good (goal.at.merges-merges-requires c).Else-is_bad
-
-pub has_no_room-requires : goal.has_no_room-requires
-has_no_room-requires c = good (goal.at.has_no_room-requires c).Else-is_bad
 
 pub returns-then-has_no_room : goal.returns-then-has_no_room
 returns-then-has_no_room c =

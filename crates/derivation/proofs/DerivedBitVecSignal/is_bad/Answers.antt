@@ -6,7 +6,7 @@ use native.Mathlib.Omega.{arith}
 use borrow.Author.Tests.{lt-ltb, le-ltb, eq-eqb, ne_eqb}
 use lib.ListN.{length}
 use Rattle.derivation.specs.Piece.{is_bad_derivation}
-use Rattle.derivation.proofs.Walks.{sized, passed_none, passed_bad, passed_more, AllPassed, all_passed}
+use Rattle.derivation.proofs.Walks.{sized, passed_bad, passed_more, AllPassed, all_passed}
 use Rattle.derivation.proofs.DerivedBitVecSignal.is_bad.Goals.{After-loop-i, Else-inputs-gt-MAX_INPUTS}
 use Rattle.derivation.proofs.DerivedBitVecSignal.is_bad.Goals as goal
 
@@ -28,18 +28,12 @@ pub returns-then-inputs-gt-MAX_INPUTS : goal.returns-then-inputs-gt-MAX_INPUTS
 unfolding is_bad_derivation
 returns-then-inputs-gt-MAX_INPUTS c = simp (le-ltb _ _ c.if-count-gt-MAX_PIECES.false, lt-ltb _ _ c.if-inputs-gt-MAX_INPUTS.true)
 
-pub loop-i-init : goal.loop-i-init
-loop-i-init c = (omega arith, passed_none c.args.self)
-
 pub returns-then-is_bad : goal.returns-then-is_bad
 unfolding is_bad_derivation
 returns-then-is_bad c =
     let d = c.args.self in
     let any-bad = passed_bad c.loop-i.invariant.1 (room (goal.at.returns-then-is_bad c).Else-inputs-gt-MAX_INPUTS) (omega arith) c.from_u64-extract.result c.from_u64-extract.ensures (sym c.is_bad.ensures ∙ c.if-is_bad.true) in
     simp (le-ltb _ _ c.if-count-gt-MAX_PIECES.false, le-ltb _ _ c.if-inputs-gt-MAX_INPUTS.false, any-bad)
-
-pub overflow_add-sum : goal.overflow_add-sum
-overflow_add-sum c = omega (arith, c.loop-i.invariant.1.small)
 
 pub loop-i-preserved : goal.loop-i-preserved
 loop-i-preserved c =

@@ -12,9 +12,6 @@ use Rattle.derivation.proofs.Walks.{sized}
 use Rattle.derivation.proofs.Joins.{narrow_at, some_piece, piece_put, put_left_one, put_left_more}
 use Rattle.derivation.proofs.DerivedBitVecSignal.put_left.Goals as goal
 
-pub overflow_add-self : goal.overflow_add-self
-overflow_add-self c = omega (arith, c.requires.narrow)
-
 pub merged-one-requires : goal.merged-one-requires
 merged-one-requires c =
     let d = c.args.self in
@@ -29,14 +26,6 @@ returns-then-merges c =
     let v : c.to_u64.result ≡ packed_of (merged e (extract_of (get_or d.bits 0 0))) = c.to_u64.ensures ∙ ap packed_of (c.merged-one.ensures ∙ ap (merged e) c.from_u64.ensures) in
     piece_put k c.requires d.piece_count (set d.bits 0 c.to_u64.result) (rw c.if-merges.true)
     (ap (set d.bits 0) v ∙ put_left_one d.bits d.piece_count e (omega (arith, c.requires.few)) (sym c.requires.told ∙ c.if-merges.true))
-
-pub insert_first-requires : goal.insert_first-requires
-insert_first-requires c =
-    (c.requires.unmerged c.if-merges.false, (sized c.args.self _ c.well_formed.0).bits)
-
-pub overflow_add-self-2 : goal.overflow_add-self-2
-overflow_add-self-2 c =
-    omega (arith, c.requires.few)
 
 pub returns : goal.returns
 returns c =

@@ -31,10 +31,6 @@ returns-then-merges c =
     piece_put k c.requires d.piece_count (set d.bits at c.to_u64.result) (rw c.if-merges.true)
     (ap (set d.bits at) v ∙ put_right_one d.bits d.piece_count (omega (arith, c.requires.few)) e (sym c.requires.told ∙ c.if-merges.true))
 
-pub bounds-self-count : goal.bounds-self-count
-bounds-self-count c =
-    c.requires.unmerged c.if-merges.false
-
 pub returns : goal.returns
 returns c =
     let d = c.args.self in

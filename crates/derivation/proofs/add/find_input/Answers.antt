@@ -2,11 +2,8 @@
 -- Assumes nothing.
 use mathlib.Core.Path.{sym}
 use native.Mathlib.Omega.{arith}
-use Rattle.derivation.proofs.Walks.{sought_none, sought_found, sought_more, sought_missing}
+use Rattle.derivation.proofs.Walks.{sought_found, sought_more, sought_missing}
 use Rattle.derivation.proofs.add.find_input.Goals as goal
-
-pub loop-number-init : goal.loop-number-init
-loop-number-init c = (omega arith, sought_none c.args.inputs.now c.args.count c.args.signal)
 
 pub returns-then-inputs-number : goal.returns-then-inputs-number
 returns-then-inputs-number c =
