@@ -3,13 +3,10 @@
 use mathlib.Core.Path.{◌≡◌, refl, sym, ap, ap₂, ◌∙◌, subst}
 use mathlib.Core.Bool.{Bool, true, false, cond, ◌&&◌}
 use mathlib.Core.List.{List, [], ◌∷◌, ◌++◌, reverse, reverse-cons}
-use mathlib.Core.Logic.{⊎_elim}
 use Prim.Native.Nat.{ℕ, suc, ◌+◌, ◌-◌, ◌*◌, ◌^◌, ◌%◌, ◌≤◌, ◌<◌}
 use native.Mathlib.Nat.{pow-suc, pow-le-pow_right, lt_of_lt_of_le, mul-le-mul_right}
 use native.Mathlib.Numerals.{add-one}
 use native.Mathlib.Omega.{arith}
-use denote.Enum.Declared.{tag_of}
-use types.Run.{OneOf}
 use lib.Dec.{T, eqb, eqb→eq}
 use borrow.Author.Tests.{eq-eqb, ne_eqb}
 use lib.Bits.{bit_or, bit_xor, or_shifted, or_add_and, xor_add_and, xor_self, and_le_l, and_le_r}
@@ -26,7 +23,6 @@ use Rattle.value.proofs.Slices.{same_sound, same_refl, same_by}
 use Rattle.value.proofs.Tests.{to_t, from_t, both_ways}
 use Rattle.fst.specs.declared.Encoding.{Encoding}
 use Rattle.fst.specs.declared.Encoding.TheVariants.{Event, Real, BitVector}
-use Rattle.fst.specs.contracts.Encoding.{the_type}
 use Rattle.fst.specs.declared.Description.{Description}
 use Rattle.fst.specs.declared.Refusal.{Refusal}
 use Rattle.fst.specs.Refusal.{Reply, refused, given, Test, ◌⇐◌, tried, refusal_number}
@@ -43,7 +39,6 @@ use Rattle.equality.specs.declared.EqualAnswer.{EqualAnswer}
 use Rattle.equality.specs.declared.EqualAnswer.TheVariants as answer
 use Rattle.equality.specs.Compare.{same_value, agree, walked, compare_records, equal_of}
 use Rattle.equality.specs.Pairs.{bad_number, Valid, pair_of}
-use Rattle.equality.specs.contracts.EqualAnswer.{the_type as equal-type}
 
 -- ---- a real's bits
 
@@ -120,14 +115,14 @@ module _ (xs ys : List ℕ) where
 
 module _ (e : Encoding) (v : List ℕ) where
   -- only bit vectors have marks and codes
-  pub bad_none : OneOf (0 ∷ 1 ∷ []) (tag_of the_type e) → 0 ≡ bad_number e v
+  pub bad_none : ((w : ℕ) (M : States) → e ≡ BitVector w M → ⊥) → 0 ≡ bad_number e v
   unfolding bad_number has_bad_mark levels_in any
   bad_none o = go e o
     where
-      go : (e : Encoding) → OneOf (0 ∷ 1 ∷ []) (tag_of the_type e) → 0 ≡ bad_number e v
+      go : (e : Encoding) → ((w : ℕ) (M : States) → e ≡ BitVector w M → ⊥) → 0 ≡ bad_number e v
       go Event o = refl
       go Real o = refl
-      go (BitVector w M) o = absurd (⊎_elim (λ z. omega arith) (λ z. omega arith) o)
+      go (BitVector w M) o = absurd (o w M refl)
 
 module _ {e : Encoding} {w : ℕ} {M : States} (q : e ≡ BitVector w M) where
   pub bad_mark : (v : List ℕ) → own_states M v ≡ own.Bad → 9 ≡ bad_number e v
@@ -188,33 +183,33 @@ module _ {w : ℕ} {M N S R : States} {v u x y : List ℕ} (o : Owned w M v S) (
 -- ---- entries of unlike kind or width
 
 module _ {e : Encoding} (f : Encoding) (v u : List ℕ) where
-  pub unlike_event : e ≡ Event → OneOf (1 ∷ 2 ∷ []) (tag_of the_type f) → false ≡ same_value e v f u
+  pub unlike_event : e ≡ Event → (f ≡ Event → ⊥) → false ≡ same_value e v f u
   unfolding same_value
   unlike_event q o = rw q (go f o)
     where
-      go : (f : Encoding) → OneOf (1 ∷ 2 ∷ []) (tag_of the_type f) → false ≡ same_value Event v f u
-      go Event o = absurd (⊎_elim (λ z. omega arith) (λ z. omega arith) o)
+      go : (f : Encoding) → (f ≡ Event → ⊥) → false ≡ same_value Event v f u
+      go Event o = absurd (o refl)
       go Real o = refl
       go (BitVector w M) o = refl
 
-  pub unlike_real : e ≡ Real → OneOf (0 ∷ 2 ∷ []) (tag_of the_type f) → false ≡ same_value e v f u
+  pub unlike_real : e ≡ Real → (f ≡ Real → ⊥) → false ≡ same_value e v f u
   unfolding same_value
   unlike_real q o = rw q (go f o)
     where
-      go : (f : Encoding) → OneOf (0 ∷ 2 ∷ []) (tag_of the_type f) → false ≡ same_value Real v f u
+      go : (f : Encoding) → (f ≡ Real → ⊥) → false ≡ same_value Real v f u
       go Event o = refl
-      go Real o = absurd (⊎_elim (λ z. omega arith) (λ z. omega arith) o)
+      go Real o = absurd (o refl)
       go (BitVector w M) o = refl
 
   module _ {w : ℕ} {M : States} (q : e ≡ BitVector w M) where
-    pub unlike_vector : OneOf (0 ∷ 1 ∷ []) (tag_of the_type f) → false ≡ same_value e v f u
+    pub unlike_vector : ((x : ℕ) (N : States) → f ≡ BitVector x N → ⊥) → false ≡ same_value e v f u
     unfolding same_value
     unlike_vector o = rw q (go f o)
       where
-        go : (f : Encoding) → OneOf (0 ∷ 1 ∷ []) (tag_of the_type f) → false ≡ same_value (BitVector w M) v f u
+        go : (f : Encoding) → ((x : ℕ) (N : States) → f ≡ BitVector x N → ⊥) → false ≡ same_value (BitVector w M) v f u
         go Event o = refl
         go Real o = refl
-        go (BitVector x N) o = absurd (⊎_elim (λ z. omega arith) (λ z. omega arith) o)
+        go (BitVector x N) o = absurd (o x N refl)
 
     text_length : (w : ℕ) (M : States) (v : List ℕ) → length (text_in (BitVector w M) v) ≡ w
     unfolding levels_in
@@ -286,9 +281,9 @@ pub goes_on : (later : Reply Bool) (r : EqualAnswer) → r ≡ answer.Equal → 
 unfolding follow
 goes_on later r e = ap (λ (z : EqualAnswer). follow (equal_of z) later) e
 
-pub ends : (later : Reply Bool) (r : EqualAnswer) → OneOf (1 ∷ 2 ∷ []) (tag_of equal-type r) → follow (equal_of r) later ≡ equal_of r
+pub ends : (later : Reply Bool) (r : EqualAnswer) → (r ≡ answer.Equal → ⊥) → follow (equal_of r) later ≡ equal_of r
 unfolding follow
-ends later answer.Equal o = absurd (⊎_elim (λ z. omega arith) (λ z. omega arith) o)
+ends later answer.Equal o = absurd (o refl)
 ends later answer.Unequal o = refl
 ends later (answer.Refused n) o = refl
 

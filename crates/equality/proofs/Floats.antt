@@ -142,17 +142,17 @@ module _ (x y : ℕ) where
   abbrev Eq : Bool
   Eq = eq (of_bits binary64 x) (of_bits binary64 y)
 
-  is_nan : (z : ℕ) → 9218868437227405312 < z % 9223372036854775808 → is_nan (of_bits binary64 z) ≡ true
-  is_nan z h = sym (nan_bits_is binary64 z) ∙ nan_bits_above binary64 z ∙ lt-ltb 9218868437227405312 (z % 9223372036854775808) h
+  is_nan_lem : (z : ℕ) → 9218868437227405312 < z % 9223372036854775808 → is_nan (of_bits binary64 z) ≡ true
+  is_nan_lem z h = sym (nan_bits_is binary64 z) ∙ nan_bits_above binary64 z ∙ lt-ltb 9218868437227405312 (z % 9223372036854775808) h
 
   no_nan : (z : ℕ) → z % 9223372036854775808 ≤ 9218868437227405312 → is_nan (of_bits binary64 z) ≡ false
   no_nan z h = sym (nan_bits_is binary64 z) ∙ nan_bits_above binary64 z ∙ le-ltb 9218868437227405312 (z % 9223372036854775808) h
 
   pub first_nan : 9218868437227405312 < x % 9223372036854775808 → false ≡ Eq
-  first_nan h = sym (nan_left _ _ (is_nan x h))
+  first_nan h = sym (nan_left _ _ (is_nan_lem x h))
 
   pub second_nan : 9218868437227405312 < y % 9223372036854775808 → false ≡ Eq
-  second_nan h = sym (nan_right _ _ (is_nan y h))
+  second_nan h = sym (nan_right _ _ (is_nan_lem y h))
 
   module _ (a : x % 9223372036854775808 ≤ 9218868437227405312) (b : y % 9223372036854775808 ≤ 9218868437227405312) where
     pub equal_bits : x ≡ y → true ≡ Eq

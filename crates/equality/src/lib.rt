@@ -1,4 +1,6 @@
 // Compare, after wellen's equality of signals.
+#![tactic(auto)]
+
 ghost use Rattle.std.specs.Prelude.{◌≡◌, false, reverse, ◌+◌, ◌<◌, length, get_or};
 ghost use Rattle.std.specs.Float.Ieee.{eq, of_bits};
 ghost use Rattle.std.specs.Float.{binary64};

@@ -6,7 +6,7 @@ use Prim.Native.Nat.{ℕ}
 use lib.ListN.{length}
 use Rattle.value.proofs.Levels.{all_below_lem, text_inj}
 use Rattle.fst.specs.declared.Description.{Description}
-use Rattle.fst.specs.Refusal.{Reply, refused, given, ◌⇐◌, tried}
+use Rattle.fst.specs.Refusal.{Reply, given, ◌⇐◌, tried}
 use Rattle.fst.specs.Record.{width_of}
 use Rattle.fst.proofs.Refusals.{Passed, passes, tried_append}
 use Rattle.signal.specs.Decode.{entry_at, levels_in, text_in}

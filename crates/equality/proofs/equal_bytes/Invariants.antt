@@ -1,0 +1,14 @@
+-- `equality::equal_bytes` meets its contract: the union of the differences so far is 0 where the bytes so far agree.
+-- Assumes nothing.
+use mathlib.Core.Path.{◌≡◌}
+use Prim.Native.Nat.{◌-◌, ◌≤◌}
+use lib.Dec.{eqb}
+use lib.ListN.{length, take}
+use Rattle.value.specs.Slice.{same}
+use Rattle.equality.proofs.equal_bytes.Given as goal
+
+abbrev pub invariant-loop-i : goal.invariant-loop-i
+invariant-loop-i l = (l.i ≤ length l.a) × (eqb l.union 0 ≡ same (take l.i l.a) (take l.i l.b))
+
+abbrev pub decreases-loop-i : goal.decreases-loop-i
+decreases-loop-i l = length l.a - l.i

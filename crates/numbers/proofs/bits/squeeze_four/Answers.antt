@@ -1,0 +1,10 @@
+-- `numbers::bits::squeeze_four` meets its contract.
+-- Assumes nothing.
+use native.Mathlib.Omega.{arith}
+use Rattle.value.specs.Digits.{number}
+use Rattle.wavemem.proofs.Squeeze.{squeezed}
+use Rattle.numbers.proofs.bits.squeeze_four.Goals as goal
+
+pub returns : goal.returns
+unfolding number
+returns c = squeezed 5 2 1 c.args.x (omega arith) (omega arith) c.requires
