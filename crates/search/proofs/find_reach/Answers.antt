@@ -1,0 +1,16 @@
+-- `search::find_reach` meets its contract. The loop's invariant: what the definition has left to look for.
+-- Assumes nothing.
+use Rattle.search.proofs.Quartering.{sought_first, sought_all, sought_more, sought_here}
+use Rattle.search.proofs.find_reach.Goals as goal
+
+pub loop-reach-init : goal.loop-reach-init
+loop-reach-init c = sought_first _ _ _
+
+pub returns-then-end-reach : goal.returns-then-end-reach
+returns-then-end-reach c = sought_all c.loop-reach.invariant c.if-end-reach.true
+
+pub returns-then-indices-end : goal.returns-then-indices-end
+returns-then-indices-end c = sought_here c.loop-reach.invariant c.if-end-reach.false c.if-indices-end.true
+
+pub loop-reach-preserved : goal.loop-reach-preserved
+loop-reach-preserved c = sought_more c.loop-reach.invariant c.if-end-reach.false c.if-indices-end.false
