@@ -1,4 +1,6 @@
 // The operations of documents 01 and 02 for C and Rust: flat structs of numbers in and out, and lent slices. A caller can pass any numbers.
+#![tactic(auto)]
+
 use fst::Description;
 
 pub mod derivations;

@@ -1,0 +1,13 @@
+-- `yoksimert::exports::yoksimert_unsigned` meets its contract.
+-- Assumes nothing.
+use mathlib.Core.Path.{sym, ap, ◌∙◌}
+use Rattle.numbers.specs.Number.{unsigned, flat_number}
+use Rattle.yoksimert.proofs.Flattened.{number_unknown, number_known}
+use Rattle.yoksimert.proofs.exports.yoksimert_unsigned.Goals as goal
+
+pub returns-in_default : goal.returns-in_default
+returns-in_default c = ap flat_number (number_unknown unsigned _ _ _ _ (sym c.decode.ensures ∙ c.in_default.is))
+
+pub returns : goal.returns
+returns c =
+    c.read_unsigned.ensures ∙ ap flat_number (number_known unsigned _ _ _ _ (sym c.decode.ensures ∙ c.in-Known.is))
