@@ -1,4 +1,6 @@
 // The inner functions that the benchmarks time from Rust, under plain numbers. Rust tests what each requires before it calls.
+#![tactic(auto)]
+
 ghost use Rattle.std.specs.Prelude.{◌≤◌, length};
 ghost use Rattle.value.specs.Level.{set_at};
 ghost use Rattle.wavemem.specs.Packed.{Packable};
