@@ -12,6 +12,7 @@ pub const MAXIMUM: u32 = 1048576;
 
 pub const MAX_WIDTH: u32 = 4096;
 
+#[tactic(auto, using(crate::proofs::Rooms::fresh_wide, crate::proofs::Rooms::fresh_event, crate::proofs::Rooms::fresh_vector))]
 pub fn fresh(width: u32) -> Made
     ensures { made_of result ≡ fresh width }
 {
