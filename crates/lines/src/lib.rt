@@ -1,6 +1,8 @@
 // Fields of a line of text, by their number from 0, with one space between two: read, and compared with what a call gave.
+#![tactic(auto)]
+
 ghost use Rattle.std.specs.Prelude.{◌<◌};
-ghost use Rattle.io.specs.Counts.{IsPrefixLen};
+ghost use Rattle.std.specs.Counts.{IsPrefixLen};
 
 // Digits that were read: the number that they make, and how many there were.
 #[derive(Clone, Copy)]
@@ -22,16 +24,12 @@ fn digit(character: u8) -> u64 {
 
 // A number with a digit behind it, in base 10 or 16, modulo 2^64.
 fn with_digit(value: u64, base: u64, digit: u64) -> u64 {
-    let two = std::num::wrapping_add_u64(value, value);
-    let four = std::num::wrapping_add_u64(two, two);
-    let eight = std::num::wrapping_add_u64(four, four);
-    let rest = if base == 10 { two } else { eight };
-    std::num::wrapping_add_u64(std::num::wrapping_add_u64(eight, rest), digit)
+    value.wrapping_mul(base).wrapping_add(digit)
 }
 
 // The place so many characters on. No line is so long that it wraps.
 fn after(at: usize, count: usize) -> usize {
-    std::num::wrapping_add_usize(at, count)
+    at.wrapping_add(count)
 }
 
 fn digit_at(line: &[u8], at: usize) -> u64 {
@@ -41,16 +39,14 @@ fn digit_at(line: &[u8], at: usize) -> u64 {
 // The digits from a place on, so many at most.
 fn digits(line: &[u8], from: usize, base: u64, most: usize) -> Numeral {
     let mut value = 0;
-    let mut count = 0;
-    while count < most {
+    for count in 0..most {
         let next = digit_at(line, after(from, count));
         if base <= next {
             return Numeral { value, count };
         }
         value = with_digit(value, base, next);
-        count += 1;
     }
-    Numeral { value, count }
+    Numeral { value, count: most }
 }
 
 // Where the field after this place's begins.
@@ -58,17 +54,17 @@ fn next_start(line: &[u8], at: usize) -> usize {
     if line.len() <= at {
         return at;
     }
-    let space = bytes::scan::find(line, at, line.len(), b' ');
-    if space < line.len() { space + 1 } else { space }
+    match line[at..].iter().position(|character| *character == b' ') {
+        Some(length) => at + length + 1,
+        None => line.len(),
+    }
 }
 
 // Where a field begins: the line's length where there are too few.
 fn start(line: &[u8], field: usize) -> usize {
     let mut at = 0;
-    let mut i = 0;
-    while i < field {
+    for _ in 0..field {
         at = next_start(line, at);
-        i += 1;
     }
     at
 }
@@ -85,7 +81,7 @@ fn is_word_at(line: &[u8], at: usize, word: &[u8]) -> bool {
         return false;
     }
     let end = at + word.len();
-    check::same(&line[at..end], word) && is_end(line, end)
+    &line[at..end] == word && is_end(line, end)
 }
 
 pub fn has_word(line: &[u8], field: usize, word: &[u8]) -> bool {
@@ -136,44 +132,38 @@ pub fn read_bytes(line: &[u8], field: usize, out: &mut [u8]) -> usize
     ensures { IsPrefixLen result out.new }
 {
     let mut at = start(line, field);
-    let mut count = 0;
-    while count < out.len() {
+    for count in 0..out.len() {
         let read = digits(line, at, 16, 2);
         if read.count != 2 {
             return count;
         }
         out[count] = (read.value % 256) as u8;
         at = after(at, 2);
-        count += 1;
     }
-    count
+    out.len()
 }
 
 pub fn read_indices(line: &[u8], field: usize, out: &mut [u32]) -> usize
     ensures { IsPrefixLen result out.new }
 {
     let mut at = start(line, field);
-    let mut count = 0;
-    while count < out.len() {
+    for count in 0..out.len() {
         let read = digits(line, at, 16, 8);
         if read.count != 8 {
             return count;
         }
         out[count] = (read.value % 4294967296) as u32;
         at = after(at, 8);
-        count += 1;
     }
-    count
+    out.len()
 }
 
 pub fn read_pieces(line: &[u8], field: usize, out: &mut [u64]) {
     let mut at = start(line, field);
-    let mut count = 0;
-    while count < out.len() {
+    for piece in out.iter_mut() {
         let read = digits(line, at, 16, 16);
-        out[count] = read.value;
+        *piece = read.value;
         at = after(at, 16);
-        count += 1;
     }
 }
 
@@ -203,39 +193,33 @@ fn is_list_end(line: &[u8], at: usize, count: usize) -> bool {
 
 pub fn has_bytes(line: &[u8], field: usize, bytes: &[u8]) -> bool {
     let mut at = start(line, field);
-    let mut i = 0;
-    while i < bytes.len() {
-        if !is_byte_at(line, at, bytes[i]) {
+    for byte in bytes {
+        if !is_byte_at(line, at, *byte) {
             return false;
         }
         at = after(at, 2);
-        i += 1;
     }
     is_list_end(line, at, bytes.len())
 }
 
 pub fn has_indices(line: &[u8], field: usize, indices: &[u32]) -> bool {
     let mut at = start(line, field);
-    let mut i = 0;
-    while i < indices.len() {
-        if !is_index_at(line, at, indices[i]) {
+    for index in indices {
+        if !is_index_at(line, at, *index) {
             return false;
         }
         at = after(at, 8);
-        i += 1;
     }
     is_list_end(line, at, indices.len())
 }
 
 pub fn has_pieces(line: &[u8], field: usize, pieces: &[u64]) -> bool {
     let mut at = start(line, field);
-    let mut i = 0;
-    while i < pieces.len() {
-        if !is_number_at(line, at, 16, pieces[i]) {
+    for piece in pieces {
+        if !is_number_at(line, at, 16, *piece) {
             return false;
         }
         at = after(at, 16);
-        i += 1;
     }
     is_list_end(line, at, pieces.len())
 }
