@@ -1,7 +1,7 @@
 // The calls of stored answers on derivations: Add a piece and Derive.
 ghost use Rattle.std.specs.Prelude.{◌<◌};
 
-use calls::{description, has_made, index_buffer};
+use calls::{byte_buffer, description, has_made, index_buffer};
 use derivation::{DerivedBitVecSignal, Joined};
 use fst::Made;
 use lines::{
@@ -113,7 +113,7 @@ fn is_derived(
 fn derive_into(line: &[u8], from: usize, bytes: &[u8], indices: &[u32]) -> bool
     requires { from < 60 }
 {
-    let mut out_bytes = io::large_buffer();
+    let mut out_bytes = byte_buffer();
     let mut out_indices = index_buffer();
     let b = read_bytes(line, from + 2, &mut out_bytes);
     let i = read_indices(line, from + 3, &mut out_indices);
@@ -130,7 +130,7 @@ fn derive_into(line: &[u8], from: usize, bytes: &[u8], indices: &[u32]) -> bool
 fn derive_from(line: &[u8], from: usize) -> bool
     requires { from < 60 }
 {
-    let mut bytes = io::large_buffer();
+    let mut bytes = byte_buffer();
     let mut indices = index_buffer();
     let b = read_bytes(line, from, &mut bytes);
     let i = read_indices(line, from + 1, &mut indices);

@@ -1,9 +1,13 @@
 // Replays the stored answers (README.md beside has their format) on the proved functions. Each operation writes a line: how many
 // of its calls came out as stored, or the number of the first line that did not. No stored call is left out. The answers are read from
-// standard input by place, so that has to be a file.
+// standard input, to its end.
+#![tactic(auto)]
+
 mod derivations;
 
 use lines::has_word;
+use std::io;
+use std::io::{Input, Read, Write};
 
 // A longer line counts as one that came out otherwise, so that every list fits its buffer.
 const LONGEST: usize = 32768;
@@ -102,7 +106,7 @@ fn replay_line(line: &[u8], number: usize, agreed: &mut [u64], first: &mut [u64]
     let place = operation(line);
     if agrees(place, line) {
         let count = get(agreed, place);
-        put(agreed, place, std::num::wrapping_add_u64(count, 1));
+        put(agreed, place, count.wrapping_add(1));
     } else if get(first, place) == 0 {
         put(first, place, number as u64);
     }
@@ -110,70 +114,77 @@ fn replay_line(line: &[u8], number: usize, agreed: &mut [u64], first: &mut [u64]
 
 // Replays the line that a text begins with, and gives its length with the line's end.
 fn replay_first(text: &[u8], number: usize, agreed: &mut [u64], first: &mut [u64]) -> usize {
-    let end = bytes::scan::find(text, 0, text.len(), b'\n');
-    replay_line(&text[0..end], number, agreed, first);
-    std::num::wrapping_add_usize(end, 1)
+    let end = text.iter().position(|character| *character == b'\n');
+    let length = end.unwrap_or(text.len());
+    replay_line(&text[..length], number, agreed, first);
+    length.wrapping_add(1)
 }
 
-// Replays the line at a place of the input, and gives its length; 0 past the input's end.
-fn replay_at(place: usize, number: usize, agreed: &mut [u64], first: &mut [u64]) -> usize {
-    let mut space = io::large_buffer();
-    let got = libc::pread(0, &mut space, (place % 4611686018427387904) as i64);
-    let count = io::count(got, &space);
-    if count == 0 {
+// Replays the line at a place of the text, and gives its length; 0 past the text's end.
+fn replay_at(
+    text: &[u8],
+    place: usize,
+    number: usize,
+    agreed: &mut [u64],
+    first: &mut [u64],
+) -> usize {
+    if text.len() <= place {
         return 0;
     }
-    replay_first(&space[..count], number, agreed, first)
+    replay_first(&text[place..], number, agreed, first)
 }
 
-// No input has so many lines that the loop ends by their number.
-fn replay(agreed: &mut [u64], first: &mut [u64]) {
+// No text has so many lines that the loop ends by their number.
+fn replay(text: &[u8], agreed: &mut [u64], first: &mut [u64]) {
     let mut place = 0;
-    let mut number = 1;
-    while number < 18446744073709551615 {
-        let length = replay_at(place, number, agreed, first);
+    for number in 1..18446744073709551615 {
+        let length = replay_at(text, place, number, agreed, first);
         if length == 0 {
             return;
         }
-        place = std::num::wrapping_add_usize(place, length);
-        number += 1;
+        place = place.wrapping_add(length);
     }
 }
 
-fn report(operation: &[u8], agreed: &[u64], first: &[u64], place: usize) {
-    io::write_all(1, operation);
+fn report(
+    out: &mut impl Write,
+    operation: &[u8],
+    agreed: &[u64],
+    first: &[u64],
+    place: usize,
+) -> io::Result<()> {
+    out.write_all(operation)?;
     let line = get(first, place);
     if line == 0 {
-        io::write_all(1, b": ");
-        io::print_decimal(1, get(agreed, place));
-        io::write_all(1, b" as stored\n");
+        let count = get(agreed, place);
+        writeln!(out, ": {count} as stored")
     } else {
-        io::write_all(1, b": line ");
-        io::print_decimal(1, line);
-        io::write_all(1, b" comes out otherwise\n");
+        writeln!(out, ": line {line} comes out otherwise")
     }
 }
 
-fn report_all(agreed: &[u64], first: &[u64]) {
-    report(b"fresh", agreed, first, 0);
-    report(b"add", agreed, first, 1);
-    report(b"read", agreed, first, 2);
-    report(b"text", agreed, first, 3);
-    report(b"compare", agreed, first, 4);
-    report(b"lookup", agreed, first, 5);
-    report(b"left", agreed, first, 6);
-    report(b"right", agreed, first, 7);
-    report(b"derive", agreed, first, 8);
-    report(b"unsigned", agreed, first, 9);
-    report(b"signed", agreed, first, 10);
-    report(b"decimal", agreed, first, 11);
-    report(b"search", agreed, first, 12);
-    report(b"other", agreed, first, 13);
+fn report_all(out: &mut impl Write, agreed: &[u64], first: &[u64]) -> io::Result<()> {
+    report(out, b"fresh", agreed, first, 0)?;
+    report(out, b"add", agreed, first, 1)?;
+    report(out, b"read", agreed, first, 2)?;
+    report(out, b"text", agreed, first, 3)?;
+    report(out, b"compare", agreed, first, 4)?;
+    report(out, b"lookup", agreed, first, 5)?;
+    report(out, b"left", agreed, first, 6)?;
+    report(out, b"right", agreed, first, 7)?;
+    report(out, b"derive", agreed, first, 8)?;
+    report(out, b"unsigned", agreed, first, 9)?;
+    report(out, b"signed", agreed, first, 10)?;
+    report(out, b"decimal", agreed, first, 11)?;
+    report(out, b"search", agreed, first, 12)?;
+    report(out, b"other", agreed, first, 13)
 }
 
-fn main() {
+fn main(rt: HostRuntime) -> io::Result<()> {
+    let mut text = Vec::new(rt.alloc());
+    rt.reader().read_to_end(&mut text)?;
     let mut agreed = [0u64; 14];
     let mut first = [0u64; 14];
-    replay(&mut agreed, &mut first);
-    report_all(&agreed, &first);
+    replay(&text, &mut agreed, &mut first);
+    report_all(&mut io::writer(&rt), &agreed, &first)
 }

@@ -1,4 +1,6 @@
 // The calls of stored answers on records: each function makes the call of a line and says whether all that comes out is what the line has.
+#![tactic(auto)]
+
 ghost use Rattle.std.specs.Prelude.{◌<◌, ◌≡◌, length};
 
 use equality::EqualAnswer;
@@ -12,6 +14,13 @@ use numbers::{FlatNumber, FlatSigned};
 use offset::{DataOffset, OffsetAnswer};
 use signal::{EntryAnswer, Kind};
 use value::States;
+
+// Bytes are read into it: more than a line that is replayed has.
+pub fn byte_buffer() -> [u8; 65536]
+    ensures { 65536 ≡ length result }
+{
+    [0; 65536]
+}
 
 pub fn index_buffer() -> [u32; 4096]
     ensures { 4096 ≡ length result }
@@ -149,7 +158,7 @@ fn change(line: &[u8], bytes: &mut [u8], indices: &mut [u32]) -> Added {
     if has_letter(line, 11, b'r') {
         return add_real(line, bytes, indices);
     }
-    let mut value = io::large_buffer();
+    let mut value = byte_buffer();
     let count = read_bytes(line, 12, &mut value);
     add_value(line, bytes, indices, &value[..count])
 }
@@ -161,7 +170,7 @@ fn is_added(line: &[u8], bytes: &mut [u8], indices: &mut [u32]) -> bool {
 }
 
 pub fn add(line: &[u8]) -> bool {
-    let mut bytes = io::large_buffer();
+    let mut bytes = byte_buffer();
     let mut indices = index_buffer();
     let byte_count = read_bytes(line, 6, &mut bytes);
     let index_count = read_indices(line, 8, &mut indices);
@@ -206,7 +215,7 @@ fn is_read(line: &[u8], bytes: &[u8]) -> bool {
 }
 
 pub fn read(line: &[u8]) -> bool {
-    let mut bytes = io::large_buffer();
+    let mut bytes = byte_buffer();
     let count = read_bytes(line, 6, &mut bytes);
     is_framed(line, 9, 14) && is_read(line, &bytes[..count])
 }
@@ -220,8 +229,8 @@ fn is_text(line: &[u8], bytes: &[u8], out: &mut [u8]) -> bool {
 }
 
 pub fn text(line: &[u8]) -> bool {
-    let mut bytes = io::large_buffer();
-    let mut out = io::large_buffer();
+    let mut bytes = byte_buffer();
+    let mut out = byte_buffer();
     let count = read_bytes(line, 6, &mut bytes);
     let out_count = read_bytes(line, 9, &mut out);
     is_framed(line, 10, 13) && is_text(line, &bytes[..count], &mut out[..out_count])
@@ -256,7 +265,7 @@ fn is_signed(line: &[u8], bytes: &[u8]) -> bool {
 }
 
 pub fn signed(line: &[u8]) -> bool {
-    let mut bytes = io::large_buffer();
+    let mut bytes = byte_buffer();
     let count = read_bytes(line, 6, &mut bytes);
     is_framed(line, 9, 13) && is_signed(line, &bytes[..count])
 }
@@ -276,7 +285,7 @@ fn is_unsigned(line: &[u8], bytes: &[u8]) -> bool {
 }
 
 pub fn unsigned(line: &[u8]) -> bool {
-    let mut bytes = io::large_buffer();
+    let mut bytes = byte_buffer();
     let count = read_bytes(line, 6, &mut bytes);
     is_framed(line, 9, 12) && is_unsigned(line, &bytes[..count])
 }
@@ -292,7 +301,7 @@ fn is_decimal(line: &[u8], bytes: &[u8]) -> bool {
 }
 
 pub fn decimal(line: &[u8]) -> bool {
-    let mut bytes = io::large_buffer();
+    let mut bytes = byte_buffer();
     let count = read_bytes(line, 6, &mut bytes);
     is_framed(line, 9, 12) && is_decimal(line, &bytes[..count])
 }
@@ -328,8 +337,8 @@ fn is_compared(
 }
 
 pub fn compare(line: &[u8]) -> bool {
-    let mut a_bytes = io::large_buffer();
-    let mut b_bytes = io::large_buffer();
+    let mut a_bytes = byte_buffer();
+    let mut b_bytes = byte_buffer();
     let mut a_indices = index_buffer();
     let mut b_indices = index_buffer();
     let a = read_bytes(line, 6, &mut a_bytes);
