@@ -220,8 +220,8 @@ fn compare_entries(
     b_indices: &[u32],
     b_index_start: usize,
 ) -> EqualAnswer
-    requires a_index_start_value { is_bad a (lent a_bytes.now a_byte_start a_indices.now a_index_start) ≡ false }
-    requires b_index_start_value { is_bad b (lent b_bytes.now b_byte_start b_indices.now b_index_start) ≡ false }
+    requires a_sound { is_bad a (lent a_bytes.now a_byte_start a_indices.now a_index_start) ≡ false }
+    requires b_sound { is_bad b (lent b_bytes.now b_byte_start b_indices.now b_index_start) ≡ false }
     ensures { equal_of result ≡ compare_records a (lent a_bytes.now a_byte_start a_indices.now a_index_start) b (lent b_bytes.now b_byte_start b_indices.now b_index_start) }
 {
     let a_encoding = a.encoding;

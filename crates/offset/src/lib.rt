@@ -76,7 +76,7 @@ fn binary_search(indices: &[u32], needle: u32) -> usize
 
 // The first place of the index at a place. Most runs are short; a long one is searched, since a walk back takes as long as the run.
 fn find_start(indices: &[u32], place: usize) -> usize
-    requires indices_value { falls indices.now ≡ false }
+    requires rises { falls indices.now ≡ false }
     requires place_in_bounds { place < length indices.now }
     ensures { result ≡ place_in indices.now (get_or indices.now place 0) }
 {

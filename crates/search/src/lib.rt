@@ -87,7 +87,7 @@ fn find_start(indices: &[u32], end: usize, index: u32) -> usize
     requires le_end { 1 ≤ end }
     requires end_in_bounds { end ≤ length indices.now }
     requires indices_len_bound { length indices.now ≤ maximum }
-    requires end_value { get_or indices.now (end - 1) 0 ≡ index }
+    requires last_index { get_or indices.now (end - 1) 0 ≡ index }
     ensures { result ≡ start_of index indices.now end }
 {
     if index == 0 {

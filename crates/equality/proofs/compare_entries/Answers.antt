@@ -16,16 +16,16 @@ use Rattle.equality.proofs.compare_entries.Goals as goal
 in_a : (e : Then-k-b)
     → let a = e.args in
     HasIndexed a.a (lent a.a_bytes.now a.a_byte_start a.a_indices.now a.a_index_start) e.loop-k.k
-in_a e = record { stands = standing e.requires.a_index_start_value; below = e.loop-k-test.true }
+in_a e = record { stands = standing e.requires.a_sound; below = e.loop-k-test.true }
 
 in_b : (e : Then-k-b)
     → let a = e.args in
     HasIndexed a.b (lent a.b_bytes.now a.b_byte_start a.b_indices.now a.b_index_start) e.loop-k.k
-in_b e = record { stands = standing e.requires.b_index_start_value; below = e.if-k-b.true }
+in_b e = record { stands = standing e.requires.b_sound; below = e.if-k-b.true }
 
 pub loop-k-init : goal.loop-k-init
 loop-k-init c =
-    (omega arith, omega arith, walk_starts _ _ _ _ c.requires.a_index_start_value c.requires.b_index_start_value)
+    (omega arith, omega arith, walk_starts _ _ _ _ c.requires.a_sound c.requires.b_sound)
 
 pub entry_at-requires : goal.entry_at-requires
 entry_at-requires e = inside (has_entry (in_a e))
@@ -64,7 +64,7 @@ pub loop-k-preserved : goal.loop-k-preserved
 loop-k-preserved c = (
   omega (arith, (in_a (goal.at.loop-k-preserved c).Then-k-b).below),
   omega (arith, (in_b (goal.at.loop-k-preserved c).Then-k-b).below),
-  record { first = standing c.requires.a_index_start_value; second = standing c.requires.b_index_start_value; left = paired (goal.at.loop-k-preserved c).After-compare_pair-pair ∙ goes_on _ _ c.in-Equal.is },
+  record { first = standing c.requires.a_sound; second = standing c.requires.b_sound; left = paired (goal.at.loop-k-preserved c).After-compare_pair-pair ∙ goes_on _ _ c.in-Equal.is },
 )
 
 pub returns-in_default : goal.returns-in_default

@@ -14,4 +14,4 @@ returns-then-is_bad-2 c =
     (sym c.is_bad-2.ensures ∙ c.if-is_bad-2.true)
 
 pub compare_entries-requires : goal.compare_entries-requires
-compare_entries-requires c = record { a_index_start_value = sym c.is_bad.ensures ∙ c.if-is_bad.false; b_index_start_value = sym c.is_bad-2.ensures ∙ c.if-is_bad-2.false }
+compare_entries-requires c = record { a_sound = sym c.is_bad.ensures ∙ c.if-is_bad.false; b_sound = sym c.is_bad-2.ensures ∙ c.if-is_bad-2.false }

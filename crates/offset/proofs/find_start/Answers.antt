@@ -20,7 +20,7 @@ other c h e =
 
 pub returns-then-place-eq0 : goal.returns-then-place-eq0
 returns-then-place-eq0 c =
-    start_is c.args.indices.now c.args.place c.requires.indices_value c.requires.place_in_bounds (other (goal.at.returns-then-place-eq0 c).Joined-then-place-eq0)
+    start_is c.args.indices.now c.args.place c.requires.rises c.requires.place_in_bounds (other (goal.at.returns-then-place-eq0 c).Joined-then-place-eq0)
 
 pub returns-then-indices-index : goal.returns-then-indices-index
 returns-then-indices-index c = start_first c.args.indices.now _ (omega arith) c.if-indices-index.true
@@ -31,15 +31,15 @@ smaller : (c : Else-indices-index) →
     get_or a.indices.now 0 0 < get_or a.indices.now a.place 0
 smaller c =
     let a = c.args in
-    omega (arith, rising a.indices.now c.requires.indices_value 0 a.place (omega arith) c.requires.place_in_bounds, c.if-indices-index.false)
+    omega (arith, rising a.indices.now c.requires.rises 0 a.place (omega arith) c.requires.place_in_bounds, c.if-indices-index.false)
 
 pub overflow_sub-index : goal.overflow_sub-index
 overflow_sub-index c = omega (arith, smaller (goal.at.overflow_sub-index c).Else-indices-index)
 
 pub binary_search-requires : goal.binary_search-requires
 binary_search-requires c =
-    record { rises = c.requires.indices_value; some = omega arith; first = omega (arith, smaller (goal.at.binary_search-requires c).Else-indices-index) }
+    record { rises = c.requires.rises; some = omega arith; first = omega (arith, smaller (goal.at.binary_search-requires c).Else-indices-index) }
 
 pub returns : goal.returns
 returns c =
-    start_behind c.requires.indices_value c.binary_search.ensures (omega (arith, smaller (goal.at.returns c).Else-indices-index)) c.args.place c.requires.place_in_bounds refl
+    start_behind c.requires.rises c.binary_search.ensures (omega (arith, smaller (goal.at.returns c).Else-indices-index)) c.args.place c.requires.place_in_bounds refl

@@ -16,7 +16,7 @@ returns-then-index-eq0 c = start_zero _ _ _ c.if-index-eq0.true
 pub returns-then-reach-eq1 : goal.returns-then-reach-eq1
 returns-then-reach-eq1 c =
     let a = c.args in
-    start_alone a.index a.indices.now a.end (omega arith) c.requires.le_end c.requires.end_in_bounds (sym c.if-reach-eq1.true ∙ c.find_reach-reach.ensures) c.requires.end_value
+    start_alone a.index a.indices.now a.end (omega arith) c.requires.le_end c.requires.end_in_bounds (sym c.if-reach-eq1.true ∙ c.find_reach-reach.ensures) c.requires.last_index
 
 counted : (c : After-rank) →
     let a = c.args in

@@ -30,7 +30,7 @@ find_start-start-requires c =
       le_end = omega arith;
       end_in_bounds = inside (goal.at.find_start-start-requires c).After-rank-end;
       indices_len_bound = c.if-indices.false;
-      end_value = refl;
+      last_index = refl;
     }
 
 pub returns : goal.returns
