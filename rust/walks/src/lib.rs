@@ -4,36 +4,31 @@
 //! value ensures of the copy. `rt check` proves what is written; nothing is taken from this crate.
 
 /// A call `fn name(recorder: &mut FlatDescription, ..) -> u32 { let s = callee(*recorder, ..); ..; s.number }`.
-#[derive(Clone, Copy, Debug)]
+#[derive(Clone, Debug)]
 pub struct Call {
     pub name: &'static str,
     /// The function by value, which takes the same parameters.
     pub callee: &'static str,
 }
 
+fn call(name: &'static str, callee: &'static str) -> Call {
+    Call { name, callee }
+}
+
 /// The calls whose proofs are written.
-pub const CALLS: [Call; 4] = [
-    Call {
-        name: "yoksimert_recorder_fresh",
-        callee: "record_fresh",
-    },
-    Call {
-        name: "yoksimert_recorder_fresh_real",
-        callee: "record_fresh_real",
-    },
-    Call {
-        name: "yoksimert_recorder_add_change",
-        callee: "record_change",
-    },
-    Call {
-        name: "yoksimert_recorder_add_real",
-        callee: "record_real",
-    },
-];
+#[must_use]
+pub fn calls() -> Vec<Call> {
+    vec![
+        call("yoksimert_recorder_fresh", "record_fresh"),
+        call("yoksimert_recorder_fresh_real", "record_fresh_real"),
+        call("yoksimert_recorder_add_change", "record_change"),
+        call("yoksimert_recorder_add_real", "record_real"),
+    ]
+}
 
 /// Where the proof of a call stands in the repository.
 #[must_use]
-pub fn path(call: Call) -> String {
+pub fn path(call: &Call) -> String {
     format!(
         "crates/yoksimert/proofs/recorder/{}/Answers.antt",
         call.name
@@ -42,7 +37,7 @@ pub fn path(call: Call) -> String {
 
 /// The proof of a call.
 #[must_use]
-pub fn proof(call: Call) -> String {
+pub fn proof(call: &Call) -> String {
     let Call { name, callee } = call;
     format!(
         "\

@@ -5,12 +5,12 @@ use std::{fs, io};
 
 fn main() -> io::Result<()> {
     let root = Path::new(env!("CARGO_MANIFEST_DIR")).join("../..");
-    for call in walks::CALLS {
-        let path = root.join(walks::path(call));
+    for call in walks::calls() {
+        let path = root.join(walks::path(&call));
         if let Some(folder) = path.parent() {
             fs::create_dir_all(folder)?;
         }
-        fs::write(&path, walks::proof(call))?;
+        fs::write(&path, walks::proof(&call))?;
     }
     Ok(())
 }
