@@ -41,7 +41,8 @@ index_at-requires-in-loop-k c = has_index (in_b (goal.at.index_at-requires-in-lo
 
 pub compare_pair-pair-requires : goal.compare_pair-pair-requires
 compare_pair-pair-requires c =
-    (rw c.entry_at.ensures (whole (has_entry (in_a (goal.at.compare_pair-pair-requires c).Then-k-b))), rw c.entry_at-in-loop-k.ensures (whole (has_entry (in_b (goal.at.compare_pair-pair-requires c).Then-k-b))))
+    let past = goal.at.compare_pair-pair-requires c in
+    (rw c.entry_at.ensures (whole (has_entry (in_a past.Then-k-b))), rw c.entry_at-in-loop-k.ensures (whole (has_entry (in_b past.Then-k-b))))
 
 pub overflow_add-k : goal.overflow_add-k
 overflow_add-k c = omega (arith, has_few (in_a (goal.at.overflow_add-k c).Then-k-b))
@@ -61,11 +62,12 @@ paired m =
     m.compare_pair-pair.ensures
 
 pub loop-k-preserved : goal.loop-k-preserved
-loop-k-preserved c = (
-  omega (arith, (in_a (goal.at.loop-k-preserved c).Then-k-b).below),
-  omega (arith, (in_b (goal.at.loop-k-preserved c).Then-k-b).below),
-  record { first = standing c.requires.a_sound; second = standing c.requires.b_sound; left = paired (goal.at.loop-k-preserved c).After-compare_pair-pair ∙ goes_on _ _ c.in-Equal.is },
-)
+loop-k-preserved c =
+    let past = goal.at.loop-k-preserved c in (
+      omega (arith, (in_a past.Then-k-b).below),
+      omega (arith, (in_b past.Then-k-b).below),
+      record { first = standing c.requires.a_sound; second = standing c.requires.b_sound; left = paired past.After-compare_pair-pair ∙ goes_on _ _ c.in-Equal.is },
+    )
 
 pub returns-in_default : goal.returns-in_default
 returns-in_default c = sym (paired (goal.at.returns-in_default c).After-compare_pair-pair ∙ ends _ c.compare_pair-pair.result c.in_default.not-Equal)

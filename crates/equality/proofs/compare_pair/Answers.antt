@@ -26,22 +26,26 @@ returns-in-Refused-try_entry c =
 
 pub returns-then-i-j : goal.returns-then-i-j
 returns-then-i-j c =
-    pair_apart (first (goal.at.returns-then-i-j c).In_default) (second (goal.at.returns-then-i-j c).In_default-try_entry) c.if-i-j.true
+    let past = goal.at.returns-then-i-j c in
+    pair_apart (first past.In_default) (second past.In_default-try_entry) c.if-i-j.true
 
 pub same_value-requires : goal.same_value-requires
-same_value-requires c = (first (goal.at.same_value-requires c).In_default, second (goal.at.same_value-requires c).In_default-try_entry)
+same_value-requires c =
+    let past = goal.at.same_value-requires c in
+    (first past.In_default, second past.In_default-try_entry)
 
 -- where the time indices agree, the values tell
-told : (c : After-same_value) →
+told : (c : After-same_value) → Valid c.args.a c.args.x.now → Valid c.args.b c.args.y.now →
     let a = c.args in
     given c.same_value.result ≡ pair_of a.a a.x.now a.i a.b a.y.now a.j
-told c =
-    let second : Valid c.args.b c.args.y.now = valid c.requires.1 (sym (ap number_of c.in_default-try_entry.is) ∙ c.try_entry-2.ensures) in
-    let first : Valid c.args.a c.args.x.now = valid c.requires.0 (sym (ap number_of c.in_default.is) ∙ c.try_entry.ensures) in
-    pair_told first second c.if-i-j.false c.same_value.ensures
+told c x y = pair_told x y c.if-i-j.false c.same_value.ensures
 
 pub returns-then-same_value : goal.returns-then-same_value
-returns-then-same_value c = sym (ap given c.if-same_value.true) ∙ told (goal.at.returns-then-same_value c).After-same_value
+returns-then-same_value c =
+    let past = goal.at.returns-then-same_value c in
+    sym (ap given c.if-same_value.true) ∙ told past.After-same_value (first past.In_default) (second past.In_default-try_entry)
 
 pub returns-else-same_value : goal.returns-else-same_value
-returns-else-same_value c = sym (ap given c.if-same_value.false) ∙ told (goal.at.returns-else-same_value c).After-same_value
+returns-else-same_value c =
+    let past = goal.at.returns-else-same_value c in
+    sym (ap given c.if-same_value.false) ∙ told past.After-same_value (first past.In_default) (second past.In_default-try_entry)

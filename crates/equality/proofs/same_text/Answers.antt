@@ -22,20 +22,16 @@ own_b c =
     valid_owned c.requires.1 c.mark-2.ensures (c.states_of-others.ensures ∙ ap set_at c.own_mark-2.ensures)
 
 part_a : (c : After-level_part-other_levels)
+    → Owned c.args.width c.args.max_states c.args.a.now c.states_of-states.result
     → let a = c.args in
     c.level_part-levels.result.now ≡ level_part (BitVector a.width a.max_states) a.a.now
-part_a c =
-    let own_a : let a = c.args in
-    Owned a.width a.max_states a.a.now c.states_of-states.result = valid_owned c.requires.0 c.mark.ensures (c.states_of-states.ensures ∙ ap set_at c.own_mark.ensures) in
-    c.level_part-levels.ensures ∙ own_a.part
+part_a c own = c.level_part-levels.ensures ∙ own.part
 
 part_b : (c : After-level_part-other_levels)
+    → Owned c.args.width c.args.other_max c.args.b.now c.states_of-others.result
     → let a = c.args in
     c.level_part-other_levels.result.now ≡ level_part (BitVector a.width a.other_max) a.b.now
-part_b c =
-    let own_b : let a = c.args in
-    Owned a.width a.other_max a.b.now c.states_of-others.result = valid_owned c.requires.1 c.mark-2.ensures (c.states_of-others.ensures ∙ ap set_at c.own_mark-2.ensures) in
-    c.level_part-other_levels.ensures ∙ own_b.part
+part_b c own = c.level_part-other_levels.ensures ∙ own.part
 
 marks : (c : Then-mark)
     → mark_of c.states_of-states.result ≡ mark_of c.states_of-others.result
@@ -55,16 +51,28 @@ level_part-other_levels-requires c = (own_b (goal.at.level_part-other_levels-req
 
 pub equal_bytes-requires : goal.equal_bytes-requires
 equal_bytes-requires c =
-    same_length (own_a (goal.at.equal_bytes-requires c).After-states_of-others) (own_b (goal.at.equal_bytes-requires c).After-states_of-others) (part_a (goal.at.equal_bytes-requires c).After-level_part-other_levels) (part_b (goal.at.equal_bytes-requires c).After-level_part-other_levels) (marks (goal.at.equal_bytes-requires c).Then-mark)
+    let past = goal.at.equal_bytes-requires c in
+    let a = own_a past.After-states_of-others in
+    let b = own_b past.After-states_of-others in
+    same_length a b (part_a past.After-level_part-other_levels a) (part_b past.After-level_part-other_levels b) (marks past.Then-mark)
 
 pub returns-then-equal_bytes : goal.returns-then-equal_bytes
 returns-then-equal_bytes c =
-    bytes_alike (own_a (goal.at.returns-then-equal_bytes c).After-states_of-others) (own_b (goal.at.returns-then-equal_bytes c).After-states_of-others) (part_a (goal.at.returns-then-equal_bytes c).After-level_part-other_levels) (part_b (goal.at.returns-then-equal_bytes c).After-level_part-other_levels) (marks (goal.at.returns-then-equal_bytes c).Then-mark) (sym c.equal_bytes.ensures ∙ c.if-equal_bytes.true)
+    let past = goal.at.returns-then-equal_bytes c in
+    let a = own_a past.After-states_of-others in
+    let b = own_b past.After-states_of-others in
+    bytes_alike a b (part_a past.After-level_part-other_levels a) (part_b past.After-level_part-other_levels b) (marks past.Then-mark) (sym c.equal_bytes.ensures ∙ c.if-equal_bytes.true)
 
 pub same_codes-requires : goal.same_codes-requires
 same_codes-requires c =
-    (rw (part_a (goal.at.same_codes-requires c).After-level_part-other_levels) (own_a (goal.at.same_codes-requires c).After-states_of-others).levels, rw (part_b (goal.at.same_codes-requires c).After-level_part-other_levels) (own_b (goal.at.same_codes-requires c).After-states_of-others).levels)
+    let past = goal.at.same_codes-requires c in
+    let a = own_a past.After-states_of-others in
+    let b = own_b past.After-states_of-others in
+    (rw (part_a past.After-level_part-other_levels a) a.levels, rw (part_b past.After-level_part-other_levels b) b.levels)
 
 pub returns : goal.returns
 returns c =
-    codes_alike (own_a (goal.at.returns c).After-states_of-others) (own_b (goal.at.returns c).After-states_of-others) (part_a (goal.at.returns c).After-level_part-other_levels) (part_b (goal.at.returns c).After-level_part-other_levels) c.requires.0 c.requires.1 c.same_codes.ensures
+    let past = goal.at.returns c in
+    let a = own_a past.After-states_of-others in
+    let b = own_b past.After-states_of-others in
+    codes_alike a b (part_a past.After-level_part-other_levels a) (part_b past.After-level_part-other_levels b) c.requires.0 c.requires.1 c.same_codes.ensures

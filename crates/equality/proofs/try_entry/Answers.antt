@@ -29,12 +29,16 @@ pub level_part-requires : goal.level_part-requires
 level_part-requires c = (own_part (goal.at.level_part-requires c).In-Own).within
 
 pub has_bad_code-requires : goal.has_bad_code-requires
-has_bad_code-requires c = rw (c.level_part.ensures, (own_part (goal.at.has_bad_code-requires c).In-Own).part) (own_part (goal.at.has_bad_code-requires c).In-Own).levels
+has_bad_code-requires c =
+    let past = goal.at.has_bad_code-requires c in
+    rw (c.level_part.ensures, (own_part past.In-Own).part) (own_part past.In-Own).levels
 
 pub returns-then-has_bad_code : goal.returns-then-has_bad_code
 returns-then-has_bad_code c =
-    bad_code c.in-BitVector.is (own_part (goal.at.returns-then-has_bad_code c).In-Own) (c.level_part.ensures ∙ (own_part (goal.at.returns-then-has_bad_code c).In-Own).part) (sym c.has_bad_code.ensures ∙ c.if-has_bad_code.true)
+    let past = goal.at.returns-then-has_bad_code c in
+    bad_code c.in-BitVector.is (own_part past.In-Own) (c.level_part.ensures ∙ (own_part past.In-Own).part) (sym c.has_bad_code.ensures ∙ c.if-has_bad_code.true)
 
 pub returns : goal.returns
 returns c =
-    bad_no_code c.in-BitVector.is (own_part (goal.at.returns c).In-Own) (c.level_part.ensures ∙ (own_part (goal.at.returns c).In-Own).part) (sym c.has_bad_code.ensures ∙ c.if-has_bad_code.false)
+    let past = goal.at.returns c in
+    bad_no_code c.in-BitVector.is (own_part past.In-Own) (c.level_part.ensures ∙ (own_part past.In-Own).part) (sym c.has_bad_code.ensures ∙ c.if-has_bad_code.false)

@@ -29,10 +29,14 @@ ends c h =
     omega (arith, c.run_length-elements.ensures, run, length-drop start l)
 
 pub overflow_add-start : goal.overflow_add-start
-overflow_add-start c = omega (arith, ends (goal.at.overflow_add-start c).After-run_length-elements (within (goal.at.overflow_add-start c).After-find_start-start))
+overflow_add-start c =
+    let past = goal.at.overflow_add-start c in
+    omega (arith, ends past.After-run_length-elements (within past.After-find_start-start))
 
 pub overflow_cast-result : goal.overflow_cast-result
-overflow_cast-result c = omega (arith, ends (goal.at.overflow_cast-result c).After-run_length-elements (within (goal.at.overflow_cast-result c).After-find_start-start))
+overflow_cast-result c =
+    let past = goal.at.overflow_cast-result c in
+    omega (arith, ends past.After-run_length-elements (within past.After-find_start-start))
 
 pub returns : goal.returns
 returns c =

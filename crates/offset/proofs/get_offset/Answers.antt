@@ -43,20 +43,23 @@ first c =
 
 pub returns-then-first-time_table_idx : goal.returns-then-first-time_table_idx
 returns-then-first-time_table_idx c =
-    let f = first (goal.at.returns-then-first-time_table_idx c).In-At in
-    sym (reply (goal.at.returns-then-first-time_table_idx c).Else-falls ∙ ap given (place_above _ _ f.0 (omega (arith, f.1, c.if-first-time_table_idx.true))))
+    let past = goal.at.returns-then-first-time_table_idx c in
+    let f = first past.In-At in
+    sym (reply past.Else-falls ∙ ap given (place_above _ _ f.0 (omega (arith, f.1, c.if-first-time_table_idx.true))))
 
 pub find_offset_from_time_table_idx-requires : goal.find_offset_from_time_table_idx-requires
 find_offset_from_time_table_idx-requires c =
-    let f = first (goal.at.find_offset_from_time_table_idx-requires c).In-At in
+    let past = goal.at.find_offset_from_time_table_idx-requires c in
+    let f = first past.In-At in
     record {
-      reached = record { rises = rises (goal.at.find_offset_from_time_table_idx-requires c).Else-falls; some = f.0; first = omega (arith, f.1, c.if-first-time_table_idx.false) };
+      reached = record { rises = rises past.Else-falls; some = f.0; first = omega (arith, f.1, c.if-first-time_table_idx.false) };
       indices_len_bound = c.if-indices.false;
     }
 
 pub returns : goal.returns
 returns c =
-    let f = first (goal.at.returns c).In-At in
+    let past = goal.at.returns c in
+    let f = first past.In-At in
     sym
-    (reply (goal.at.returns c).Else-falls
+    (reply past.Else-falls
     ∙ ap given (place_reached _ _ f.0 (omega (arith, f.1, c.if-first-time_table_idx.false)) ∙ ap at (sym c.find_offset_from_time_table_idx.ensures)))

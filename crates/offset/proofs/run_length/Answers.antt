@@ -33,9 +33,10 @@ loop-next-smaller c = omega (arith, within (goal.at.loop-next-smaller c).In-At)
 
 pub loop-next-preserved : goal.loop-next-preserved
 loop-next-preserved c =
+    let past = goal.at.loop-next-preserved c in
     let a = c.args in (
-      omega (arith, within (goal.at.loop-next-preserved c).In-At),
-      run_more a.index a.start c.loop-next.elements a.indices.now c.loop-next.invariant.1 (found (goal.at.loop-next-preserved c).In-At ∙ ap At c.if-next-index.false),
+      omega (arith, within past.In-At),
+      run_more a.index a.start c.loop-next.elements a.indices.now c.loop-next.invariant.1 (found past.In-At ∙ ap At c.if-next-index.false),
     )
 
 pub returns-in_default : goal.returns-in_default

@@ -11,24 +11,21 @@ loop-i-init c = (omega arith, omega arith, omega arith)
 
 pub loop-i-preserved : goal.loop-i-preserved
 loop-i-preserved c =
-    let at-loop = c in
-    let a = at-loop.args in
+    let a = c.args in
     let l = a.indices.now in
-    let i = at-loop.loop-i.i in
+    let i = c.loop-i.i in
     let more = one_at_most (leb (get_or l i 0) a.needle) in (
       omega arith,
-      omega (arith, more, at-loop.loop-i.invariant.1),
-      omega (arith, not_above_step a.needle l i c.loop-i-test.true, at-loop.loop-i.invariant.2),
+      omega (arith, more, c.loop-i.invariant.1),
+      omega (arith, not_above_step a.needle l i c.loop-i-test.true, c.loop-i.invariant.2),
     )
 
 pub overflow_add-counted : goal.overflow_add-counted
 overflow_add-counted c =
-    let at-loop = c in
-    let a = at-loop.args in
-    omega (arith, one_at_most (leb (get_or a.indices.now at-loop.loop-i.i 0) a.needle), at-loop.loop-i.invariant.1, at-loop.requires)
+    let a = c.args in
+    omega (arith, one_at_most (leb (get_or a.indices.now c.loop-i.i 0) a.needle), c.loop-i.invariant.1, c.requires)
 
 pub returns : goal.returns
 returns c =
-    let at-loop = c in
-    let a = at-loop.args in
-    omega (arith, not_above_end a.needle a.indices.now at-loop.loop-i.i c.loop-i-test.false, at-loop.loop-i.invariant.2)
+    let a = c.args in
+    omega (arith, not_above_end a.needle a.indices.now c.loop-i.i c.loop-i-test.false, c.loop-i.invariant.2)

@@ -17,42 +17,40 @@ loop-size-init c = (omega arith, (rw (part_all c.args.indices.now, zero-add)))
 
 -- what the loop goes on with
 turn : (c : After-passed) →
-    let at-loop = c in
-    let a = at-loop.args in
-    let quarter = at-loop.loop-size.size / 4 in
-    let place = at-loop.loop-size.place + c.passed.result * quarter in
-    let size = at-loop.loop-size.size - 3 * quarter in
+    let a = c.args in
+    let quarter = c.loop-size.size / 4 in
+    let place = c.loop-size.place + c.passed.result * quarter in
+    let size = c.loop-size.size - 3 * quarter in
     (place + size ≤ length a.indices.now)
-    × (place + rank a.needle (part place size a.indices.now) ≡ at-loop.loop-size.place + rank a.needle (part at-loop.loop-size.place at-loop.loop-size.size a.indices.now))
+    × (place + rank a.needle (part place size a.indices.now) ≡ c.loop-size.place + rank a.needle (part c.loop-size.place c.loop-size.size a.indices.now))
 turn c =
-    let at-loop = c in
-    let a = at-loop.args in
-    rank_turn a.needle a.indices.now at-loop.loop-size.place at-loop.loop-size.size c.loop-size-test.true at-loop.loop-size.invariant.0 _ c.passed.ensures
+    let a = c.args in
+    rank_turn a.needle a.indices.now c.loop-size.place c.loop-size.size c.loop-size-test.true c.loop-size.invariant.0 _ c.passed.ensures
 
 pub loop-size-preserved : goal.loop-size-preserved
-loop-size-preserved c = ((turn (goal.at.loop-size-preserved c).After-passed).0, (turn (goal.at.loop-size-preserved c).After-passed).1 ∙ c.loop-size.invariant.1)
+loop-size-preserved c =
+    let past = goal.at.loop-size-preserved c in
+    ((turn past.After-passed).0, (turn past.After-passed).1 ∙ c.loop-size.invariant.1)
 
 -- what is left when the loop has ended
 left : (c : After-count-arg-1) →
-    let at-loop = c in
-    let l = at-loop.args.indices.now in
-    take (at-loop.loop-size.place + at-loop.loop-size.size - at-loop.loop-size.place) (drop at-loop.loop-size.place l) ≡ part at-loop.loop-size.place at-loop.loop-size.size l
+    let l = c.args.indices.now in
+    take (c.loop-size.place + c.loop-size.size - c.loop-size.place) (drop c.loop-size.place l) ≡ part c.loop-size.place c.loop-size.size l
 unfolding part
 left c =
-    let at-loop = c in
-    let l = at-loop.args.indices.now in
-    ap (λ (n : ℕ). take n (drop at-loop.loop-size.place l)) (add-sub_cancel_left at-loop.loop-size.place at-loop.loop-size.size)
+    let l = c.args.indices.now in
+    ap (λ (n : ℕ). take n (drop c.loop-size.place l)) (add-sub_cancel_left c.loop-size.place c.loop-size.size)
 
 few : (c : After-count-arg-1) →
-    let at-loop = c in
-    length (part at-loop.loop-size.place at-loop.loop-size.size at-loop.args.indices.now) ≤ 16
+    length (part c.loop-size.place c.loop-size.size c.args.indices.now) ≤ 16
 few c =
-    let at-loop = c in
-    let l = at-loop.args.indices.now in
-    omega (arith, part_length l at-loop.loop-size.place at-loop.loop-size.size at-loop.loop-size.invariant.0)
+    let l = c.args.indices.now in
+    omega (arith, part_length l c.loop-size.place c.loop-size.size c.loop-size.invariant.0)
 
 pub count-requires : goal.count-requires
-count-requires c = rw (left (goal.at.count-requires c).After-count-arg-1) (few (goal.at.count-requires c).After-count-arg-1)
+count-requires c =
+    let past = goal.at.count-requires c in
+    rw (left past.After-count-arg-1) (few past.After-count-arg-1)
 
 found : (c : After-count)
     → let list = part c.loop-size.place c.loop-size.size c.args.indices.now in
@@ -65,11 +63,14 @@ found c few left =
 
 pub overflow_add-result : goal.overflow_add-result
 overflow_add-result c =
+    let past = goal.at.overflow_add-result c in
     let a = c.args in
-    omega (arith, found (goal.at.overflow_add-result c).After-count (few (goal.at.overflow_add-result c).After-count-arg-1) (left (goal.at.overflow_add-result c).After-count-arg-1), rank_within a.needle a.indices.now)
+    omega (arith, found past.After-count (few past.After-count-arg-1) (left past.After-count-arg-1), rank_within a.needle a.indices.now)
 
 pub returns : goal.returns
-returns c = found (goal.at.returns c).After-count (few (goal.at.returns c).After-count-arg-1) (left (goal.at.returns c).After-count-arg-1)
+returns c =
+    let past = goal.at.returns c in
+    found past.After-count (few past.After-count-arg-1) (left past.After-count-arg-1)
 
 pub passed-requires : goal.passed-requires
 passed-requires c = record { le_quarter = omega arith; quarter_in_bounds = omega (arith, c.loop-size.invariant.0) }

@@ -48,12 +48,13 @@ byte_of_bits-requires c =
 
 pub loop-from-preserved : goal.loop-from-preserved
 loop-from-preserved c =
+    let past = goal.at.loop-from-preserved c in
     let f = c.loop-from.from in
     let v = c.args.value.now in
     let z : f + 8 - f ≡ 8 = omega arith in (
-      within (goal.at.loop-from-preserved c).In-loop-from,
-      omega (arith, within (goal.at.loop-from-preserved c).In-loop-from, c.loop-from.invariant.1),
-      eight_more (codes_of (fold_all v)) c.requires.codes.below (rw length_codes (omega (arith, c.requires.short))) f c.loop-from.working _ (rw length_codes (within (goal.at.loop-from-preserved c).In-loop-from)) c.loop-from.invariant.2
+      within past.In-loop-from,
+      omega (arith, within past.In-loop-from, c.loop-from.invariant.1),
+      eight_more (codes_of (fold_all v)) c.requires.codes.below (rw length_codes (omega (arith, c.requires.short))) f c.loop-from.working _ (rw length_codes (within past.In-loop-from)) c.loop-from.invariant.2
           (c.wide.ensures ∙ c.byte_of_bits.ensures ∙ ap (λ (n : ℕ). number 2 (codes_of (fold_all (take n (drop f v))))) z ∙ ap (number 2) (codes_take 8 (drop f v) ∙ ap (take 8) (codes_drop f v))),
     )
 

@@ -36,7 +36,9 @@ slice_bounds-byte_by_low_bits-start c =
     z
 
 pub slice_bounds-byte_by_low_bits-end : goal.slice_bounds-byte_by_low_bits-end
-slice_bounds-byte_by_low_bits-end c = rw (per (goal.at.slice_bounds-byte_by_low_bits-end c).At-loop-from) (within (goal.at.slice_bounds-byte_by_low_bits-end c).In-loop-from)
+slice_bounds-byte_by_low_bits-end c =
+    let past = goal.at.slice_bounds-byte_by_low_bits-end c in
+    rw (per past.At-loop-from) (within past.In-loop-from)
 
 pub byte_by_low_bits-requires : goal.byte_by_low_bits-requires
 byte_by_low_bits-requires c =
@@ -55,7 +57,8 @@ loop-from-smaller c =
 
 pub loop-from-preserved : goal.loop-from-preserved
 loop-from-preserved c =
-    rw (per (goal.at.loop-from-preserved c).At-loop-from) (byte_agrees c.requires.0 c.loop-from.invariant c.loop-from-test.true (rw (per (goal.at.loop-from-preserved c).At-loop-from) at c.byte_by_low_bits.ensures) (omega arith) c.if-bytes-at.false)
+    let past = goal.at.loop-from-preserved c in
+    rw (per past.At-loop-from) (byte_agrees c.requires.0 c.loop-from.invariant c.loop-from-test.true (rw (per past.At-loop-from) at c.byte_by_low_bits.ensures) (omega arith) c.if-bytes-at.false)
 
 pub returns : goal.returns
 returns c = agrees_end c.loop-from.invariant c.loop-from-test.false

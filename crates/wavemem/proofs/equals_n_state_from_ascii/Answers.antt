@@ -50,15 +50,18 @@ compared : (a : After-byte_from_ascii)
 compared a less = first_compared a.requires less a.args.bytes.now refl a.byte_from_ascii.result (omega arith) (rw a.first_count-first.ensures at a.byte_from_ascii.ensures)
 
 pub returns-then-bytes-at : goal.returns-then-bytes-at
-returns-then-bytes-at c = sym (compared (goal.at.returns-then-bytes-at c).After-byte_from_ascii (short (goal.at.returns-then-bytes-at c).Else-first-bits_in_a_byte) ∙ rw (ne_eqb _ _ c.if-bytes-at.true))
+returns-then-bytes-at c =
+    let past = goal.at.returns-then-bytes-at c in
+    sym (compared past.After-byte_from_ascii (short past.Else-first-bits_in_a_byte) ∙ rw (ne_eqb _ _ c.if-bytes-at.true))
 
 pub returns-then-first-value : goal.returns-then-first-value
 returns-then-first-value c =
+    let past = goal.at.returns-then-first-value c in
     sym
-    (compared (goal.at.returns-then-first-value c).After-byte_from_ascii (short (goal.at.returns-then-first-value c).Else-first-bits_in_a_byte)
+    (compared past.After-byte_from_ascii (short past.Else-first-bits_in_a_byte)
     ∙ rw (eq-eqb _ _ c.if-bytes-at.false)
     (sym
-    (only_compared c.requires (short (goal.at.returns-then-first-value c).Else-first-bits_in_a_byte) c.args.bytes.now refl c.byte_from_ascii.result (omega arith) (rw c.first_count-first.ensures at c.byte_from_ascii.ensures)
+    (only_compared c.requires (short past.Else-first-bits_in_a_byte) c.args.bytes.now refl c.byte_from_ascii.result (omega arith) (rw c.first_count-first.ensures at c.byte_from_ascii.ensures)
     (rw c.first_count-first.ensures at c.if-first-value.true))))
 
 pub slice_bounds-equals_whole-count : goal.slice_bounds-equals_whole-count
@@ -71,8 +74,10 @@ slice_bounds-equals_whole-start c =
 
 pub equals_whole-requires-2 : goal.equals_whole-requires-2
 equals_whole-requires-2 c =
-    rw (c.first_count-first.ensures, rest_is c.requires (short (goal.at.equals_whole-requires-2 c).Else-first-bits_in_a_byte)) (rest_whole c.requires (short (goal.at.equals_whole-requires-2 c).Else-first-bits_in_a_byte))
+    let past = goal.at.equals_whole-requires-2 c in
+    rw (c.first_count-first.ensures, rest_is c.requires (short past.Else-first-bits_in_a_byte)) (rest_whole c.requires (short past.Else-first-bits_in_a_byte))
 
 pub returns : goal.returns
 returns c =
-    (rw (c.first_count-first.ensures, rest_is c.requires (short (goal.at.returns c).Else-first-bits_in_a_byte)) at c.equals_whole-2.ensures) ∙ sym (compared (goal.at.returns c).After-byte_from_ascii (short (goal.at.returns c).Else-first-bits_in_a_byte) ∙ rw (eq-eqb _ _ c.if-bytes-at.false))
+    let past = goal.at.returns c in
+    (rw (c.first_count-first.ensures, rest_is c.requires (short past.Else-first-bits_in_a_byte)) at c.equals_whole-2.ensures) ∙ sym (compared past.After-byte_from_ascii (short past.Else-first-bits_in_a_byte) ∙ rw (eq-eqb _ _ c.if-bytes-at.false))

@@ -24,10 +24,14 @@ lead : (c : In-Four)
 lead c = let f = (four c).full in lead_four (four c) (omega arith)
 
 pub slice_bounds-equals_bytes-end : goal.slice_bounds-equals_bytes-end
-slice_bounds-equals_bytes-end c = sym (front_length (four (goal.at.slice_bounds-equals_bytes-end c).In-Four) (lead (goal.at.slice_bounds-equals_bytes-end c).In-Four))
+slice_bounds-equals_bytes-end c =
+    let past = goal.at.slice_bounds-equals_bytes-end c in
+    sym (front_length (four past.In-Four) (lead past.In-Four))
 
 pub equals_bytes-requires : goal.equals_bytes-requires
-equals_bytes-requires c = (front_whole (four (goal.at.equals_bytes-requires c).In-Four) (lead (goal.at.equals_bytes-requires c).In-Four), c.codes_by_low_bits-codes.ensures)
+equals_bytes-requires c =
+    let past = goal.at.equals_bytes-requires c in
+    (front_whole (four past.In-Four) (lead past.In-Four), c.codes_by_low_bits-codes.ensures)
 
 pub slice_bounds-equals_words-count : goal.slice_bounds-equals_words-count
 slice_bounds-equals_words-count c = (lead (goal.at.slice_bounds-equals_words-count c).In-Four).within
@@ -40,7 +44,9 @@ overflow_add-at c =
     omega (arith, (four (goal.at.overflow_add-at c).In-Four).fits)
 
 pub equals_words-requires : goal.equals_words-requires
-equals_words-requires c = back_lent (four (goal.at.equals_words-requires c).In-Four) (lead (goal.at.equals_words-requires c).In-Four)
+equals_words-requires c =
+    let past = goal.at.equals_words-requires c in
+    back_lent (four past.In-Four) (lead past.In-Four)
 
 pub equals_bytes-requires-in-Nine : goal.equals_bytes-requires-in-Nine
 equals_bytes-requires-in-Nine c =

@@ -39,11 +39,12 @@ bounds-out-at c =
 
 pub returns-then-first-value : goal.returns-then-first-value
 returns-then-first-value c =
+    let past = goal.at.returns-then-first-value c in
     let is = rw c.first_count-first.ensures at c.byte_from_ascii.ensures in
     let only = rw c.first_count-first.ensures at c.if-first-value.true in
     record {
-      value = ap (λ (n : ℕ). c.args.at + n) (sym (only_size c.requires (short (goal.at.returns-then-first-value c).Else-first-bits_in_a_byte) c.args.out.now refl c.byte_from_ascii.result (omega arith) is only));
-      out_after = only_stored c.requires (short (goal.at.returns-then-first-value c).Else-first-bits_in_a_byte) c.args.out.now refl c.byte_from_ascii.result (omega arith) is only;
+      value = ap (λ (n : ℕ). c.args.at + n) (sym (only_size c.requires (short past.Else-first-bits_in_a_byte) c.args.out.now refl c.byte_from_ascii.result (omega arith) is only));
+      out_after = only_stored c.requires (short past.Else-first-bits_in_a_byte) c.args.out.now refl c.byte_from_ascii.result (omega arith) is only;
     }
 
 pub slice_bounds-write_whole-count : goal.slice_bounds-write_whole-count
@@ -56,7 +57,8 @@ slice_bounds-write_whole-start c =
 
 pub write_whole-requires-2 : goal.write_whole-requires-2
 write_whole-requires-2 c =
-    rw (c.first_count-first.ensures, rest_is c.requires (short (goal.at.write_whole-requires-2 c).Else-first-bits_in_a_byte), length-set) (rest_whole c.requires (short (goal.at.write_whole-requires-2 c).Else-first-bits_in_a_byte))
+    let past = goal.at.write_whole-requires-2 c in
+    rw (c.first_count-first.ensures, rest_is c.requires (short past.Else-first-bits_in_a_byte), length-set) (rest_whole c.requires (short past.Else-first-bits_in_a_byte))
 
 stored : (w : After-write_whole-2)
     → (first_count w.args.states (length w.args.value.now) ≡ per_byte w.args.states → ⊥)
@@ -67,10 +69,12 @@ stored w less =
 
 pub shape_of-out : goal.shape_of-out
 shape_of-out c =
-    ap length (stored (goal.at.shape_of-out c).After-write_whole-2 (short (goal.at.shape_of-out c).Else-first-bits_in_a_byte)) ∙ overlay_length c.args.out.now _ c.args.at (rw packed_from_length c.requires.fits)
+    let past = goal.at.shape_of-out c in
+    ap length (stored past.After-write_whole-2 (short past.Else-first-bits_in_a_byte)) ∙ overlay_length c.args.out.now _ c.args.at (rw packed_from_length c.requires.fits)
 
 pub returns : goal.returns
 returns c =
-    let n = rw (c.first_count-first.ensures, rest_is c.requires (short (goal.at.returns c).Else-first-bits_in_a_byte)) at c.write_whole-2.ensures.value in
-    let less = short (goal.at.returns c).Else-first-bits_in_a_byte in
-    record { value = omega (arith, n, rest_size c.requires less); out_after = stored (goal.at.returns c).After-write_whole-2 less }
+    let past = goal.at.returns c in
+    let n = rw (c.first_count-first.ensures, rest_is c.requires (short past.Else-first-bits_in_a_byte)) at c.write_whole-2.ensures.value in
+    let less = short past.Else-first-bits_in_a_byte in
+    record { value = omega (arith, n, rest_size c.requires less); out_after = stored past.After-write_whole-2 less }

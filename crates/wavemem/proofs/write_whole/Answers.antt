@@ -30,22 +30,26 @@ slice_bounds-write_bytes-end c = let ok = four (goal.at.slice_bounds-write_bytes
 
 pub write_bytes-next-requires : goal.write_bytes-next-requires
 write_bytes-next-requires c =
-    (front_whole (four (goal.at.write_bytes-next-requires c).In-Four) (lead_four (four (goal.at.write_bytes-next-requires c).In-Four) refl), c.codes_by_low_bits-codes.ensures)
+    let past = goal.at.write_bytes-next-requires c in
+    (front_whole (four past.In-Four) (lead_four (four past.In-Four) refl), c.codes_by_low_bits-codes.ensures)
 
 pub write_words-requires : goal.write_words-requires
 write_words-requires c =
-    second_lent (four (goal.at.write_words-requires c).In-Four) (lead_four (four (goal.at.write_words-requires c).In-Four) refl) c.args.out.now refl (c.write_bytes-next.ensures.value, c.write_bytes-next.ensures.out_after)
+    let past = goal.at.write_words-requires c in
+    second_lent (four past.In-Four) (lead_four (four past.In-Four) refl) c.args.out.now refl (c.write_bytes-next.ensures.value, c.write_bytes-next.ensures.out_after)
 
 pub slice_bounds-write_bytes-end-in-Nine : goal.slice_bounds-write_bytes-end-in-Nine
 slice_bounds-write_bytes-end-in-Nine c = let ok = nine (goal.at.slice_bounds-write_bytes-end-in-Nine c).In-Nine in sym (front_length ok (lead_nine ok refl))
 
 pub write_bytes-next-requires-in-Nine : goal.write_bytes-next-requires-in-Nine
 write_bytes-next-requires-in-Nine c =
-    (front_whole (nine (goal.at.write_bytes-next-requires-in-Nine c).In-Nine) (lead_nine (nine (goal.at.write_bytes-next-requires-in-Nine c).In-Nine) refl), c.codes_by_low_bits-codes.ensures)
+    let past = goal.at.write_bytes-next-requires-in-Nine c in
+    (front_whole (nine past.In-Nine) (lead_nine (nine past.In-Nine) refl), c.codes_by_low_bits-codes.ensures)
 
 pub write_chunks-requires : goal.write_chunks-requires
 write_chunks-requires c =
-    second_lent (nine (goal.at.write_chunks-requires c).In-Nine) (lead_nine (nine (goal.at.write_chunks-requires c).In-Nine) refl) c.args.out.now refl (c.write_bytes-next-in-Nine.ensures.value, c.write_bytes-next-in-Nine.ensures.out_after)
+    let past = goal.at.write_chunks-requires c in
+    second_lent (nine past.In-Nine) (lead_nine (nine past.In-Nine) refl) c.args.out.now refl (c.write_bytes-next-in-Nine.ensures.value, c.write_bytes-next-in-Nine.ensures.out_after)
 
 pub returns-in-Two : goal.returns-in-Two
 returns-in-Two c =
@@ -53,10 +57,12 @@ returns-in-Two c =
 
 pub returns-in-Four : goal.returns-in-Four
 returns-in-Four c =
-    let told = both_stored (four (goal.at.returns-in-Four c).In-Four) (lead_four (four (goal.at.returns-in-Four c).In-Four) refl) c.args.out.now refl (c.write_bytes-next.ensures.value, c.write_bytes-next.ensures.out_after) (c.write_words.ensures.value, c.write_words.ensures.out_after) in
+    let past = goal.at.returns-in-Four c in
+    let told = both_stored (four past.In-Four) (lead_four (four past.In-Four) refl) c.args.out.now refl (c.write_bytes-next.ensures.value, c.write_bytes-next.ensures.out_after) (c.write_words.ensures.value, c.write_words.ensures.out_after) in
     rw c.in-Four.is (record { value = told.0; out_after = told.1 })
 
 pub returns-in-Nine : goal.returns-in-Nine
 returns-in-Nine c =
-    let told = both_stored (nine (goal.at.returns-in-Nine c).In-Nine) (lead_nine (nine (goal.at.returns-in-Nine c).In-Nine) refl) c.args.out.now refl (c.write_bytes-next-in-Nine.ensures.value, c.write_bytes-next-in-Nine.ensures.out_after) (c.write_chunks.ensures.value, c.write_chunks.ensures.out_after) in
+    let past = goal.at.returns-in-Nine c in
+    let told = both_stored (nine past.In-Nine) (lead_nine (nine past.In-Nine) refl) c.args.out.now refl (c.write_bytes-next-in-Nine.ensures.value, c.write_bytes-next-in-Nine.ensures.out_after) (c.write_chunks.ensures.value, c.write_chunks.ensures.out_after) in
     rw c.in-Nine.is (record { value = told.0; out_after = told.1 })

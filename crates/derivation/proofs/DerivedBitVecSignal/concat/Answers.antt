@@ -66,7 +66,9 @@ returns-then-has_no_room c =
     ap joined_of c.refused-then-has_no_room.ensures ∙ no_room (piece (goal.at.returns-then-has_no_room c).After-has_no_room) (sym c.has_no_room.ensures ∙ c.if-has_no_room.true)
 
 pub with_input-named-requires : goal.with_input-named-requires
-with_input-named-requires c = naming (piece (goal.at.with_input-named-requires c).After-has_no_room) (room (goal.at.with_input-named-requires c).Else-has_no_room)
+with_input-named-requires c =
+    let past = goal.at.with_input-named-requires c in
+    naming (piece past.After-has_no_room) (room past.Else-has_no_room)
 
 pub put_left-next-requires : goal.put_left-next-requires
 put_left-next-requires c =

@@ -15,10 +15,8 @@ room : (c : Else-inputs-gt-MAX_INPUTS) → c.args.self.piece_count ≤ length c.
 room c = omega (arith, c.if-count-gt-MAX_PIECES.false, (sized c.args.self _ c.well_formed.0).bits)
 
 -- after the loop
-over : (c : After-loop-i) → AllPassed c.args.self c.loop-i.sum
-over c =
-    let room : c.args.self.piece_count ≤ length c.args.self.bits = omega (arith, c.if-count-gt-MAX_PIECES.false, (sized c.args.self _ c.well_formed.0).bits) in
-    all_passed c.loop-i.invariant.1 room (omega arith)
+over : (c : After-loop-i) → c.args.self.piece_count ≤ length c.args.self.bits → AllPassed c.args.self c.loop-i.sum
+over c within = all_passed c.loop-i.invariant.1 within (omega arith)
 
 pub returns-then-count-gt-MAX_PIECES : goal.returns-then-count-gt-MAX_PIECES
 unfolding is_bad_derivation
@@ -43,11 +41,11 @@ loop-i-preserved c =
 pub returns-then-self-sum : goal.returns-then-self-sum
 unfolding is_bad_derivation
 returns-then-self-sum c =
-    let o = over (goal.at.returns-then-self-sum c).After-loop-i in
+    let o = over (goal.at.returns-then-self-sum c).After-loop-i (room (goal.at.returns-then-self-sum c).Else-inputs-gt-MAX_INPUTS) in
     simp (le-ltb _ _ c.if-count-gt-MAX_PIECES.false, le-ltb _ _ c.if-inputs-gt-MAX_INPUTS.false, o.0, o.1, ne_eqb _ _ c.if-self-sum.true)
 
 pub returns : goal.returns
 unfolding is_bad_derivation
 returns c =
-    let o = over (goal.at.returns c).After-loop-i in
+    let o = over (goal.at.returns c).After-loop-i (room (goal.at.returns c).Else-inputs-gt-MAX_INPUTS) in
     simp (le-ltb _ _ c.if-count-gt-MAX_PIECES.false, le-ltb _ _ c.if-inputs-gt-MAX_INPUTS.false, o.0, o.1, eq-eqb _ _ c.if-self-sum.false)

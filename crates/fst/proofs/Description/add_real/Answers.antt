@@ -18,9 +18,6 @@ use Rattle.fst.proofs.AddingPlain.{Roomier, roomier, behind, dropped, kept_full,
 use Rattle.fst.proofs.Description.add_real.Goals.{After-exceeds, After-is_below_last, Start}
 use Rattle.fst.proofs.Description.add_real.Goals as goal
 
-abbrev here : Start → Lent
-here x = lent x.args.bytes.now x.args.byte_start x.args.indices.now x.args.index_start
-
 -- an index's place counts no more bytes than a slice has
 few_indices : (x : Start) → length x.args.indices.now * 4 < 18446744073709551616
 few_indices x = omega arith
@@ -34,25 +31,31 @@ other x (BitVector w M) k = refl
 
 -- what is known once the index is tried
 module _ (b : After-is_below_last) where
-  stands : Standing b.args.self (lent b.args.bytes.now b.args.byte_start b.args.indices.now b.args.index_start)
+  abbrev here : Lent
+  here = lent b.args.bytes.now b.args.byte_start b.args.indices.now b.args.index_start
+
+  stands : Standing b.args.self here
   stands = standing (sym b.is_bad.ensures ∙ b.if-is_bad.false)
 
   isReal : b.args.self.encoding ≡ Real
   isReal = b.in-Real.is
 
-  suited : Suited b.args.self (lent b.args.bytes.now b.args.byte_start b.args.indices.now b.args.index_start) (real b.args.bits)
+  suited : Suited b.args.self here (real b.args.bits)
   suited = real_suited stands isReal b.args.index _
 
-  passes : b.is_below_last.result ≡ false → Admitted b.args.self (lent b.args.bytes.now b.args.byte_start b.args.indices.now b.args.index_start) b.args.index (real b.args.bits)
+  passes : b.is_below_last.result ≡ false → Admitted b.args.self here b.args.index (real b.args.bits)
   passes h = admits suited _ (sym h ∙ b.is_below_last.ensures)
 
 -- and once the room is
 module _ (z : After-exceeds) (stands : Standing z.args.self (lent z.args.bytes.now z.args.byte_start z.args.indices.now z.args.index_start)) (isReal : z.args.self.encoding ≡ Real) where
-  kept : with_change (kept_in z.args.self (lent z.args.bytes.now z.args.byte_start z.args.indices.now z.args.index_start)) z.args.index (real z.args.bits)
-      ≡ behind z.args.self (lent z.args.bytes.now z.args.byte_start z.args.indices.now z.args.index_start) z.args.index (real_bytes z.args.bits)
+  abbrev lent_here : Lent
+  lent_here = lent z.args.bytes.now z.args.byte_start z.args.indices.now z.args.index_start
+
+  kept : with_change (kept_in z.args.self lent_here) z.args.index (real z.args.bits)
+      ≡ behind z.args.self lent_here z.args.index (real_bytes z.args.bits)
   kept = real_kept stands isReal _ _ (sym z.if-repeats_real.false ∙ z.repeats_real.ensures)
 
-  places : z.exceeds.result ≡ false → Roomier z.args.self (lent z.args.bytes.now z.args.byte_start z.args.indices.now z.args.index_start) 8
+  places : z.exceeds.result ≡ false → Roomier z.args.self lent_here 8
   places h = roomier 8 (ap size_of isReal) (sym z.exceeds.ensures ∙ h)
 
 pub returns-then-is_bad : goal.returns-then-is_bad
@@ -73,12 +76,14 @@ returns-then-is_below_last c =
 
 pub repeats_real-requires : goal.repeats_real-requires
 repeats_real-requires c =
-    real_room (stands (goal.at.repeats_real-requires c).After-is_below_last) (isReal (goal.at.repeats_real-requires c).After-is_below_last) c.args.index c.args.bits
+    let past = goal.at.repeats_real-requires c in
+    real_room (stands past.After-is_below_last) (isReal past.After-is_below_last) c.args.index c.args.bits
 
 pub returns-then-repeats_real : goal.returns-then-repeats_real
 returns-then-repeats_real c =
+    let past = goal.at.returns-then-repeats_real c in
     beside c.accepted.ensures
-    ∙ dropped (passes (goal.at.returns-then-repeats_real c).After-is_below_last c.if-is_below_last.false) (real_same (stands (goal.at.returns-then-repeats_real c).After-is_below_last) (isReal (goal.at.returns-then-repeats_real c).After-is_below_last) _ _ (sym c.if-repeats_real.true ∙ c.repeats_real.ensures))
+    ∙ dropped (passes past.After-is_below_last c.if-is_below_last.false) (real_same (stands past.After-is_below_last) (isReal past.After-is_below_last) _ _ (sym c.if-repeats_real.true ∙ c.repeats_real.ensures))
 
 pub overflow_add-self : goal.overflow_add-self
 overflow_add-self c =
@@ -91,25 +96,37 @@ exceeds-requires c =
 
 pub returns-then-exceeds : goal.returns-then-exceeds
 returns-then-exceeds c =
-    beside c.refused-then-exceeds.ensures ∙ kept_full (passes (goal.at.returns-then-exceeds c).After-is_below_last c.if-is_below_last.false) _ (kept (goal.at.returns-then-exceeds c).After-exceeds (stands (goal.at.returns-then-exceeds c).After-is_below_last) (isReal (goal.at.returns-then-exceeds c).After-is_below_last)) (sym c.exceeds.ensures ∙ c.if-exceeds.true)
+    let past = goal.at.returns-then-exceeds c in
+    beside c.refused-then-exceeds.ensures ∙ kept_full (passes past.After-is_below_last c.if-is_below_last.false) _ (kept past.After-exceeds (stands past.After-is_below_last) (isReal past.After-is_below_last)) (sym c.exceeds.ensures ∙ c.if-exceeds.true)
 
 pub overflow_add-byte_start : goal.overflow_add-byte_start
-overflow_add-byte_start c = let p = places (goal.at.overflow_add-byte_start c).After-exceeds (stands (goal.at.overflow_add-byte_start c).After-is_below_last) (isReal (goal.at.overflow_add-byte_start c).After-is_below_last) c.if-exceeds.false in omega arith
+overflow_add-byte_start c =
+    let past = goal.at.overflow_add-byte_start c in
+    let p = places past.After-exceeds (stands past.After-is_below_last) (isReal past.After-is_below_last) c.if-exceeds.false in omega arith
 
 pub write_real-requires : goal.write_real-requires
-write_real-requires c = (places (goal.at.write_real-requires c).After-exceeds (stands (goal.at.write_real-requires c).After-is_below_last) (isReal (goal.at.write_real-requires c).After-is_below_last) c.if-exceeds.false).bytes
+write_real-requires c =
+    let past = goal.at.write_real-requires c in
+    (places past.After-exceeds (stands past.After-is_below_last) (isReal past.After-is_below_last) c.if-exceeds.false).bytes
 
 pub overflow_add-indices : goal.overflow_add-indices
-overflow_add-indices c = let p = places (goal.at.overflow_add-indices c).After-exceeds (stands (goal.at.overflow_add-indices c).After-is_below_last) (isReal (goal.at.overflow_add-indices c).After-is_below_last) c.if-exceeds.false in omega (arith, few_indices (goal.at.overflow_add-indices c).Start)
+overflow_add-indices c =
+    let past = goal.at.overflow_add-indices c in
+    let p = places past.After-exceeds (stands past.After-is_below_last) (isReal past.After-is_below_last) c.if-exceeds.false in omega (arith, few_indices past.Start)
 
 pub offset_bounds-indices-index_start : goal.offset_bounds-indices-index_start
-offset_bounds-indices-index_start c = let p = places (goal.at.offset_bounds-indices-index_start c).After-exceeds (stands (goal.at.offset_bounds-indices-index_start c).After-is_below_last) (isReal (goal.at.offset_bounds-indices-index_start c).After-is_below_last) c.if-exceeds.false in omega (arith, few_indices (goal.at.offset_bounds-indices-index_start c).Start)
+offset_bounds-indices-index_start c =
+    let past = goal.at.offset_bounds-indices-index_start c in
+    let p = places past.After-exceeds (stands past.After-is_below_last) (isReal past.After-is_below_last) c.if-exceeds.false in omega (arith, few_indices past.Start)
 
 pub bounds-indices-index_start : goal.bounds-indices-index_start
-bounds-indices-index_start c = (places (goal.at.bounds-indices-index_start c).After-exceeds (stands (goal.at.bounds-indices-index_start c).After-is_below_last) (isReal (goal.at.bounds-indices-index_start c).After-is_below_last) c.if-exceeds.false).index
+bounds-indices-index_start c =
+    let past = goal.at.bounds-indices-index_start c in
+    (places past.After-exceeds (stands past.After-is_below_last) (isReal past.After-is_below_last) c.if-exceeds.false).index
 
 pub returns : goal.returns
 returns c =
+    let past = goal.at.returns c in
     ap₂ (λ (r : Added) (b : List ℕ). left_by r b (set c.args.indices.now (c.args.index_start + c.args.self.count) c.args.index))
     c.accepted-2.ensures c.write_real.ensures
-    ∙ kept_more (passes (goal.at.returns c).After-is_below_last c.if-is_below_last.false) _ (kept (goal.at.returns c).After-exceeds (stands (goal.at.returns c).After-is_below_last) (isReal (goal.at.returns c).After-is_below_last)) 8 (ap size_of (isReal (goal.at.returns c).After-is_below_last)) (sym c.exceeds.ensures ∙ c.if-exceeds.false)
+    ∙ kept_more (passes past.After-is_below_last c.if-is_below_last.false) _ (kept past.After-exceeds (stands past.After-is_below_last) (isReal past.After-is_below_last)) 8 (ap size_of (isReal past.After-is_below_last)) (sym c.exceeds.ensures ∙ c.if-exceeds.false)

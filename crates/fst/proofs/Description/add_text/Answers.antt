@@ -50,10 +50,11 @@ returns-then-is_below_last c =
 
 pub add_levels-requires : goal.add_levels-requires
 add_levels-requires c =
-    let v = string_levels (standing c.requires.0) c.requires.1 _ _ (long (goal.at.add_levels-requires c).After-is_below_last) (least (goal.at.add_levels-requires c).After-is_below_last) (admits (suited (goal.at.add_levels-requires c).After-is_below_last) _ (sym c.if-is_below_last.false ∙ c.is_below_last.ensures)) in
+    let past = goal.at.add_levels-requires c in
+    let v = string_levels (standing c.requires.0) c.requires.1 _ _ (long past.After-is_below_last) (least past.After-is_below_last) (admits (suited past.After-is_below_last) _ (sym c.if-is_below_last.false ∙ c.is_below_last.ensures)) in
     let t = c.scan-scanned in (
       v,
       λ low.
-          levels_told v low c.args.size t.result (c.requires.2 ∙ ap (λ (k : ℕ). entry_size k c.args.max_states) (sym (long (goal.at.add_levels-requires c).After-is_below_last))) c.in-Least.is
+          levels_told v low c.args.size t.result (c.requires.2 ∙ ap (λ (k : ℕ). entry_size k c.args.max_states) (sym (long past.After-is_below_last))) c.in-Least.is
           t.ensures,
     )

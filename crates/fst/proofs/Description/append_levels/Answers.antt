@@ -16,9 +16,6 @@ use Rattle.fst.proofs.AddingStrings.{string_standing, same_repeatable, append_ke
 use Rattle.fst.proofs.Description.append_levels.Goals.{After-lacks_room, After-marked_number-number, Start}
 use Rattle.fst.proofs.Description.append_levels.Goals as goal
 
-abbrev here : Start → Lent
-here x = lent x.args.bytes.now x.args.byte_start x.args.indices.now x.args.index_start
-
 -- an index's place counts no more bytes than a slice has
 few_indices : (x : Start) → length x.args.indices.now * 4 < 18446744073709551616
 few_indices x = omega arith
@@ -32,12 +29,15 @@ product a n k b h l = omega arith
 
 -- what is known once the room is tried
 module _ (z : After-lacks_room) where
-  abbrev kept : with_change (kept_in z.args.self (lent z.args.bytes.now z.args.byte_start z.args.indices.now z.args.index_start)) z.args.index (text z.args.value.now)
-      ≡ behind z.args.self (lent z.args.bytes.now z.args.byte_start z.args.indices.now z.args.index_start) z.args.index (entry_from z.args.max_states z.args.states z.args.value.now)
+  abbrev here : Lent
+  here = lent z.args.bytes.now z.args.byte_start z.args.indices.now z.args.index_start
+
+  abbrev kept : with_change (kept_in z.args.self here) z.args.index (text z.args.value.now)
+      ≡ behind z.args.self here z.args.index (entry_from z.args.max_states z.args.states z.args.value.now)
   kept = append_kept z.requires.0 z.requires.1 (sym z.if-repeats_number.false ∙ z.repeats_number.ensures)
 
   places : z.lacks_room.result ≡ false
-      → Roomier z.args.self (lent z.args.bytes.now z.args.byte_start z.args.indices.now z.args.index_start) z.args.short.size
+      → Roomier z.args.self here z.args.short.size
   places h = roomier _ (size_here z.requires.0 z.requires.1 z.requires.2) (sym z.lacks_room.ensures ∙ h)
 
 pub marked_number-number-requires : goal.marked_number-number-requires
@@ -79,29 +79,38 @@ overflow_add-self c =
     omega arith
 
 pub overflow_mul-at : goal.overflow_mul-at
-overflow_mul-at c = record { fits = (product _ _ _ _ (places (goal.at.overflow_mul-at c).After-lacks_room c.if-lacks_room.false).bytes (few_bytes (goal.at.overflow_mul-at c).Start)).0 }
+overflow_mul-at c =
+    let past = goal.at.overflow_mul-at c in
+    record { fits = (product _ _ _ _ (places past.After-lacks_room c.if-lacks_room.false).bytes (few_bytes past.Start)).0 }
 
 pub overflow_add-at : goal.overflow_add-at
-overflow_add-at c = record { fits = (product _ _ _ _ (places (goal.at.overflow_add-at c).After-lacks_room c.if-lacks_room.false).bytes (few_bytes (goal.at.overflow_add-at c).Start)).1 }
+overflow_add-at c =
+    let past = goal.at.overflow_add-at c in
+    record { fits = (product _ _ _ _ (places past.After-lacks_room c.if-lacks_room.false).bytes (few_bytes past.Start)).1 }
 
 pub store_number-requires : goal.store_number-requires
 store_number-requires c =
+    let past = goal.at.store_number-requires c in
     let p = same_repeatable c.requires.0 c.requires.1 in (
       record {
         under = p.under;
         codes = p.codes;
         wide = p.wide;
         short = p.short;
-        fits = omega (arith, (places (goal.at.store_number-requires c).After-lacks_room c.if-lacks_room.false).bytes, c.requires.2.sized);
+        fits = omega (arith, (places past.After-lacks_room c.if-lacks_room.false).bytes, c.requires.2.sized);
       },
-      numbered (goal.at.store_number-requires c).After-marked_number-number,
+      numbered past.After-marked_number-number,
     )
 
 pub overflow_add-indices : goal.overflow_add-indices
-overflow_add-indices c = let p = (places (goal.at.overflow_add-indices c).After-lacks_room c.if-lacks_room.false).index in omega (arith, few_indices (goal.at.overflow_add-indices c).Start)
+overflow_add-indices c =
+    let past = goal.at.overflow_add-indices c in
+    let p = (places past.After-lacks_room c.if-lacks_room.false).index in omega (arith, few_indices past.Start)
 
 pub offset_bounds-indices-index_start : goal.offset_bounds-indices-index_start
-offset_bounds-indices-index_start c = let p = (places (goal.at.offset_bounds-indices-index_start c).After-lacks_room c.if-lacks_room.false).index in omega (arith, few_indices (goal.at.offset_bounds-indices-index_start c).Start)
+offset_bounds-indices-index_start c =
+    let past = goal.at.offset_bounds-indices-index_start c in
+    let p = (places past.After-lacks_room c.if-lacks_room.false).index in omega (arith, few_indices past.Start)
 
 pub bounds-indices-index_start : goal.bounds-indices-index_start
 bounds-indices-index_start c = (places (goal.at.bounds-indices-index_start c).After-lacks_room c.if-lacks_room.false).index

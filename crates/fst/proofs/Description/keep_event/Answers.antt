@@ -15,15 +15,15 @@ use Rattle.fst.proofs.AddingPlain.{roomier, kept_full, event_gives_4, event_suit
 use Rattle.fst.proofs.Description.keep_event.Goals.{After-exceeds, After-is_below_last, Start}
 use Rattle.fst.proofs.Description.keep_event.Goals as goal
 
-abbrev here : Start → Lent
-here x = lent x.args.bytes.now x.args.byte_start x.args.indices.now x.args.index_start
-
 -- what is known once the index is tried
 module _ (b : After-is_below_last) where
-  suited : Suited b.args.self (lent b.args.bytes.now b.args.byte_start b.args.indices.now b.args.index_start) (text b.args.value.now)
+  abbrev here : Lent
+  here = lent b.args.bytes.now b.args.byte_start b.args.indices.now b.args.index_start
+
+  suited : Suited b.args.self here (text b.args.value.now)
   suited = event_suited (standing b.requires.0) b.requires.1 b.args.index _ b.if-value-gt1.false
 
-  passes : b.is_below_last.result ≡ false → Admitted b.args.self (lent b.args.bytes.now b.args.byte_start b.args.indices.now b.args.index_start) b.args.index (text b.args.value.now)
+  passes : b.is_below_last.result ≡ false → Admitted b.args.self here b.args.index (text b.args.value.now)
   passes h = admits suited _ (sym h ∙ b.is_below_last.ensures)
 
 -- and once the room is

@@ -21,9 +21,6 @@ use Rattle.fst.proofs.AddingStrings.{string_standing, repeatable, width_then, wi
 use Rattle.fst.proofs.Description.raise_levels.Goals.{After-entry_size, After-exceeds, Start}
 use Rattle.fst.proofs.Description.raise_levels.Goals as goal
 
-abbrev here : Start → Lent
-here x = lent x.args.bytes.now x.args.byte_start x.args.indices.now x.args.index_start
-
 -- an index's place counts no more bytes than a slice has
 few_indices : (x : Start) → length x.args.indices.now * 4 < 18446744073709551616
 few_indices x = omega arith
@@ -38,6 +35,9 @@ left_by indices p q = ap₂ (λ (d : Description) (b : List ℕ). accepted_with 
 
 -- what is known once the room is tried
 module _ (z : After-exceeds) where
+  abbrev here : Lent
+  here = lent z.args.bytes.now z.args.byte_start z.args.indices.now z.args.index_start
+
   abbrev joint : States
   joint = z.join-joint.result
 
@@ -50,11 +50,11 @@ module _ (z : After-exceeds) where
   counted : z.next_count-total.result ≡ cond z.repeats_last-repeat.result z.args.self.count (z.args.self.count + 1)
   counted = z.next_count-total.ensures
 
-  exceeded : z.exceeds.result ≡ not (fits (BitVector (length z.args.value.now) joint) z.next_count-total.result (lent z.args.bytes.now z.args.byte_start z.args.indices.now z.args.index_start))
-  exceeded = z.exceeds.ensures ∙ ap (λ (d : Description). not (fits d.encoding d.count (lent z.args.bytes.now z.args.byte_start z.args.indices.now z.args.index_start))) z.new-self.ensures
+  exceeded : z.exceeds.result ≡ not (fits (BitVector (length z.args.value.now) joint) z.next_count-total.result here)
+  exceeded = z.exceeds.ensures ∙ ap (λ (d : Description). not (fits d.encoding d.count here)) z.new-self.ensures
 
   -- room for one entry more
-  places : z.exceeds.result ≡ false → z.repeats_last-repeat.result ≡ false → Roomier z.args.self (lent z.args.bytes.now z.args.byte_start z.args.indices.now z.args.index_start) (entry_size (length z.args.value.now) joint)
+  places : z.exceeds.result ≡ false → z.repeats_last-repeat.result ≡ false → Roomier z.args.self here (entry_size (length z.args.value.now) joint)
   places h e = wider_room z.requires joined told counted (sym exceeded ∙ h) e
 
 -- the new entry's place
@@ -81,47 +81,60 @@ exceeds-requires c =
 
 pub returns-then-exceeds : goal.returns-then-exceeds
 returns-then-exceeds c =
+    let past = goal.at.returns-then-exceeds c in
     beside c.refused.ensures
-    ∙ levels_full c.requires (joined (goal.at.returns-then-exceeds c).After-exceeds) (told (goal.at.returns-then-exceeds c).After-exceeds) (counted (goal.at.returns-then-exceeds c).After-exceeds) (sym (exceeded (goal.at.returns-then-exceeds c).After-exceeds) ∙ c.if-exceeds.true)
+    ∙ levels_full c.requires (joined past.After-exceeds) (told past.After-exceeds) (counted past.After-exceeds) (sym (exceeded past.After-exceeds) ∙ c.if-exceeds.true)
 
 pub expand_entries-requires : goal.expand_entries-requires
 expand_entries-requires c =
-    widenable c.requires (joined (goal.at.expand_entries-requires c).After-exceeds) (told (goal.at.expand_entries-requires c).After-exceeds) (counted (goal.at.expand_entries-requires c).After-exceeds) (sym (exceeded (goal.at.expand_entries-requires c).After-exceeds) ∙ c.if-exceeds.false)
+    let past = goal.at.expand_entries-requires c in
+    widenable c.requires (joined past.After-exceeds) (told past.After-exceeds) (counted past.After-exceeds) (sym (exceeded past.After-exceeds) ∙ c.if-exceeds.false)
 
 pub returns-then-repeat : goal.returns-then-repeat
 returns-then-repeat c =
+    let past = goal.at.returns-then-repeat c in
     beside c.accepted.ensures
     ∙ left_by c.args.indices.now c.new-self.ensures c.expand_entries.ensures
-    ∙ levels_stay c.requires (joined (goal.at.returns-then-repeat c).After-exceeds) (told (goal.at.returns-then-repeat c).After-exceeds) (counted (goal.at.returns-then-repeat c).After-exceeds) (sym (exceeded (goal.at.returns-then-repeat c).After-exceeds) ∙ c.if-exceeds.false) c.if-repeat.true
+    ∙ levels_stay c.requires (joined past.After-exceeds) (told past.After-exceeds) (counted past.After-exceeds) (sym (exceeded past.After-exceeds) ∙ c.if-exceeds.false) c.if-repeat.true
 
 pub overflow_mul-at : goal.overflow_mul-at
-overflow_mul-at c = omega (arith, place (goal.at.overflow_mul-at c).After-entry_size _ c.entry_size.ensures (places (goal.at.overflow_mul-at c).After-exceeds c.if-exceeds.false c.if-repeat.false), few_bytes (goal.at.overflow_mul-at c).Start)
+overflow_mul-at c =
+    let past = goal.at.overflow_mul-at c in
+    omega (arith, place past.After-entry_size _ c.entry_size.ensures (places past.After-exceeds c.if-exceeds.false c.if-repeat.false), few_bytes past.Start)
 
 pub overflow_add-at : goal.overflow_add-at
-overflow_add-at c = omega (arith, place (goal.at.overflow_add-at c).After-entry_size _ c.entry_size.ensures (places (goal.at.overflow_add-at c).After-exceeds c.if-exceeds.false c.if-repeat.false), few_bytes (goal.at.overflow_add-at c).Start)
+overflow_add-at c =
+    let past = goal.at.overflow_add-at c in
+    omega (arith, place past.After-entry_size _ c.entry_size.ensures (places past.After-exceeds c.if-exceeds.false c.if-repeat.false), few_bytes past.Start)
 
 pub write_entry-requires : goal.write_entry-requires
 write_entry-requires c =
+    let past = goal.at.write_entry-requires c in
     let a = c.args in
-    writable c.requires (joined (goal.at.write_entry-requires c).After-exceeds) (told (goal.at.write_entry-requires c).After-exceeds) (counted (goal.at.write_entry-requires c).After-exceeds) (sym (exceeded (goal.at.write_entry-requires c).After-exceeds) ∙ c.if-exceeds.false) c.if-repeat.false c.expand_entries.auto.data
+    writable c.requires (joined past.After-exceeds) (told past.After-exceeds) (counted past.After-exceeds) (sym (exceeded past.After-exceeds) ∙ c.if-exceeds.false) c.if-repeat.false c.expand_entries.auto.data
     (ap (λ (k : ℕ). a.byte_start + a.self.count * k) c.entry_size.ensures)
 
 pub overflow_add-indices : goal.overflow_add-indices
-overflow_add-indices c = let p = (places (goal.at.overflow_add-indices c).After-exceeds c.if-exceeds.false c.if-repeat.false).index in omega (arith, few_indices (goal.at.overflow_add-indices c).Start)
+overflow_add-indices c =
+    let past = goal.at.overflow_add-indices c in
+    let p = (places past.After-exceeds c.if-exceeds.false c.if-repeat.false).index in omega (arith, few_indices past.Start)
 
 pub offset_bounds-indices-index_start : goal.offset_bounds-indices-index_start
-offset_bounds-indices-index_start c = let p = (places (goal.at.offset_bounds-indices-index_start c).After-exceeds c.if-exceeds.false c.if-repeat.false).index in omega (arith, few_indices (goal.at.offset_bounds-indices-index_start c).Start)
+offset_bounds-indices-index_start c =
+    let past = goal.at.offset_bounds-indices-index_start c in
+    let p = (places past.After-exceeds c.if-exceeds.false c.if-repeat.false).index in omega (arith, few_indices past.Start)
 
 pub bounds-indices-index_start : goal.bounds-indices-index_start
 bounds-indices-index_start c = (places (goal.at.bounds-indices-index_start c).After-exceeds c.if-exceeds.false c.if-repeat.false).index
 
 pub returns : goal.returns
 returns c =
+    let past = goal.at.returns c in
     beside c.accepted-2.ensures
     ∙ left_by (set c.args.indices.now (c.args.index_start + c.args.self.count) c.args.index) c.new-self.ensures
     (c.write_entry.ensures.out_after
     ∙ ap₂
     (λ (b : List ℕ) (k : ℕ).
-    overlay b (c.args.byte_start + c.args.self.count * k) (entry_from (joint (goal.at.returns c).After-exceeds) c.args.states c.args.value.now))
+    overlay b (c.args.byte_start + c.args.self.count * k) (entry_from (joint past.After-exceeds) c.args.states c.args.value.now))
     c.expand_entries.ensures c.entry_size.ensures)
-    ∙ levels_grow c.requires (joined (goal.at.returns c).After-exceeds) (told (goal.at.returns c).After-exceeds) (counted (goal.at.returns c).After-exceeds) (sym (exceeded (goal.at.returns c).After-exceeds) ∙ c.if-exceeds.false) c.if-repeat.false
+    ∙ levels_grow c.requires (joined past.After-exceeds) (told past.After-exceeds) (counted past.After-exceeds) (sym (exceeded past.After-exceeds) ∙ c.if-exceeds.false) c.if-repeat.false

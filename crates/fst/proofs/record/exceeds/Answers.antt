@@ -11,11 +11,13 @@ here x = lent x.args.bytes.now x.args.byte_start x.args.indices.now x.args.index
 
 pub returns-then-is_bad_bytes : goal.returns-then-is_bad_bytes
 returns-then-is_bad_bytes c =
-    bad_bytes c.args.description (here (goal.at.returns-then-is_bad_bytes c).Start) (sym c.is_bad_bytes.ensures ∙ c.if-is_bad_bytes.true)
-    ∙ bad_exceeds c.args.description (here (goal.at.returns-then-is_bad_bytes c).Start) c.requires
+    let past = goal.at.returns-then-is_bad_bytes c in
+    bad_bytes c.args.description (here past.Start) (sym c.is_bad_bytes.ensures ∙ c.if-is_bad_bytes.true)
+    ∙ bad_exceeds c.args.description (here past.Start) c.requires
 
 pub returns : goal.returns
 returns c =
+    let past = goal.at.returns c in
     c.lacks_indices.ensures
-    ∙ sym (by_indices c.args.description (here (goal.at.returns c).Start) (sym c.is_bad_bytes.ensures ∙ c.if-is_bad_bytes.false))
-    ∙ bad_exceeds c.args.description (here (goal.at.returns c).Start) c.requires
+    ∙ sym (by_indices c.args.description (here past.Start) (sym c.is_bad_bytes.ensures ∙ c.if-is_bad_bytes.false))
+    ∙ bad_exceeds c.args.description (here past.Start) c.requires

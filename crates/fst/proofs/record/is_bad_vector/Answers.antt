@@ -26,8 +26,10 @@ is_bad_levels-requires c =
 
 pub returns-then-is_bad_levels : goal.returns-then-is_bad_levels
 returns-then-is_bad_levels c =
-    bad_bytes c.args.description (here (goal.at.returns-then-is_bad_levels c).Start) (sym (bytes (goal.at.returns-then-is_bad_levels c).After-is_bad_levels) ∙ c.if-is_bad_levels.true)
+    let past = goal.at.returns-then-is_bad_levels c in
+    bad_bytes c.args.description (here past.Start) (sym (bytes past.After-is_bad_levels) ∙ c.if-is_bad_levels.true)
 
 pub returns : goal.returns
 returns c =
-    c.lacks_indices.ensures ∙ sym (by_indices c.args.description (here (goal.at.returns c).Start) (sym (bytes (goal.at.returns c).After-is_bad_levels) ∙ c.if-is_bad_levels.false))
+    let past = goal.at.returns c in
+    c.lacks_indices.ensures ∙ sym (by_indices c.args.description (here past.Start) (sym (bytes past.After-is_bad_levels) ∙ c.if-is_bad_levels.false))

@@ -26,10 +26,14 @@ pub returns-then-count-eq-MAXIMUM : goal.returns-then-count-eq-MAXIMUM
 returns-then-count-eq-MAXIMUM c = most (standing c.requires.0) c.if-count-eq-MAXIMUM.true
 
 pub overflow_mul-entries : goal.overflow_mul-entries
-overflow_mul-entries c = record { fits = omega (arith, within (goal.at.overflow_mul-entries c).Start, few_bytes (goal.at.overflow_mul-entries c).Start) }
+overflow_mul-entries c =
+    let past = goal.at.overflow_mul-entries c in
+    record { fits = omega (arith, within past.Start, few_bytes past.Start) }
 
 pub overflow_add-byte_start : goal.overflow_add-byte_start
-overflow_add-byte_start c = record { fits = omega (arith, within (goal.at.overflow_add-byte_start c).Start, few_bytes (goal.at.overflow_add-byte_start c).Start) }
+overflow_add-byte_start c =
+    let past = goal.at.overflow_add-byte_start c in
+    record { fits = omega (arith, within past.Start, few_bytes past.Start) }
 
 pub overflow_sub-bytes : goal.overflow_sub-bytes
 overflow_sub-bytes c = within (goal.at.overflow_sub-bytes c).Start

@@ -64,14 +64,15 @@ equals_n_state_from_ascii-requires-then-are_zeros c =
 
 pub returns-then-are_zeros : goal.returns-then-are_zeros
 returns-then-are_zeros c =
+    let past = goal.at.returns-then-are_zeros c in
     let b = c.args.bytes.now in
     let own = c.args.states in
     let h = c.if-len-size.false in
     let n = c.entry_layout-layout.result.size - c.entry_layout-layout.result.len in
-    let e : c.args.at + n ≡ c.args.at + 1 + (n - 1) = omega (arith, apart (goal.at.returns-then-are_zeros c).After-entry_layout-layout h, within (goal.at.returns-then-are_zeros c).After-entry_layout-layout, c.entry_layout-layout.ensures.0, c.entry_layout-layout.ensures.1) in
+    let e : c.args.at + n ≡ c.args.at + 1 + (n - 1) = omega (arith, apart past.After-entry_layout-layout h, within past.After-entry_layout-layout, c.entry_layout-layout.ensures.0, c.entry_layout-layout.ensures.1) in
     c.equals_n_state_from_ascii-then-are_zeros.ensures
     ∙ ap (λ (k : ℕ). same (part k (len_of (length c.args.value.now) own) b) (packed_from own 0 c.args.value.now)) e
-    ∙ levels_left c.requires _ (apart (goal.at.returns-then-are_zeros c).After-entry_layout-layout h) b refl _ c.entry_layout-layout.ensures.2 c.if-bytes-at.false (sym c.are_zeros.ensures ∙ c.if-are_zeros.true)
+    ∙ levels_left c.requires _ (apart past.After-entry_layout-layout h) b refl _ c.entry_layout-layout.ensures.2 c.if-bytes-at.false (sym c.are_zeros.ensures ∙ c.if-are_zeros.true)
 
 pub returns-else-are_zeros : goal.returns-else-are_zeros
 returns-else-are_zeros c =

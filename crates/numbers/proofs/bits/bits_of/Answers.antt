@@ -22,20 +22,17 @@ few : (c : Start) → length c.args.levels.now ≤ 32
 few c = few_bytes c.args.states c.requires
 
 -- the first levels
-begun : (c : After-bytes_required-k)
+begun : (c : After-bytes_required-k) → 64 / c.bits-per_word.result ≡ per_word c.args.states
     → let a = c.args in
     Begun a.width a.states a.levels.now ((a.width - 1) % (64 / c.bits-per_word.result) + 1) c.bytes_required-k.result
-begun c =
-    let per : 64 / c.bits-per_word.result ≡ per_word c.args.states = ap (λ (b : ℕ). 64 / b) c.bits-per_word.ensures in
-    first_begun c.requires per refl c.bytes_required-k.ensures
+begun c e = first_begun c.requires e refl c.bytes_required-k.ensures
 
-told : (c : After-bits_of_word)
+told : (c : After-bits_of_word) → 64 / c.bits-per_word.result ≡ per_word c.args.states
     → let a = c.args in
     bits_of_levels (codes_so_far a.states a.levels.now ((a.width - 1) % (64 / c.bits-per_word.result) + 1) c.bytes_required-k.result) ≡ c.bits_of_word.result
-told c =
-    let per : 64 / c.bits-per_word.result ≡ per_word c.args.states = ap (λ (b : ℕ). 64 / b) c.bits-per_word.ensures in
+told c e =
     let a = c.args in
-    first_told a.states a.levels.now (word_holds a.states per (a.width - 1)).1 c.bytes_required-k.ensures c.first_word-first.ensures c.bits_of_word.ensures
+    first_told a.states a.levels.now (word_holds a.states e (a.width - 1)).1 c.bytes_required-k.ensures c.first_word-first.ensures c.bits_of_word.ensures
 
 -- one word more
 turn : (c : In-loop-i)
@@ -54,9 +51,7 @@ word_is c =
 -- what is known behind a word
 room : (c : In-loop-i) → let S = c.args.states in (c.loop-i.i + per_word S ≤ c.args.width) × (per_word S < 64)
 room c =
-    let turn : let a = c.args in
-    More a.width a.states a.levels.now c.loop-i.i c.loop-i.k = more c.args.states c.loop-i.invariant.0 c.loop-i-test.true in
-    let h = turn.room in
+    let h = (turn c).room in
     let few = c.requires.few in
     (h, omega (arith, c.loop-i.invariant.0.some))
 
@@ -76,19 +71,24 @@ overflow_add-i c =
 
 pub first_word-first-requires : goal.first_word-first-requires
 first_word-first-requires c =
-    let h = word_holds c.args.states (per (goal.at.first_word-first-requires c).After-bits-per_word) (c.args.width - 1) in
-    (h.0, word_room c.args.states _ h.1, rw (← c.bytes_required-k.ensures) (begun (goal.at.first_word-first-requires c).After-bytes_required-k).within)
+    let past = goal.at.first_word-first-requires c in
+    let h = word_holds c.args.states (per past.After-bits-per_word) (c.args.width - 1) in
+    (h.0, word_room c.args.states _ h.1, rw (← c.bytes_required-k.ensures) (begun past.After-bytes_required-k (per past.After-bits-per_word)).within)
 
 pub returns-in_default : goal.returns-in_default
 returns-in_default c =
-    bits_other _ (other_begun (begun (goal.at.returns-in_default c).After-bytes_required-k) (below_all 256 c.args.levels.now (λ i. omega (arith, c.type_inv.levels i))) (other_bits _ (told (goal.at.returns-in_default c).After-bits_of_word ∙ c.in_default.is)))
+    let past = goal.at.returns-in_default c in
+    bits_other _ (other_begun (begun past.After-bytes_required-k (per past.After-bits-per_word)) (below_all 256 c.args.levels.now (λ i. omega (arith, c.type_inv.levels i))) (other_bits _ (told past.After-bits_of_word (per past.After-bits-per_word) ∙ c.in_default.is)))
 
 pub loop-i-init : goal.loop-i-init
 loop-i-init c =
-    (begun (goal.at.loop-i-init c).After-bytes_required-k, known_bits _ (told (goal.at.loop-i-init c).After-bits_of_word ∙ c.in-Number.is))
+    let past = goal.at.loop-i-init c in
+    (begun past.After-bytes_required-k (per past.After-bits-per_word), known_bits _ (told past.After-bits_of_word (per past.After-bits-per_word) ∙ c.in-Number.is))
 
 pub overflow_add-to : goal.overflow_add-to
-overflow_add-to c = omega (arith, (turn (goal.at.overflow_add-to c).In-loop-i).bytes, few (goal.at.overflow_add-to c).Start)
+overflow_add-to c =
+    let past = goal.at.overflow_add-to c in
+    omega (arith, (turn past.In-loop-i).bytes, few past.Start)
 
 pub slice_bounds-word-start : goal.slice_bounds-word-start
 slice_bounds-word-start c = omega (arith, (turn (goal.at.slice_bounds-word-start c).In-loop-i).bytes)
@@ -104,26 +104,34 @@ word-requires c =
 
 pub returns-in_default-bits_of_word : goal.returns-in_default-bits_of_word
 returns-in_default-bits_of_word c =
+    let past = goal.at.returns-in_default-bits_of_word c in
     bits_other _
-    (other_more (turn (goal.at.returns-in_default-bits_of_word c).In-loop-i) (below_all 256 c.args.levels.now (λ i. omega (arith, c.type_inv.levels i))) c.requires.few (other_bits _ (ap (λ (x : ℕ). bits_of_levels (digits (2 ^ bits_of c.args.states) (per_word c.args.states) x)) (sym (word_is (goal.at.returns-in_default-bits_of_word c).After-word)) ∙ sym c.bits_of_word-in-loop-i.ensures ∙ c.in_default-bits_of_word.is)))
+    (other_more (turn past.In-loop-i) (below_all 256 c.args.levels.now (λ i. omega (arith, c.type_inv.levels i))) c.requires.few (other_bits _ (ap (λ (x : ℕ). bits_of_levels (digits (2 ^ bits_of c.args.states) (per_word c.args.states) x)) (sym (word_is past.After-word)) ∙ sym c.bits_of_word-in-loop-i.ensures ∙ c.in_default-bits_of_word.is)))
 
 pub overflow_cast-working : goal.overflow_cast-working
 overflow_cast-working c = omega (arith, per (goal.at.overflow_cast-working c).After-bits-per_word, per_small c.args.states)
 
 pub overflow_shl-working : goal.overflow_shl-working
-overflow_shl-working c = rw (per (goal.at.overflow_shl-working c).After-bits-per_word) (room (goal.at.overflow_shl-working c).In-loop-i).1
+overflow_shl-working c =
+    let past = goal.at.overflow_shl-working c in
+    rw (per past.After-bits-per_word) (room past.In-loop-i).1
 
 pub overflow_add-i-in-loop-i : goal.overflow_add-i-in-loop-i
-overflow_add-i-in-loop-i c = rw (per (goal.at.overflow_add-i-in-loop-i c).After-bits-per_word) (omega (arith, (room (goal.at.overflow_add-i-in-loop-i c).In-loop-i).0))
+overflow_add-i-in-loop-i c =
+    let past = goal.at.overflow_add-i-in-loop-i c in
+    rw (per past.After-bits-per_word) (omega (arith, (room past.In-loop-i).0))
 
 pub loop-i-smaller : goal.loop-i-smaller
-loop-i-smaller c = rw (per (goal.at.loop-i-smaller c).After-bits-per_word) (omega (arith, (room (goal.at.loop-i-smaller c).In-loop-i).0, word_some c.args.states refl))
+loop-i-smaller c =
+    let past = goal.at.loop-i-smaller c in
+    rw (per past.After-bits-per_word) (omega (arith, (room past.In-loop-i).0, word_some c.args.states refl))
 
 pub loop-i-preserved : goal.loop-i-preserved
 loop-i-preserved c =
-    let h = turn (goal.at.loop-i-preserved c).In-loop-i in
-    rw (per (goal.at.loop-i-preserved c).After-bits-per_word)
-    (h.next, known_more h (below_all 256 c.args.levels.now (λ i. omega (arith, c.type_inv.levels i))) c.requires.few c.loop-i.invariant.1 (word_is (goal.at.loop-i-preserved c).After-word) (known_bits _ (sym c.bits_of_word-in-loop-i.ensures ∙ c.in-Number-bits_of_word.is)))
+    let past = goal.at.loop-i-preserved c in
+    let h = turn past.In-loop-i in
+    rw (per past.After-bits-per_word)
+    (h.next, known_more h (below_all 256 c.args.levels.now (λ i. omega (arith, c.type_inv.levels i))) c.requires.few c.loop-i.invariant.1 (word_is past.After-word) (known_bits _ (sym c.bits_of_word-in-loop-i.ensures ∙ c.in-Number-bits_of_word.is)))
 
 pub returns : goal.returns
 returns c =

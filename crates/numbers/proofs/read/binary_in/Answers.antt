@@ -21,7 +21,8 @@ own_part c =
 
 pub binary_of-requires : goal.binary_of-requires
 binary_of-requires c =
-    (rw (c.level_part.ensures, (own_part (goal.at.binary_of-requires c).In-Own).part) (own_part (goal.at.binary_of-requires c).In-Own).levels, (width_known c.args.max_states c.requires.width).0)
+    let past = goal.at.binary_of-requires c in
+    (rw (c.level_part.ensures, (own_part past.In-Own).part) (own_part past.In-Own).levels, (width_known c.args.max_states c.requires.width).0)
 
 pub returns : goal.returns
 returns c =

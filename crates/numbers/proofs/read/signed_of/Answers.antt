@@ -21,9 +21,7 @@ off : (c : After-ones) → c.ones.result - c.args.number ≡ 2 ^ c.args.width - 
 off c = rw c.ones.ensures (omega arith)
 
 off_fits : (c : After-ones) → c.ones.result - c.args.number < 2 ^ 63
-off_fits c =
-    let off : c.ones.result - c.args.number ≡ 2 ^ c.args.width - suc c.args.number = rw c.ones.ensures (omega arith) in
-    rw off (high_fits c.args.width c.args.number c.requires.0 c.requires.1 c.if-number-width-eq0.false)
+off_fits c = rw (off c) (high_fits c.args.width c.args.number c.requires.0 c.requires.1 c.if-number-width-eq0.false)
 
 pub returns : goal.returns
 returns c =

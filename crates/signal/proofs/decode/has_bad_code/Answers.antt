@@ -26,8 +26,7 @@ nine c = nine_bits c.args.states (rw c.bits.ensures at c.if-bits-lt4.false)
 
 within : (c : Else-bits-lt4) → let a = c.args in a.width % 2 ≤ length a.levels.now
 within c =
-    let nine : let a = c.args in a.states ≡ Nine = nine_bits c.args.states (rw c.bits.ensures at c.if-bits-lt4.false) in
-    let h : Levels c.args.width Nine c.args.levels.now = rw nine at c.requires in
+    let h : Levels c.args.width Nine c.args.levels.now = rw (nine c) at c.requires in
     omega (arith, h.long)
 
 below : (c : Else-bits-lt4) → Below 256 c.args.levels.now
@@ -38,7 +37,8 @@ has_bad_first-requires c = (omega arith, within (goal.at.has_bad_first-requires 
 
 pub returns-then-has_bad_first : goal.returns-then-has_bad_first
 returns-then-has_bad_first c =
-    bad_whole (nine (goal.at.returns-then-has_bad_first c).Else-bits-lt4) c.requires (below (goal.at.returns-then-has_bad_first c).Else-bits-lt4) (sym c.if-has_bad_first.true ∙ c.has_bad_first.ensures) refl
+    let past = goal.at.returns-then-has_bad_first c in
+    bad_whole (nine past.Else-bits-lt4) c.requires (below past.Else-bits-lt4) (sym c.if-has_bad_first.true ∙ c.has_bad_first.ensures) refl
 
 pub slice_bounds-has_bad_byte-count : goal.slice_bounds-has_bad_byte-count
 slice_bounds-has_bad_byte-count c = within (goal.at.slice_bounds-has_bad_byte-count c).Else-bits-lt4
@@ -48,9 +48,10 @@ slice_bounds-has_bad_byte-start c = within (goal.at.slice_bounds-has_bad_byte-st
 
 pub returns : goal.returns
 returns c =
+    let past = goal.at.returns c in
     let a = c.args in
     let v = a.levels.now in
     let n = a.width % 2 in
     let t = take_all (length v - n) (drop n v) (rw length-drop (omega arith)) in
-    bad_whole (nine (goal.at.returns c).Else-bits-lt4) c.requires (below (goal.at.returns c).Else-bits-lt4) (sym c.if-has_bad_first.false ∙ c.has_bad_first.ensures)
+    bad_whole (nine past.Else-bits-lt4) c.requires (below past.Else-bits-lt4) (sym c.if-has_bad_first.false ∙ c.has_bad_first.ensures)
     (c.has_bad_byte.ensures ∙ ap (any is_bad_byte) t)

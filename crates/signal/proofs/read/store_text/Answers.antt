@@ -30,22 +30,29 @@ pub level_part-levels-requires : goal.level_part-levels-requires
 level_part-levels-requires c = (own-part (goal.at.level_part-levels-requires c).In-Own).within
 
 pub has_bad_code-requires : goal.has_bad_code-requires
-has_bad_code-requires c = held (goal.at.has_bad_code-requires c).After-level_part-levels (own-part (goal.at.has_bad_code-requires c).In-Own)
+has_bad_code-requires c =
+    let past = goal.at.has_bad_code-requires c in
+    held past.After-level_part-levels (own-part past.In-Own)
 
 pub returns-then-has_bad_code : goal.returns-then-has_bad_code
 returns-then-has_bad_code c =
-    stored_code (own-part (goal.at.returns-then-has_bad_code c).In-Own) (c.level_part-levels.ensures ∙ (own-part (goal.at.returns-then-has_bad_code c).In-Own).part) _
+    let past = goal.at.returns-then-has_bad_code c in
+    stored_code (own-part past.In-Own) (c.level_part-levels.ensures ∙ (own-part past.In-Own).part) _
     (sym c.has_bad_code.ensures ∙ c.if-has_bad_code.true)
 
 pub returns-then-out-width : goal.returns-then-out-width
 returns-then-out-width c =
-    stored_short (own-part (goal.at.returns-then-out-width c).In-Own) (c.level_part-levels.ensures ∙ (own-part (goal.at.returns-then-out-width c).In-Own).part) _
+    let past = goal.at.returns-then-out-width c in
+    stored_short (own-part past.In-Own) (c.level_part-levels.ensures ∙ (own-part past.In-Own).part) _
     (sym c.has_bad_code.ensures ∙ c.if-has_bad_code.false) c.if-out-width.true
 
 pub write_text-requires : goal.write_text-requires
-write_text-requires c = (held (goal.at.write_text-requires c).After-level_part-levels (own-part (goal.at.write_text-requires c).In-Own), c.if-out-width.false)
+write_text-requires c =
+    let past = goal.at.write_text-requires c in
+    (held past.After-level_part-levels (own-part past.In-Own), c.if-out-width.false)
 
 pub returns : goal.returns
 returns c =
-    stored_all (own-part (goal.at.returns c).In-Own) (c.level_part-levels.ensures ∙ (own-part (goal.at.returns c).In-Own).part) _
+    let past = goal.at.returns c in
+    stored_all (own-part past.In-Own) (c.level_part-levels.ensures ∙ (own-part past.In-Own).part) _
     (sym c.has_bad_code.ensures ∙ c.if-has_bad_code.false) c.if-out-width.false c.write_text.ensures

@@ -43,7 +43,8 @@ bounds-begun-i c = in-eight (goal.at.bounds-begun-i c).After-input_at-input
 
 pub begun_at-requires : goal.begun_at-requires
 begun_at-requires c =
-    rw (told (goal.at.begun_at-requires c).After-input_at-input) (input_at (its (goal.at.begun_at-requires c).After-input_at-input) c.requires.1.few refl (c.loop-i.i - 1) (low (goal.at.begun_at-requires c).After-input_at-input) (Reaches c.args.indices.now) c.requires.1.reach)
+    let past = goal.at.begun_at-requires c in
+    rw (told past.After-input_at-input) (input_at (its past.After-input_at-input) c.requires.1.few refl (c.loop-i.i - 1) (low past.After-input_at-input) (Reaches c.args.indices.now) c.requires.1.reach)
 
 pub offset_bounds-begun-i-in-loop-i : goal.offset_bounds-begun-i-in-loop-i
 offset_bounds-begun-i-in-loop-i c = omega (arith, in-eight (goal.at.offset_bounds-begun-i-in-loop-i c).After-input_at-input)
@@ -53,11 +54,12 @@ bounds-begun-i-in-loop-i c = in-eight (goal.at.bounds-begun-i-in-loop-i c).After
 
 pub loop-i-preserved : goal.loop-i-preserved
 loop-i-preserved c =
+    let past = goal.at.loop-i-preserved c in
     let k = get_or c.loop-i.begun (c.loop-i.i - 1) 0 in (
       omega arith,
-      moved_more (its (goal.at.loop-i-preserved c).After-input_at-input) c.requires.1.few refl c.args.indices.now c.args.index
-          c.args.begun.now c.requires.2 c.loop-i.begun (c.loop-i.i - 1) c.loop-i.i (low (goal.at.loop-i-preserved c).After-input_at-input) (omega arith)
-          c.loop-i.invariant.1 _ (c.begun_at.ensures ∙ ap (λ (x : Input). begun_at c.args.index k (next_in c.args.indices.now (cursor x k))) (told (goal.at.loop-i-preserved c).After-input_at-input)),
+      moved_more (its past.After-input_at-input) c.requires.1.few refl c.args.indices.now c.args.index
+          c.args.begun.now c.requires.2 c.loop-i.begun (c.loop-i.i - 1) c.loop-i.i (low past.After-input_at-input) (omega arith)
+          c.loop-i.invariant.1 _ (c.begun_at.ensures ∙ ap (λ (x : Input). begun_at c.args.index k (next_in c.args.indices.now (cursor x k))) (told past.After-input_at-input)),
     )
 
 pub returns : goal.returns

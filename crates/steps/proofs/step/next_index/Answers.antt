@@ -40,15 +40,17 @@ bounds-begun-i c = omega (arith, low (goal.at.bounds-begun-i c).After-input_at-i
 
 pub next_of-requires : goal.next_of-requires
 next_of-requires c =
-    rw (told (goal.at.next_of-requires c).After-input_at-input) (input_at (its (goal.at.next_of-requires c).After-input_at-input) c.requires.1.few refl (c.loop-i.i - 1) (low (goal.at.next_of-requires c).After-input_at-input) (Reaches c.args.indices.now) c.requires.1.reach)
+    let past = goal.at.next_of-requires c in
+    rw (told past.After-input_at-input) (input_at (its past.After-input_at-input) c.requires.1.few refl (c.loop-i.i - 1) (low past.After-input_at-input) (Reaches c.args.indices.now) c.requires.1.reach)
 
 pub loop-i-preserved : goal.loop-i-preserved
-loop-i-preserved c = (
-  omega arith,
-  c.smaller-next.ensures
-      ∙ soonest_more (its (goal.at.loop-i-preserved c).After-input_at-input) c.requires.1.few refl (c.loop-i.i - 1) (low (goal.at.loop-i-preserved c).After-input_at-input) c.args.indices.now c.args.begun.now c.requires.2
-      _ _ (c.next_of.ensures ∙ ap (λ (x : Input). next_in c.args.indices.now (cursor x (get_or c.args.begun.now (c.loop-i.i - 1) 0))) (told (goal.at.loop-i-preserved c).After-input_at-input)) c.loop-i.i (omega arith) c.loop-i.invariant.1,
-)
+loop-i-preserved c =
+    let past = goal.at.loop-i-preserved c in (
+      omega arith,
+      c.smaller-next.ensures
+          ∙ soonest_more (its past.After-input_at-input) c.requires.1.few refl (c.loop-i.i - 1) (low past.After-input_at-input) c.args.indices.now c.args.begun.now c.requires.2
+          _ _ (c.next_of.ensures ∙ ap (λ (x : Input). next_in c.args.indices.now (cursor x (get_or c.args.begun.now (c.loop-i.i - 1) 0))) (told past.After-input_at-input)) c.loop-i.i (omega arith) c.loop-i.invariant.1,
+    )
 
 pub returns : goal.returns
 returns c =

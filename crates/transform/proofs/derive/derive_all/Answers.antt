@@ -33,8 +33,9 @@ steps_fit-requires c = walkable (goal.at.steps_fit-requires c).After-largest_sta
 
 pub write_steps-count-requires : goal.write_steps-count-requires
 write_steps-count-requires c =
+    let past = goal.at.write_steps-count-requires c in
     let a = c.args in
-    (walkable (goal.at.write_steps-count-requires c).After-largest_states-max_states, rw c.entry_size-size.ensures (roomy (walkable (goal.at.write_steps-count-requires c).After-largest_states-max_states) a.out_bytes.now a.out_indices.now c.steps_fit.ensures c.if-steps_fit.true).0)
+    (walkable past.After-largest_states-max_states, rw c.entry_size-size.ensures (roomy (walkable past.After-largest_states-max_states) a.out_bytes.now a.out_indices.now c.steps_fit.ensures c.if-steps_fit.true).0)
 
 pub returns-then-steps_fit : goal.returns-then-steps_fit
 returns-then-steps_fit c =

@@ -150,7 +150,9 @@ pub slice_bounds-write_pieces-end-in-loop-index-2 : goal.slice_bounds-write_piec
 slice_bounds-write_pieces-end-in-loop-index-2 c = sym c.loop-index.invariant.4
 
 pub write_pieces-requires : goal.write_pieces-requires
-write_pieces-requires c = (c.table_of-table.ensures.long, pickable (goal.at.write_pieces-requires c).After-advance (ready-as (goal.at.write_pieces-requires c).After-table_of-table) (next (goal.at.write_pieces-requires c).In-At) (wide-text (goal.at.write_pieces-requires c).At-loop-index (ready (goal.at.write_pieces-requires c).Start) c.loop-index.text refl) _ c.loop-index.invariant.2)
+write_pieces-requires c =
+    let past = goal.at.write_pieces-requires c in
+    (c.table_of-table.ensures.long, pickable past.After-advance (ready-as past.After-table_of-table) (next past.In-At) (wide-text past.At-loop-index (ready past.Start) c.loop-index.text refl) _ c.loop-index.invariant.2)
 
 pub slice_bounds-step_states-end : goal.slice_bounds-step_states-end
 slice_bounds-step_states-end c = numbered (goal.at.slice_bounds-step_states-end c).After-table_of-table
@@ -159,28 +161,37 @@ pub slice_bounds-step_states-end-in-loop-index : goal.slice_bounds-step_states-e
 slice_bounds-step_states-end-in-loop-index c = started (goal.at.slice_bounds-step_states-end-in-loop-index c).After-table_of-table
 
 pub step_states-states-requires : goal.step_states-states-requires
-step_states-states-requires c = (c.table_of-table.ensures.long, (pickable (goal.at.step_states-states-requires c).After-advance (ready-as (goal.at.step_states-states-requires c).After-table_of-table) (next (goal.at.step_states-states-requires c).In-At) (wide-text (goal.at.step_states-states-requires c).At-loop-index (ready (goal.at.step_states-states-requires c).Start) c.loop-index.text refl) _ c.loop-index.invariant.2).shown)
+step_states-states-requires c =
+    let past = goal.at.step_states-states-requires c in
+    (c.table_of-table.ensures.long, (pickable past.After-advance (ready-as past.After-table_of-table) (next past.In-At) (wide-text past.At-loop-index (ready past.Start) c.loop-index.text refl) _ c.loop-index.invariant.2).shown)
 
 pub slice_bounds-text-end : goal.slice_bounds-text-end
-slice_bounds-text-end c = wide-text (goal.at.slice_bounds-text-end c).At-loop-index (ready (goal.at.slice_bounds-text-end c).Start) (text (goal.at.slice_bounds-text-end c).After-step_states-states) (text-long (goal.at.slice_bounds-text-end c).After-step_states-states)
+slice_bounds-text-end c =
+    let past = goal.at.slice_bounds-text-end c in
+    wide-text past.At-loop-index (ready past.Start) (text past.After-step_states-states) (text-long past.After-step_states-states)
 
 pub slice_bounds-value-end : goal.slice_bounds-value-end
-slice_bounds-value-end c = sym (length-take-le _ _ (wide-text (goal.at.slice_bounds-value-end c).At-loop-index (ready (goal.at.slice_bounds-value-end c).Start) (text (goal.at.slice_bounds-value-end c).After-step_states-states) (text-long (goal.at.slice_bounds-value-end c).After-step_states-states)))
+slice_bounds-value-end c =
+    let past = goal.at.slice_bounds-value-end c in
+    sym (length-take-le _ _ (wide-text past.At-loop-index (ready past.Start) (text past.After-step_states-states) (text-long past.After-step_states-states)))
 
 pub append_step-kept-requires : goal.append_step-kept-requires
 append_step-kept-requires c =
-    rw c.entry_size-size.ensures (appendable_on (ready-as (goal.at.append_step-kept-requires c).After-table_of-table) c.loop-index.invariant.0 (next (goal.at.append_step-kept-requires c).In-At) c.advance.ensures (yields (goal.at.append_step-kept-requires c).After-step_states-states) (room (goal.at.append_step-kept-requires c).After-table_of-table))
+    let past = goal.at.append_step-kept-requires c in
+    rw c.entry_size-size.ensures (appendable_on (ready-as past.After-table_of-table) c.loop-index.invariant.0 (next past.In-At) c.advance.ensures (yields past.After-step_states-states) (room past.After-table_of-table))
 
 pub loop-index-smaller : goal.loop-index-smaller
 loop-index-smaller c =
-    fewer (ready-as (goal.at.loop-index-smaller c).After-table_of-table) c.loop-index.invariant.0 (next (goal.at.loop-index-smaller c).In-At) c.advance.ensures
+    let past = goal.at.loop-index-smaller c in
+    fewer (ready-as past.After-table_of-table) c.loop-index.invariant.0 (next past.In-At) c.advance.ensures
 
 pub loop-index-preserved : goal.loop-index-preserved
-loop-index-preserved c = (
-  writing_on (ready-as (goal.at.loop-index-preserved c).After-table_of-table) c.loop-index.invariant.0 (next (goal.at.loop-index-preserved c).In-At) c.advance.ensures (yields (goal.at.loop-index-preserved c).After-step_states-states) (room (goal.at.loop-index-preserved c).After-table_of-table)
-      (rw c.entry_size-size.ensures at c.append_step-kept.ensures) c.put_index.ensures,
-  c.advance.ensures.places,
-  c.loop-index.invariant.2,
-  c.put_index.auto.indices ∙ c.loop-index.invariant.3,
-  text-long (goal.at.loop-index-preserved c).After-step_states-states ∙ c.loop-index.invariant.4,
-)
+loop-index-preserved c =
+    let past = goal.at.loop-index-preserved c in (
+      writing_on (ready-as past.After-table_of-table) c.loop-index.invariant.0 (next past.In-At) c.advance.ensures (yields past.After-step_states-states) (room past.After-table_of-table)
+          (rw c.entry_size-size.ensures at c.append_step-kept.ensures) c.put_index.ensures,
+      c.advance.ensures.places,
+      c.loop-index.invariant.2,
+      c.put_index.auto.indices ∙ c.loop-index.invariant.3,
+      text-long past.After-step_states-states ∙ c.loop-index.invariant.4,
+    )

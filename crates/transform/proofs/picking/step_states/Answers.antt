@@ -55,11 +55,12 @@ pub bounds-begun-i : goal.bounds-begun-i
 bounds-begun-i c = in-eight (goal.at.bounds-begun-i c).In-loop-i
 
 pub shown_entry-entry-requires : goal.shown_entry-entry-requires
-shown_entry-entry-requires c = (
-  omega (arith, in-eight (goal.at.shown_entry-entry-requires c).In-loop-i, c.requires.0.held.started),
-  (shows (goal.at.shown_entry-entry-requires c).In-loop-i).begun,
-  found_fits c.args.numbers.now c.args.starts.now (i (goal.at.shown_entry-entry-requires c).In-loop-i) (sized (goal.at.shown_entry-entry-requires c).In-loop-i) (shows (goal.at.shown_entry-entry-requires c).In-loop-i),
-)
+shown_entry-entry-requires c =
+    let past = goal.at.shown_entry-entry-requires c in (
+      omega (arith, in-eight past.In-loop-i, c.requires.0.held.started),
+      (shows past.In-loop-i).begun,
+      found_fits c.args.numbers.now c.args.starts.now (i past.In-loop-i) (sized past.In-loop-i) (shows past.In-loop-i),
+    )
 
 pub overflow_add-i : goal.overflow_add-i
 overflow_add-i c = omega (arith, in-eight (goal.at.overflow_add-i c).In-loop-i)
@@ -72,17 +73,19 @@ bounds-numbers-i c = omega (arith, in-eight (goal.at.bounds-numbers-i c).In-loop
 
 pub states_in-requires : goal.states_in-requires
 states_in-requires c =
-    found_some c.args.numbers.now c.args.starts.now (i (goal.at.states_in-requires c).In-loop-i) (sized (goal.at.states_in-requires c).In-loop-i) (shows (goal.at.states_in-requires c).In-loop-i) c.shown_entry-entry.ensures
+    let past = goal.at.states_in-requires c in
+    found_some c.args.numbers.now c.args.starts.now (i past.In-loop-i) (sized past.In-loop-i) (shows past.In-loop-i) c.shown_entry-entry.ensures
 
 pub loop-i-preserved : goal.loop-i-preserved
-loop-i-preserved c = (
-  omega arith,
-  c.join-states.ensures
-      ∙ largest_more (its (goal.at.loop-i-preserved c).In-loop-i) c.requires.1.few refl (i (goal.at.loop-i-preserved c).In-loop-i) (low (goal.at.loop-i-preserved c).In-loop-i) c.args.bytes.now c.args.begun.now c.requires.1.places _ _
-      (found_set c.args.numbers.now c.args.starts.now (i (goal.at.loop-i-preserved c).In-loop-i) (sized (goal.at.loop-i-preserved c).In-loop-i) (shows (goal.at.loop-i-preserved c).In-loop-i) c.shown_entry-entry.ensures c.states_in.ensures
-      ∙ ap (λ (x : Input). set_now c.args.bytes.now (cursor x (begun (goal.at.loop-i-preserved c).In-loop-i))) (told (goal.at.loop-i-preserved c).In-loop-i))
-      c.loop-i.i (omega arith) c.loop-i.invariant.1,
-)
+loop-i-preserved c =
+    let past = goal.at.loop-i-preserved c in (
+      omega arith,
+      c.join-states.ensures
+          ∙ largest_more (its past.In-loop-i) c.requires.1.few refl (i past.In-loop-i) (low past.In-loop-i) c.args.bytes.now c.args.begun.now c.requires.1.places _ _
+          (found_set c.args.numbers.now c.args.starts.now (i past.In-loop-i) (sized past.In-loop-i) (shows past.In-loop-i) c.shown_entry-entry.ensures c.states_in.ensures
+          ∙ ap (λ (x : Input). set_now c.args.bytes.now (cursor x (begun past.In-loop-i))) (told past.In-loop-i))
+          c.loop-i.i (omega arith) c.loop-i.invariant.1,
+    )
 
 pub returns : goal.returns
 returns c =

@@ -53,16 +53,21 @@ level_part-levels-requires c =
     found_room c.args.numbers.now c.args.starts.now c.args.extract.signal c.requires.2 c.requires.3.shows c.shown_entry-entry.ensures c.states_in-own.ensures
 
 pub overflow_add-first : goal.overflow_add-first
-overflow_add-first c = omega (arith, within (goal.at.overflow_add-first c).After-struct_known-3-1, (found (goal.at.overflow_add-first c).After-struct_known-3-1).0.short)
+overflow_add-first c =
+    let past = goal.at.overflow_add-first c in
+    omega (arith, within past.After-struct_known-3-1, (found past.After-struct_known-3-1).0.short)
 
 pub overflow_sub-first : goal.overflow_sub-first
 overflow_sub-first c = within (goal.at.overflow_sub-first c).After-struct_known-3-1
 
 pub write_levels_of-requires : goal.write_levels_of-requires
-write_levels_of-requires c = ((found (goal.at.write_levels_of-requires c).After-struct_known-3-1).0, omega (arith, within (goal.at.write_levels_of-requires c).After-struct_known-3-1), c.requires.3.fits)
+write_levels_of-requires c =
+    let past = goal.at.write_levels_of-requires c in
+    ((found past.After-struct_known-3-1).0, omega (arith, within past.After-struct_known-3-1), c.requires.3.fits)
 
 pub returns : goal.returns
 returns c =
+    let past = goal.at.returns c in
     let a = c.args in
     c.write_levels_of.ensures
-    ∙ ap (λ (x : List ℕ). overlay a.text.now a.at (text_of x)) (picked_is (wide (goal.at.returns c).After-struct_known-3-1) (own (goal.at.returns c).After-struct_known-3-1) (held (goal.at.returns c).After-struct_known-3-1) a.extract _ (found (goal.at.returns c).After-struct_known-3-1).1)
+    ∙ ap (λ (x : List ℕ). overlay a.text.now a.at (text_of x)) (picked_is (wide past.After-struct_known-3-1) (own past.After-struct_known-3-1) (held past.After-struct_known-3-1) a.extract _ (found past.After-struct_known-3-1).1)

@@ -56,7 +56,8 @@ bounds-begun-signal c = in-eight (goal.at.bounds-begun-signal c).After-from_u64-
 
 pub write_piece-requires : goal.write_piece-requires
 write_piece-requires c =
-    (in-eight (goal.at.write_piece-requires c).After-from_u64-extract, c.requires.0.held, c.requires.0.sized c.from_u64-extract.result.signal (among (goal.at.write_piece-requires c).After-from_u64-extract), rw (c.loop-i.invariant.1, told (goal.at.write_piece-requires c).After-from_u64-extract) (picks (goal.at.write_piece-requires c).After-from_u64-extract))
+    let past = goal.at.write_piece-requires c in
+    (in-eight past.After-from_u64-extract, c.requires.0.held, c.requires.0.sized c.from_u64-extract.result.signal (among past.After-from_u64-extract), rw (c.loop-i.invariant.1, told past.After-from_u64-extract) (picks past.After-from_u64-extract))
 
 pub overflow_add-at : goal.overflow_add-at
 overflow_add-at c =
@@ -64,19 +65,20 @@ overflow_add-at c =
     omega (arith, (picks (goal.at.overflow_add-at c).After-from_u64-extract).fits)
 
 pub loop-i-preserved : goal.loop-i-preserved
-loop-i-preserved c = (
-  omega arith,
-  c.write_piece.auto.text ∙ c.loop-i.invariant.1,
-  room_more c.requires.1
-      refl (places (goal.at.loop-i-preserved c).After-from_u64-extract) c.loop-i.i c.loop-i-test.true c.from_u64-extract.result c.from_u64-extract.ensures c.loop-i.at c.loop-i.invariant.2,
-  pieces_more c.requires.1
-      refl (places (goal.at.loop-i-preserved c).After-from_u64-extract) c.loop-i.i c.loop-i-test.true c.from_u64-extract.result c.from_u64-extract.ensures c.loop-i.at c.loop-i.invariant.2
-      c.loop-i.text _ c.loop-i.invariant.1
-      (c.write_piece.ensures
-      ∙ ap (λ (x : Input). overlay c.loop-i.text c.loop-i.at (text_of (picked_of c.from_u64-extract.result (levels_now c.args.bytes.now (cursor x (get_or c.args.begun.now c.from_u64-extract.result.signal 0))))))
-      (told (goal.at.loop-i-preserved c).After-from_u64-extract))
-      ∙ c.loop-i.invariant.3,
-)
+loop-i-preserved c =
+    let past = goal.at.loop-i-preserved c in (
+      omega arith,
+      c.write_piece.auto.text ∙ c.loop-i.invariant.1,
+      room_more c.requires.1
+          refl (places past.After-from_u64-extract) c.loop-i.i c.loop-i-test.true c.from_u64-extract.result c.from_u64-extract.ensures c.loop-i.at c.loop-i.invariant.2,
+      pieces_more c.requires.1
+          refl (places past.After-from_u64-extract) c.loop-i.i c.loop-i-test.true c.from_u64-extract.result c.from_u64-extract.ensures c.loop-i.at c.loop-i.invariant.2
+          c.loop-i.text _ c.loop-i.invariant.1
+          (c.write_piece.ensures
+          ∙ ap (λ (x : Input). overlay c.loop-i.text c.loop-i.at (text_of (picked_of c.from_u64-extract.result (levels_now c.args.bytes.now (cursor x (get_or c.args.begun.now c.from_u64-extract.result.signal 0))))))
+          (told past.After-from_u64-extract))
+          ∙ c.loop-i.invariant.3,
+    )
 
 pub shape_of-text : goal.shape_of-text
 shape_of-text c = c.loop-i.invariant.1

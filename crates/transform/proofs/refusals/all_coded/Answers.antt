@@ -40,26 +40,30 @@ returns-then-derivation-width c e = absurd (true≢false (sym e))
 
 pub overflow_cast-whole : goal.overflow_cast-whole
 overflow_cast-whole c =
-    omega (arith, c.width-width.ensures, input_narrow c.requires (slots (goal.at.overflow_cast-whole c).In-loop-i) c.loop-i.i (low (goal.at.overflow_cast-whole c).In-loop-i))
+    let past = goal.at.overflow_cast-whole c in
+    omega (arith, c.width-width.ensures, input_narrow c.requires (slots past.In-loop-i) c.loop-i.i (low past.In-loop-i))
 
 pub used_part-requires : goal.used_part-requires
 used_part-requires c =
+    let past = goal.at.used_part-requires c in
     let i = c.loop-i.i in
-    (standing (input_sound c.requires (slots (goal.at.used_part-requires c).In-loop-i) i (low (goal.at.used_part-requires c).In-loop-i))).room.bytes
+    (standing (input_sound c.requires (slots past.In-loop-i) i (low past.In-loop-i))).room.bytes
 
 pub any_bad_pick-requires : goal.any_bad_pick-requires
 any_bad_pick-requires c =
-    whole_picking c.requires (slots (goal.at.any_bad_pick-requires c).In-loop-i) c.loop-i.i (low (goal.at.any_bad_pick-requires c).In-loop-i) c.width-width.result c.width-width.ensures _ c.used_part.ensures
+    let past = goal.at.any_bad_pick-requires c in
+    whole_picking c.requires (slots past.In-loop-i) c.loop-i.i (low past.In-loop-i) c.width-width.result c.width-width.ensures _ c.used_part.ensures
 
 pub returns-then-any_bad_pick : goal.returns-then-any_bad_pick
 returns-then-any_bad_pick c e = absurd (true≢false (sym e))
 
 pub loop-i-preserved : goal.loop-i-preserved
 loop-i-preserved c =
+    let past = goal.at.loop-i-preserved c in
     let i = c.loop-i.i in (
       omega arith,
-      slot_more c.args.inputs (slots (goal.at.loop-i-preserved c).In-loop-i) i (low (goal.at.loop-i-preserved c).In-loop-i) (uncoded c.args.bytes.now c.args.indices.now)
-          (whole_coded c.requires (slots (goal.at.loop-i-preserved c).In-loop-i) i (low (goal.at.loop-i-preserved c).In-loop-i) c.width-width.result c.width-width.ensures _ c.used_part.ensures
+      slot_more c.args.inputs (slots past.In-loop-i) i (low past.In-loop-i) (uncoded c.args.bytes.now c.args.indices.now)
+          (whole_coded c.requires (slots past.In-loop-i) i (low past.In-loop-i) c.width-width.result c.width-width.ensures _ c.used_part.ensures
           _ c.any_bad_pick.ensures c.if-any_bad_pick.false)
           c.loop-i.invariant.1,
     )

@@ -20,10 +20,8 @@ use Rattle.transform.proofs.refusals.any_bad_piece.Goals as goal
 good : (s : Start) → is_bad_derivation s.args.derivation ≡ false
 good s = (fit s.args.derivation s.args.inputs.count (kept_all s.args.bytes.now s.args.indices.now s.args.inputs) s.requires.fit).sound
 
-few : (t : In-loop-i) → t.loop-i.i < 64
-few t =
-    let good : is_bad_derivation t.args.derivation ≡ false = (fit t.args.derivation t.args.inputs.count (kept_all t.args.bytes.now t.args.indices.now t.args.inputs) t.requires.fit).sound in
-    piece_low t.args.derivation (sized t.args.derivation _ t.well_formed.0).bits good t.loop-i.i t.loop-i-test.true
+few : (t : In-loop-i) → is_bad_derivation t.args.derivation ≡ false → t.loop-i.i < 64
+few t sound = piece_low t.args.derivation (sized t.args.derivation _ t.well_formed.0).bits sound t.loop-i.i t.loop-i-test.true
 
 -- the piece at hand
 module _ (f : After-from_u64-extract) where
@@ -52,10 +50,10 @@ pub loop-i-init : goal.loop-i-init
 loop-i-init c = (omega arith, clear_none)
 
 pub offset_bounds-derivation-i : goal.offset_bounds-derivation-i
-offset_bounds-derivation-i c = omega (arith, few (goal.at.offset_bounds-derivation-i c).In-loop-i)
+offset_bounds-derivation-i c = omega (arith, few (goal.at.offset_bounds-derivation-i c).In-loop-i (good (goal.at.offset_bounds-derivation-i c).Start))
 
 pub bounds-derivation-i : goal.bounds-derivation-i
-bounds-derivation-i c = few (goal.at.bounds-derivation-i c).In-loop-i
+bounds-derivation-i c = few (goal.at.bounds-derivation-i c).In-loop-i (good (goal.at.bounds-derivation-i c).Start)
 
 pub offset_bounds-inputs-extract : goal.offset_bounds-inputs-extract
 offset_bounds-inputs-extract c = omega (arith, low (goal.at.offset_bounds-inputs-extract c).After-from_u64-extract)
@@ -65,24 +63,28 @@ bounds-inputs-extract c = omega (arith, low (goal.at.bounds-inputs-extract c).Af
 
 pub used_part-requires : goal.used_part-requires
 used_part-requires c =
+    let past = goal.at.used_part-requires c in
     let a = c.args in
-    (standing (input_good c.requires (bits (goal.at.used_part-requires c).After-from_u64-extract) (full (goal.at.used_part-requires c).After-from_u64-extract) c.loop-i.i c.loop-i-test.true c.from_u64-extract.ensures)).room.bytes
+    (standing (input_good c.requires (bits past.After-from_u64-extract) (full past.After-from_u64-extract) c.loop-i.i c.loop-i-test.true c.from_u64-extract.ensures)).room.bytes
 
 pub any_bad_pick-requires : goal.any_bad_pick-requires
 any_bad_pick-requires c =
+    let past = goal.at.any_bad_pick-requires c in
     let a = c.args in
-    rw c.used_part.ensures (picking c.requires (bits (goal.at.any_bad_pick-requires c).After-from_u64-extract) (full (goal.at.any_bad_pick-requires c).After-from_u64-extract) c.loop-i.i c.loop-i-test.true c.from_u64-extract.ensures)
+    rw c.used_part.ensures (picking c.requires (bits past.After-from_u64-extract) (full past.After-from_u64-extract) c.loop-i.i c.loop-i-test.true c.from_u64-extract.ensures)
 
 pub returns-then-any_bad_pick : goal.returns-then-any_bad_pick
 returns-then-any_bad_pick c =
-    sym (piece_one c.args.derivation (bits (goal.at.returns-then-any_bad_pick c).After-from_u64-extract) (good (goal.at.returns-then-any_bad_pick c).Start) c.loop-i.i c.loop-i-test.true c.from_u64-extract.result c.from_u64-extract.ensures (test (goal.at.returns-then-any_bad_pick c).After-from_u64-extract) (told (goal.at.returns-then-any_bad_pick c).After-any_bad_pick true c.if-any_bad_pick.true))
+    let past = goal.at.returns-then-any_bad_pick c in
+    sym (piece_one c.args.derivation (bits past.After-from_u64-extract) (good past.Start) c.loop-i.i c.loop-i-test.true c.from_u64-extract.result c.from_u64-extract.ensures (test past.After-from_u64-extract) (told past.After-any_bad_pick true c.if-any_bad_pick.true))
 
 pub loop-i-preserved : goal.loop-i-preserved
-loop-i-preserved c = (
-  omega arith,
-  piece_more c.args.derivation (bits (goal.at.loop-i-preserved c).After-from_u64-extract) (good (goal.at.loop-i-preserved c).Start) c.loop-i.i c.loop-i-test.true c.from_u64-extract.result c.from_u64-extract.ensures (test (goal.at.loop-i-preserved c).After-from_u64-extract) (told (goal.at.loop-i-preserved c).After-any_bad_pick false c.if-any_bad_pick.false)
-      c.loop-i.invariant.1,
-)
+loop-i-preserved c =
+    let past = goal.at.loop-i-preserved c in (
+      omega arith,
+      piece_more c.args.derivation (bits past.After-from_u64-extract) (good past.Start) c.loop-i.i c.loop-i-test.true c.from_u64-extract.result c.from_u64-extract.ensures (test past.After-from_u64-extract) (told past.After-any_bad_pick false c.if-any_bad_pick.false)
+          c.loop-i.invariant.1,
+    )
 
 pub returns : goal.returns
 returns c =

@@ -1,7 +1,6 @@
 -- `transform::refusals::first_refusal` meets its contract.
 -- Assumes nothing.
 use mathlib.Core.Bool.{Bool, false, true≢false}
-use mathlib.Core.List.{List}
 use mathlib.Core.Path.{◌∙◌, ◌≡◌, sym}
 use Rattle.value.specs.Slice.{any}
 use Rattle.value.proofs.Lists.{any_map}
@@ -11,9 +10,6 @@ use Rattle.steps.specs.declared.Input.{Input}
 use Rattle.transform.proofs.RefusalsInOrder.{first_bad, first_code, first_falls, first_late, first_mark, first_none, first_unfit}
 use Rattle.transform.proofs.refusals.first_refusal.Goals.{Else-any_fails, Start}
 use Rattle.transform.proofs.refusals.first_refusal.Goals as goal
-
-abbrev kept : Start → List Kept
-kept s = kept_all s.args.bytes.now s.args.indices.now s.args.inputs
 
 -- a test of the records is one of the inputs
 of-all : (s : Start) (test : Kept → Bool) (r b : Bool)
@@ -45,7 +41,8 @@ any_fails-requires-2 c n =
 
 pub returns-then-any_fails-2 : goal.returns-then-any_fails-2
 returns-then-any_fails-2 c =
-    first_late c.args.derivation c.args.inputs c.args.bytes.now c.args.indices.now (stand (goal.at.returns-then-any_fails-2 c).Else-any_fails) (sym c.is_unfit.ensures ∙ c.if-is_unfit.false) (of-all (goal.at.returns-then-any_fails-2 c).Start starts_late _ _ c.any_fails-2.ensures c.if-any_fails-2.true)
+    let past = goal.at.returns-then-any_fails-2 c in
+    first_late c.args.derivation c.args.inputs c.args.bytes.now c.args.indices.now (stand past.Else-any_fails) (sym c.is_unfit.ensures ∙ c.if-is_unfit.false) (of-all past.Start starts_late _ _ c.any_fails-2.ensures c.if-any_fails-2.true)
 
 pub any_fails-requires-3 : goal.any_fails-requires-3
 any_fails-requires-3 c n =
@@ -53,7 +50,8 @@ any_fails-requires-3 c n =
 
 pub returns-then-any_fails-3 : goal.returns-then-any_fails-3
 returns-then-any_fails-3 c =
-    first_falls c.args.derivation c.args.inputs c.args.bytes.now c.args.indices.now (stand (goal.at.returns-then-any_fails-3 c).Else-any_fails) (sym c.is_unfit.ensures ∙ c.if-is_unfit.false) (of-all (goal.at.returns-then-any_fails-3 c).Start starts_late _ _ c.any_fails-2.ensures c.if-any_fails-2.false) (of-all (goal.at.returns-then-any_fails-3 c).Start indices_fall _ _ c.any_fails-3.ensures c.if-any_fails-3.true)
+    let past = goal.at.returns-then-any_fails-3 c in
+    first_falls c.args.derivation c.args.inputs c.args.bytes.now c.args.indices.now (stand past.Else-any_fails) (sym c.is_unfit.ensures ∙ c.if-is_unfit.false) (of-all past.Start starts_late _ _ c.any_fails-2.ensures c.if-any_fails-2.false) (of-all past.Start indices_fall _ _ c.any_fails-3.ensures c.if-any_fails-3.true)
 
 pub any_fails-requires-4 : goal.any_fails-requires-4
 any_fails-requires-4 c n =
@@ -61,24 +59,28 @@ any_fails-requires-4 c n =
 
 pub returns-then-any_fails-4 : goal.returns-then-any_fails-4
 returns-then-any_fails-4 c =
-    first_mark c.args.derivation c.args.inputs c.args.bytes.now c.args.indices.now (stand (goal.at.returns-then-any_fails-4 c).Else-any_fails) (sym c.is_unfit.ensures ∙ c.if-is_unfit.false) (of-all (goal.at.returns-then-any_fails-4 c).Start starts_late _ _ c.any_fails-2.ensures c.if-any_fails-2.false) (of-all (goal.at.returns-then-any_fails-4 c).Start indices_fall _ _ c.any_fails-3.ensures c.if-any_fails-3.false) (of-all (goal.at.returns-then-any_fails-4 c).Start mark_is_bad _ _ c.any_fails-4.ensures c.if-any_fails-4.true)
+    let past = goal.at.returns-then-any_fails-4 c in
+    first_mark c.args.derivation c.args.inputs c.args.bytes.now c.args.indices.now (stand past.Else-any_fails) (sym c.is_unfit.ensures ∙ c.if-is_unfit.false) (of-all past.Start starts_late _ _ c.any_fails-2.ensures c.if-any_fails-2.false) (of-all past.Start indices_fall _ _ c.any_fails-3.ensures c.if-any_fails-3.false) (of-all past.Start mark_is_bad _ _ c.any_fails-4.ensures c.if-any_fails-4.true)
 
 pub any_bad_code-requires : goal.any_bad_code-requires
 any_bad_code-requires c =
-    record { stand = stand (goal.at.any_bad_code-requires c).Else-any_fails; fit = sym c.is_unfit.ensures ∙ c.if-is_unfit.false; marked = of-all (goal.at.any_bad_code-requires c).Start mark_is_bad _ _ c.any_fails-4.ensures c.if-any_fails-4.false }
+    let past = goal.at.any_bad_code-requires c in
+    record { stand = stand past.Else-any_fails; fit = sym c.is_unfit.ensures ∙ c.if-is_unfit.false; marked = of-all past.Start mark_is_bad _ _ c.any_fails-4.ensures c.if-any_fails-4.false }
 
 pub returns-then-any_bad_code : goal.returns-then-any_bad_code
 returns-then-any_bad_code c =
-    first_code c.args.derivation c.args.inputs c.args.bytes.now c.args.indices.now (stand (goal.at.returns-then-any_bad_code c).Else-any_fails) (sym c.is_unfit.ensures ∙ c.if-is_unfit.false) (of-all (goal.at.returns-then-any_bad_code c).Start starts_late _ _ c.any_fails-2.ensures c.if-any_fails-2.false) (of-all (goal.at.returns-then-any_bad_code c).Start indices_fall _ _ c.any_fails-3.ensures c.if-any_fails-3.false) (of-all (goal.at.returns-then-any_bad_code c).Start mark_is_bad _ _ c.any_fails-4.ensures c.if-any_fails-4.false) (sym c.any_bad_code.ensures ∙ c.if-any_bad_code.true)
+    let past = goal.at.returns-then-any_bad_code c in
+    first_code c.args.derivation c.args.inputs c.args.bytes.now c.args.indices.now (stand past.Else-any_fails) (sym c.is_unfit.ensures ∙ c.if-is_unfit.false) (of-all past.Start starts_late _ _ c.any_fails-2.ensures c.if-any_fails-2.false) (of-all past.Start indices_fall _ _ c.any_fails-3.ensures c.if-any_fails-3.false) (of-all past.Start mark_is_bad _ _ c.any_fails-4.ensures c.if-any_fails-4.false) (sym c.any_bad_code.ensures ∙ c.if-any_bad_code.true)
 
 pub returns : goal.returns
 returns c =
+    let past = goal.at.returns c in
     first_none c.args.derivation c.args.inputs c.args.bytes.now c.args.indices.now
     (record {
-      stand = stand (goal.at.returns c).Else-any_fails;
+      stand = stand past.Else-any_fails;
       fit = sym c.is_unfit.ensures ∙ c.if-is_unfit.false;
-      begun = of-all (goal.at.returns c).Start starts_late _ _ c.any_fails-2.ensures c.if-any_fails-2.false;
-      rising = of-all (goal.at.returns c).Start indices_fall _ _ c.any_fails-3.ensures c.if-any_fails-3.false;
-      marked = of-all (goal.at.returns c).Start mark_is_bad _ _ c.any_fails-4.ensures c.if-any_fails-4.false;
+      begun = of-all past.Start starts_late _ _ c.any_fails-2.ensures c.if-any_fails-2.false;
+      rising = of-all past.Start indices_fall _ _ c.any_fails-3.ensures c.if-any_fails-3.false;
+      marked = of-all past.Start mark_is_bad _ _ c.any_fails-4.ensures c.if-any_fails-4.false;
       coded = sym c.any_bad_code.ensures ∙ c.if-any_bad_code.false;
     })

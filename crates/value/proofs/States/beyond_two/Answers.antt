@@ -45,7 +45,8 @@ returns-then-four-eq0 c =
 
 pub returns-then-nine-eq0 : goal.returns-then-nine-eq0
 returns-then-nine-eq0 c =
-    sym (is_nine _ (sym (ne_eqb _ 0 c.if-four-eq0.false) ∙ four-holds (goal.at.returns-then-nine-eq0 c).After-loop-i) (sym (eq-eqb _ 0 c.if-nine-eq0.true) ∙ nine-holds (goal.at.returns-then-nine-eq0 c).After-loop-i))
+    let past = goal.at.returns-then-nine-eq0 c in
+    sym (is_nine _ (sym (ne_eqb _ 0 c.if-four-eq0.false) ∙ four-holds past.After-loop-i) (sym (eq-eqb _ 0 c.if-nine-eq0.true) ∙ nine-holds past.After-loop-i))
 
 pub returns-else-nine-eq0 : goal.returns-else-nine-eq0
 returns-else-nine-eq0 c = sym (is_foreign_lem _ (sym (ne_eqb _ 0 c.if-nine-eq0.false) ∙ nine-holds (goal.at.returns-else-nine-eq0 c).After-loop-i))

@@ -44,10 +44,7 @@ differs : (l : After-levels_at-levels)
     eqb (get_or b l.loop-from.to 0) (l.levels_at-levels.result / 256) && eqb (get_or b (l.loop-from.to + 1) 0) (bit_and l.levels_at-levels.result 255) ≡ false
     → false ≡ agree Four b l.args.at l.args.value.now
 differs l e =
-    let compared : let b = l.args.bytes.now in
-    same (part l.loop-from.to 2 b) (packed_from Four 0 (part l.loop-from.from 8 l.args.value.now))
-    ≡ eqb (get_or b l.loop-from.to 0) (l.levels_at-levels.result / 256) && eqb (get_or b (l.loop-from.to + 1) 0) (bit_and l.levels_at-levels.result 255) = word_same l.requires.0 l.loop-from.invariant.passed l.loop-from-test.true l.levels_at-levels.ensures l.args.bytes.now refl in
-    agrees_not l.requires.0 l.loop-from.invariant refl l.loop-from-test.true (compared ∙ e)
+    agrees_not l.requires.0 l.loop-from.invariant refl l.loop-from-test.true (compared l ∙ e)
 
 pub returns-then-wide-levels : goal.returns-then-wide-levels
 returns-then-wide-levels c =

@@ -31,7 +31,8 @@ loop-k-preserved c =
 
 pub returns : goal.returns
 returns c =
+    let past = goal.at.returns c in
     let cs = c.args.codes in
     c.loop-k.invariant.1
-    ∙ ap (λ (l : List ℕ). overlay (replicate 16 0) 0 (packed_with 4 0 l)) (take_all (2 * c.loop-k.k) cs (omega (arith, levels (goal.at.returns c).Start)))
-    ∙ overlay_whole (replicate 16 0) (packed_with 4 0 cs) (packed_length 4 0 cs ∙ rw (levels (goal.at.returns c).Start))
+    ∙ ap (λ (l : List ℕ). overlay (replicate 16 0) 0 (packed_with 4 0 l)) (take_all (2 * c.loop-k.k) cs (omega (arith, levels past.Start)))
+    ∙ overlay_whole (replicate 16 0) (packed_with 4 0 cs) (packed_length 4 0 cs ∙ rw (levels past.Start))

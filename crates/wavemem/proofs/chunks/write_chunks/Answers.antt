@@ -32,7 +32,8 @@ join_pairs-joined-requires c =
 
 pub write_block-requires : goal.write_block-requires
 write_block-requires c =
-    omega (arith, fits (goal.at.write_block-requires c).In-loop-from, long (goal.at.write_block-requires c).At-loop-from)
+    let past = goal.at.write_block-requires c in
+    omega (arith, fits past.In-loop-from, long past.At-loop-from)
 
 pub overflow_add-from : goal.overflow_add-from
 overflow_add-from c =

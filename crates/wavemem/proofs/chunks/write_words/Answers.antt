@@ -31,7 +31,9 @@ pub overflow_cast-out : goal.overflow_cast-out
 overflow_cast-out c = search (rules, low_byte)
 
 pub bounds-out-to : goal.bounds-out-to
-bounds-out-to c = omega (arith, fits (goal.at.bounds-out-to c).In-loop-from, long (goal.at.bounds-out-to c).At-loop-from)
+bounds-out-to c =
+    let past = goal.at.bounds-out-to c in
+    omega (arith, fits past.In-loop-from, long past.At-loop-from)
 
 pub overflow_cast-out-in-loop-from : goal.overflow_cast-out-in-loop-from
 overflow_cast-out-in-loop-from c = search (rules, low_byte)
@@ -40,7 +42,9 @@ pub overflow_add-out : goal.overflow_add-out
 overflow_add-out c = omega (arith, fits (goal.at.overflow_add-out c).In-loop-from)
 
 pub bounds-out-to-in-loop-from : goal.bounds-out-to-in-loop-from
-bounds-out-to-in-loop-from c = rw length-set (omega (arith, fits (goal.at.bounds-out-to-in-loop-from c).In-loop-from, long (goal.at.bounds-out-to-in-loop-from c).At-loop-from))
+bounds-out-to-in-loop-from c =
+    let past = goal.at.bounds-out-to-in-loop-from c in
+    rw length-set (omega (arith, fits past.In-loop-from, long past.At-loop-from))
 
 pub overflow_add-from : goal.overflow_add-from
 overflow_add-from c = omega (arith, within (goal.at.overflow_add-from c).In-loop-from, c.requires.0.short)

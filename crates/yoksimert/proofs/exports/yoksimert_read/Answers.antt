@@ -33,7 +33,9 @@ pub overflow_add-end-in-Entry : goal.overflow_add-end-in-Entry
 overflow_add-end-in-Entry c = omega (arith, (at (goal.at.overflow_add-end-in-Entry c).After-level_length-length).0)
 
 pub overflow_sub-result : goal.overflow_sub-result
-overflow_sub-result c = omega (arith, (at (goal.at.overflow_sub-result c).After-level_length-length).0, (at (goal.at.overflow_sub-result c).After-level_length-length).1)
+overflow_sub-result c =
+    let past = goal.at.overflow_sub-result c in
+    omega (arith, (at past.After-level_length-length).0, (at past.After-level_length-length).1)
 
 pub returns-in-Refused : goal.returns-in-Refused
 returns-in-Refused c =
