@@ -11,8 +11,7 @@ use lib.Bits.{bit_or, bit_and, or_add_and, or_zero_l, and_le_r}
 use lib.ListN.{length, get_or, take}
 use Rattle.value.specs.declared.States.{States}
 use Rattle.value.specs.declared.States.TheVariants.{Two, Four, Nine}
-use Rattle.value.specs.declared.StatesAnswer.{StatesAnswer}
-use Rattle.value.specs.declared.StatesAnswer.TheVariants as answer
+use Rattle.std.specs.Prelude.{Option, Some, None}
 use Rattle.value.specs.Slice.{any}
 use Rattle.value.specs.Level.{code_of, fold, fold_all, codes_of, place_in, mark_of, codes_in, has_no_code, set_of, least_of, join_all}
 use Rattle.value.specs.Answer.{least_states, holds_one, holds_all}
@@ -136,46 +135,46 @@ module _ (v : List ℕ) where
   unfolding holds_all
   beyond N e = not_false (any (leb (codes_in N)) codes) e
 
-  is : (N : States) → codes_in N ≤ 9 → true ≡ holds_all N v → mark_of (least_of codes) ≡ mark_of N → least_states v ≡ answer.Least N
-  is N h e m = least_states_lem v (below_mono (codes_in N) 9 codes h (within N e)) ∙ ap answer.Least (mark_inj (least_of codes) N m)
+  is : (N : States) → codes_in N ≤ 9 → true ≡ holds_all N v → mark_of (least_of codes) ≡ mark_of N → least_states v ≡ Some N
+  is N h e m = least_states_lem v (below_mono (codes_in N) 9 codes h (within N e)) ∙ ap Some (mark_inj (least_of codes) N m)
 
-  pub is_two : true ≡ holds_all Two v → least_states v ≡ answer.Least Two
+  pub is_two : true ≡ holds_all Two v → least_states v ≡ Some Two
   is_two e = is Two (omega arith) e (omega (arith, least_within Two codes (within Two e)))
 
-  pub is_four : false ≡ holds_all Two v → true ≡ holds_all Four v → least_states v ≡ answer.Least Four
+  pub is_four : false ≡ holds_all Two v → true ≡ holds_all Four v → least_states v ≡ Some Four
   is_four d e = is Four (omega arith) e (omega (arith, least_within Four codes (within Four e), least_beyond Two codes (omega arith) (beyond Two d)))
 
-  pub is_nine : false ≡ holds_all Four v → true ≡ holds_all Nine v → least_states v ≡ answer.Least Nine
+  pub is_nine : false ≡ holds_all Four v → true ≡ holds_all Nine v → least_states v ≡ Some Nine
   is_nine d e = is Nine (omega arith) e (omega (arith, mark_small (least_of codes), least_beyond Four codes (omega arith) (beyond Four d)))
 
-  pub is_foreign_lem : false ≡ holds_all Nine v → least_states v ≡ answer.Foreign
+  pub is_foreign_lem : false ≡ holds_all Nine v → least_states v ≡ None
   unfolding least_states
   is_foreign_lem e = rw (beyond Nine e)
 
 -- ---- what the least set of a string says
 
-told : (s : List ℕ) (a : StatesAnswer) → least_states s ≡ a
-    → (b : Bool) → has_no_code (codes_of (fold_all s)) ≡ b → cond b answer.Foreign (answer.Least (least_of (codes_of (fold_all s)))) ≡ a
+told : (s : List ℕ) (a : Option States) → least_states s ≡ a
+    → (b : Bool) → has_no_code (codes_of (fold_all s)) ≡ b → cond b None (Some (least_of (codes_of (fold_all s)))) ≡ a
 unfolding least_states
 told s a e b h = rw (← h) e
 
-pub foreign_told : (s : List ℕ) → least_states s ≡ answer.Foreign → has_no_code (codes_of (fold_all s)) ≡ true
+pub foreign_told : (s : List ℕ) → least_states s ≡ None → has_no_code (codes_of (fold_all s)) ≡ true
 foreign_told s e = go (has_no_code (codes_of (fold_all s))) refl
   where
     go : (b : Bool) → has_no_code (codes_of (fold_all s)) ≡ b → has_no_code (codes_of (fold_all s)) ≡ true
     go true h = h
     go false h =
-        let q = told s answer.Foreign e false h in
+        let q = told s None e false h in
         let z : ◌≡◌ {A = ℕ} 0 1 = cc in
         absurd (omega arith)
 
-pub least_told : (s : List ℕ) (own : States) → least_states s ≡ answer.Least own
+pub least_told : (s : List ℕ) (own : States) → least_states s ≡ Some own
     → (has_no_code (codes_of (fold_all s)) ≡ false) × (own ≡ least_of (codes_of (fold_all s)))
 least_told s own e = go (has_no_code (codes_of (fold_all s))) refl
   where
     go : (b : Bool) → has_no_code (codes_of (fold_all s)) ≡ b → (has_no_code (codes_of (fold_all s)) ≡ false) × (own ≡ least_of (codes_of (fold_all s)))
     go true h =
-        let q = told s (answer.Least own) e true h in
+        let q = told s (Some own) e true h in
         let z : ◌≡◌ {A = ℕ} 0 1 = cc in
         absurd (omega arith)
-    go false h = let q = told s (answer.Least own) e false h in (h, cc)
+    go false h = let q = told s (Some own) e false h in (h, cc)

@@ -14,7 +14,7 @@ use lib.ListN.{length, get_or, take}
 use lib.Seq.{take-suc}
 use Rattle.value.specs.declared.States.{States}
 use Rattle.value.specs.declared.States.TheVariants.{Two, Four, Nine}
-use Rattle.value.specs.declared.StatesAnswer.TheVariants as answer
+use Rattle.std.specs.Prelude.{Some}
 use Rattle.value.specs.Level.{letters, place_in, code_of, letter_of, fold, fold_all, codes_of, text_of, mark_of, bits_of, has_no_code, set_at, join, set_of, least_of, len_of, join_all}
 use Rattle.value.specs.Answer.{least_states}
 use Rattle.value.proofs.Tests.{by_le, at_below}
@@ -252,6 +252,6 @@ codes_more s i h =
     (ap (λ (l : List ℕ). codes_of l) (map-append fold (take i s) (get_or s i 0 ∷ []))
     ∙ map-append code_of (fold_all (take i s)) (fold (get_or s i 0) ∷ []))
 
-pub least_states_lem : (s : List ℕ) → Below 9 (codes_of (fold_all s)) → least_states s ≡ answer.Least (least_of (codes_of (fold_all s)))
+pub least_states_lem : (s : List ℕ) → Below 9 (codes_of (fold_all s)) → least_states s ≡ Some (least_of (codes_of (fold_all s)))
 unfolding least_states
 least_states_lem s b = rw (none_foreign (codes_of (fold_all s)) b)

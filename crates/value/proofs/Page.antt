@@ -6,7 +6,7 @@ use Prim.Native.Nat.{ℕ, ◌<◌}
 use Prim.Native.Char.{code}
 use borrow.Author.Tests.{eqb-true, ne_eqb}
 use lib.Dec.{eqb}
-use Rattle.value.specs.declared.CharCode.TheVariants.{Foreign}
+use Rattle.std.specs.Prelude.{None}
 use Rattle.value.specs.Level.{code_of, fold, place_in}
 use Rattle.value.specs.Page.{Line, ◌is◌, page, code_on}
 use Rattle.value.specs.Answer.{char_code}
@@ -27,6 +27,6 @@ unfolding code_on
 off c [] none = (none, refl)
 off c (l is n ∷ lines) none = let (before, rest) = off c lines none in (before.0, rw (ne_eqb (code l) c (λ e. before.1 (sym e))) rest)
 
-pub off_page : (c : ℕ) → c < 256 → NoneIn Unit page c → Foreign ≡ char_code c
+pub off_page : (c : ℕ) → c < 256 → NoneIn Unit page c → None ≡ char_code c
 unfolding char_code
 off_page c h none = rw (← same_codes c h, (off c page none).1)

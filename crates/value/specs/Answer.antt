@@ -1,22 +1,23 @@
 -- Inner: the answers of the functions on characters and levels, by document 01's codes and sets.
 -- Assumes nothing.
-use Rattle.std.specs.Prelude.{ℕ, ◌+◌, ◌*◌, ◌^◌, ◌/◌, ◌%◌, ◌≤◌, Bool, cond, not, List, leb}
-use Rattle.value.specs.declared.CharCode.{CharCode}
-use Rattle.value.specs.declared.CharCode.TheVariants as code
-use Rattle.value.specs.declared.StatesAnswer.{StatesAnswer}
-use Rattle.value.specs.declared.StatesAnswer.TheVariants as answer
+use Rattle.std.specs.Prelude.{ℕ, ◌+◌, ◌*◌, ◌^◌, ◌/◌, ◌%◌, ◌≤◌, Bool, cond, not, List, leb, Option, Some, None, Result, Ok, Err}
+use Rattle.value.specs.declared.NoMark.{NoMark}
 use Rattle.value.specs.Digits.{number}
 use Rattle.value.specs.declared.States.{States}
 use Rattle.value.specs.Slice.{any}
-use Rattle.value.specs.Level.{fold, fold_all, code_of, codes_of, is_no_code, has_no_code, codes_in, least_of}
+use Rattle.value.specs.Level.{fold, fold_all, code_of, codes_of, is_no_code, has_no_code, codes_in, least_of, set_at}
 
--- the code of a byte, small or capital
-unfoldable pub char_code : ℕ → CharCode
-char_code c = let n = code_of (fold c) in cond (is_no_code n) code.Foreign (code.Code n)
+-- the code of a byte, small or capital; a foreign byte has none
+unfoldable pub char_code : ℕ → Option ℕ
+char_code c = let n = code_of (fold c) in cond (is_no_code n) None (Some n)
 
--- the least set of a string
-unfoldable pub least_states : List ℕ → StatesAnswer
-least_states s = let codes = codes_of (fold_all s) in cond (has_no_code codes) answer.Foreign (answer.Least (least_of codes))
+-- the least set of a string; one with a foreign byte has none
+unfoldable pub least_states : List ℕ → Option States
+least_states s = let codes = codes_of (fold_all s) in cond (has_no_code codes) None (Some (least_of codes))
+
+-- the set of a mark
+abbrev pub set_of_mark : ℕ → Result States NoMark
+set_of_mark m = cond (leb m 2) (Ok (set_at m)) (Err (record {}))
 
 -- is the code of a byte, and are those of all bytes of a string, among so many
 unfoldable pub holds_one : ℕ → ℕ → Bool

@@ -1,68 +1,60 @@
 // Levels and state sets, after wellen's src/signal/value.rs.
 #![tactic(auto)]
 
-ghost use Rattle.std.specs.Prelude.{◌≡◌, false, ◌-◌, ◌/◌, ◌^◌, min, eqb, length};
+ghost use Rattle.std.specs.Prelude.{◌≡◌, false, ◌-◌, ◌/◌, ◌^◌, eqb, length};
 ghost use Rattle.value.specs.Level.{letter_of, mark_of, bits_of, len_of};
 ghost use Rattle.value.specs.Level as level;
-ghost use Rattle.value.specs.Answer.{char_code, least_states, holds_one, holds_all, level_at, LevelIn};
+ghost use Rattle.value.specs.Answer.{char_code, least_states, set_of_mark, holds_one, holds_all, level_at, LevelIn};
 
 // A state set, by how many values a level can have.
-#[derive(Clone, Copy)]
+#[derive(Clone, Copy, PartialEq, Eq, PartialOrd, Ord)]
 pub enum States {
     Two,
     Four,
     Nine,
 }
 
-// What a byte of a string stands for.
-#[derive(Clone, Copy)]
-pub enum CharCode {
-    Code(u8),
-    Foreign,
-}
+// A number that is no set's mark.
+#[derive(Clone, Copy, PartialEq, Eq)]
+pub struct NoMark;
 
-// The least set of a string.
-#[derive(Clone, Copy)]
-pub enum StatesAnswer {
-    Least(States),
-    Foreign,
-}
+impl TryFrom<u8> for States {
+    type Error = NoMark;
 
-// In the order of IEEE 1164's own list, then its small letters: as the page has them (specs/Page).
-pub fn bit_char_to_num(value: u8) -> CharCode
-    ensures { result ≡ char_code value }
-{
-    match value {
-        b'U' => CharCode::Code(5),
-        b'X' => CharCode::Code(2),
-        b'0' => CharCode::Code(0),
-        b'1' => CharCode::Code(1),
-        b'Z' => CharCode::Code(3),
-        b'W' => CharCode::Code(6),
-        b'L' => CharCode::Code(7),
-        b'H' => CharCode::Code(4),
-        b'-' => CharCode::Code(8),
-        b'u' => CharCode::Code(5),
-        b'x' => CharCode::Code(2),
-        b'z' => CharCode::Code(3),
-        b'w' => CharCode::Code(6),
-        b'l' => CharCode::Code(7),
-        b'h' => CharCode::Code(4),
-        _ => CharCode::Foreign,
+    ghost try_from_gives = { λ mark r. r ≡ set_of_mark mark };
+
+    fn try_from(mark: u8) -> Result<States, NoMark> {
+        match mark {
+            0 => Ok(States::Two),
+            1 => Ok(States::Four),
+            2 => Ok(States::Nine),
+            _ => Err(NoMark),
+        }
     }
 }
 
-pub fn wide(byte: u8) -> u64
-    ensures { result ≡ byte }
+// The code of a character, none of a foreign byte. In the order of IEEE 1164's own list, then its small letters: as the page has them (specs/Page).
+pub fn bit_char_to_num(value: u8) -> Option<u8>
+    ensures { result ≡ char_code value }
 {
-    byte as u64
-}
-
-// Compiled to one instruction, also of wide ones.
-fn min(a: u8, b: u8) -> u8
-    ensures { result ≡ min a b }
-{
-    if a < b { a } else { b }
+    match value {
+        b'U' => Some(5),
+        b'X' => Some(2),
+        b'0' => Some(0),
+        b'1' => Some(1),
+        b'Z' => Some(3),
+        b'W' => Some(6),
+        b'L' => Some(7),
+        b'H' => Some(4),
+        b'-' => Some(8),
+        b'u' => Some(5),
+        b'x' => Some(2),
+        b'z' => Some(3),
+        b'w' => Some(6),
+        b'l' => Some(7),
+        b'h' => Some(4),
+        _ => None,
+    }
 }
 
 // 0 for 0 1, and another number for every other byte. These three have no loads and no jumps, so that a loop over them is compiled to
@@ -77,7 +69,7 @@ fn beside_two(value: u8) -> u8
 fn beside_four(value: u8) -> u8
     ensures { eqb result 0 ≡ holds_one 4 value }
 {
-    min(beside_two(value), ((value | 32) & 253) ^ b'x')
+    beside_two(value).min(((value | 32) & 253) ^ b'x')
 }
 
 // 0 for 0 1 x z h u w l -.
@@ -85,8 +77,8 @@ fn beside_nine(value: u8) -> u8
     ensures { eqb result 0 ≡ holds_one 9 value }
 {
     let small = value | 32;
-    let letter = min((small & 253) ^ b'u', (small & 251) ^ b'h');
-    min(beside_four(value), min(letter, value ^ b'-'))
+    let letter = ((small & 253) ^ b'u').min((small & 251) ^ b'h');
+    beside_four(value).min(letter.min(value ^ b'-'))
 }
 
 // Whether every character is 0 or 1.
@@ -122,7 +114,7 @@ pub fn num_to_bit_char(code: u8) -> u8
 
 impl States {
     // The least set of a string that set Two does not hold: Four and Nine are tried in one reading.
-    fn beyond_two(value: &[u8]) -> StatesAnswer
+    fn beyond_two(value: &[u8]) -> Option<States>
         requires { false ≡ holds_all States.Two value.now }
         ensures { result ≡ least_states value.now }
     {
@@ -135,19 +127,19 @@ impl States {
             i += 1;
         }
         if four == 0 {
-            StatesAnswer::Least(States::Four)
+            Some(States::Four)
         } else if nine == 0 {
-            StatesAnswer::Least(States::Nine)
+            Some(States::Nine)
         } else {
-            StatesAnswer::Foreign
+            None
         }
     }
 
-    pub fn from_ascii(value: &[u8]) -> StatesAnswer
+    pub fn from_ascii(value: &[u8]) -> Option<States>
         ensures { result ≡ least_states value.now }
     {
         if is_binary(value) {
-            StatesAnswer::Least(States::Two)
+            Some(States::Two)
         } else {
             States::beyond_two(value)
         }
@@ -156,18 +148,13 @@ impl States {
     pub fn join(a: States, b: States) -> States
         ensures { result ≡ level.join a b }
     {
-        if a.mark() < b.mark() { b } else { a }
+        a.max(b)
     }
 
     pub fn mark(self) -> u8
         ensures { result ≡ mark_of self }
     {
-        let states = self;
-        match states {
-            States::Two => 0,
-            States::Four => 1,
-            States::Nine => 2,
-        }
+        self as u8
     }
 
     // How many bits a level takes.

@@ -3,9 +3,8 @@
 use mathlib.Core.Path.{◌≡◌}
 use mathlib.Core.List.{List}
 use Prim.Native.Nat.{ℕ}
-use native.Mathlib.Omega.{arith}
 use Rattle.value.specs.declared.States.{States}
-use Rattle.value.specs.declared.StatesAnswer.TheVariants as answer
+use Rattle.std.specs.Prelude.{Some}
 use Rattle.value.specs.Level.{fold_all, codes_of}
 use Rattle.value.specs.Answer.{least_states}
 use Rattle.value.proofs.Classes.{least_told}
@@ -14,17 +13,8 @@ use Rattle.value.proofs.Levels as levels
 use Rattle.wavemem.specs.Packed.{Codes}
 
 -- none is foreign, and each is of the set
-pub codes_told : (v : List ℕ) (own : States) → least_states v ≡ answer.Least own → Codes own (codes_of (fold_all v))
+pub codes_told : (v : List ℕ) (own : States) → least_states v ≡ Some own → Codes own (codes_of (fold_all v))
 codes_told v own e =
     let t = least_told v own e in
     let b = all_below_lem (codes_of (fold_all v)) t.0 in
     record { known = b; below = rw t.1 (levels.under (codes_of (fold_all v)) b) }
-
--- no set is foreign, and a set is told by its answer
-pub foreign_least : (s : States) → answer.Foreign ≡ answer.Least s → ⊥
-foreign_least s e =
-    let z : ◌≡◌ {A = ℕ} 0 1 = cc in
-    omega arith
-
-pub least_inj : (s t : States) → answer.Least s ≡ answer.Least t → s ≡ t
-least_inj s t e = cc

@@ -8,7 +8,7 @@ use native.Mathlib.Omega.{arith}
 use lib.Dec.{leb}
 use lib.ListN.{length, replicate, length-append, length-replicate}
 use Rattle.value.specs.declared.States.{States}
-use Rattle.value.specs.declared.StatesAnswer.TheVariants as answer
+use Rattle.std.specs.Prelude.{Option, Some, None}
 use Rattle.value.specs.Slice.{any}
 use Rattle.value.specs.Digits.{number, digits, Below}
 use Rattle.value.specs.Level.{fold, fold_all, code_of, codes_of, place_in, bits_of, has_no_code, least_of, join_all, set_of}
@@ -44,32 +44,36 @@ padded_states : (k : ℕ) (v : List ℕ) → least_states (replicate k 48 ++ v) 
 unfolding least_states
 padded_states k v =
     let cs = codes_of (fold_all v) in
-    ap (λ (ds : List ℕ). cond (has_no_code ds) answer.Foreign (answer.Least (least_of ds))) (padded_codes k v)
-    ∙ ap₂ (λ (t : Bool) (s : States). cond t answer.Foreign (answer.Least s)) (padded_any 9 k cs refl) (padded_least k cs)
+    ap (λ (ds : List ℕ). cond (has_no_code ds) None (Some (least_of ds))) (padded_codes k v)
+    ∙ ap₂ (λ (t : Bool) (s : States). cond t None (Some s)) (padded_any 9 k cs refl) (padded_least k cs)
 
 -- what is told of the word's bytes holds of the string
-pub padded_scan : (v : List ℕ) (w : ℕ) → length v ≤ 8 → Below 256 v → w ≡ number 256 (padded v) → (r : Scanned) → Scan (digits 256 8 w) r → Scan v r
-padded_scan v w short b e r p =
-    let k = 8 - length v in
-    let z : List ℕ = replicate k 48 in
-    let l : length (padded v) ≡ 8 = length-append z v ∙ rw (length-replicate {A = ℕ} k 48) (omega arith) in
-    let u : digits 256 8 w ≡ padded v = word_bytes (padded v) w l (below_append 256 z v (below_replicate 256 48 k (omega arith)) b) e in
-    record {
-      least = p.least ∙ ap least_states u ∙ padded_states k v;
-      levels = λ s f.
-          let B = 2 ^ bits_of s in
-          p.levels s f
-          ∙ ap (number B) (ap (λ (x : List ℕ). codes_of (fold_all x)) u ∙ padded_codes k v)
-          ∙ padded_number B k (codes_of (fold_all v));
-    }
+pub padded_scan : (v : List ℕ) (w : ℕ) → length v ≤ 8 → Below 256 v → w ≡ number 256 (padded v) → (r : Option Scanned) → Scan (digits 256 8 w) r → Scan v r
+padded_scan v w short b e r p = go r p
+  where
+    k : ℕ
+    k = 8 - length v
 
-pub found : (u : List ℕ) (s : States) (n : ℕ) → least_states u ≡ answer.Least s → n ≡ number (2 ^ bits_of s) (codes_of (fold_all u))
-    → Scan u (record { answer = answer.Least s; levels = n })
-found u s n m f =
-    record {
-      least = sym m;
-      levels = λ t g. let same : s ≡ t = cc in f ∙ ap (λ (x : States). number (2 ^ bits_of x) (codes_of (fold_all u))) same;
-    }
+    z : List ℕ
+    z = replicate k 48
 
-pub none_found : (u : List ℕ) → least_states u ≡ answer.Foreign → Scan u (record { answer = answer.Foreign; levels = 0 })
-none_found u m = record { least = sym m; levels = λ t g. let z : ◌≡◌ {A = ℕ} 0 1 = cc in absurd (omega arith) }
+    long : length (padded v) ≡ 8
+    long = length-append z v ∙ rw (length-replicate {A = ℕ} k 48) (omega arith)
+
+    bytes : digits 256 8 w ≡ padded v
+    bytes = word_bytes (padded v) w long (below_append 256 z v (below_replicate 256 48 k (omega arith)) b) e
+
+    least : least_states v ≡ least_states (digits 256 8 w)
+    least = sym (ap least_states bytes ∙ padded_states k v)
+
+    go : (r : Option Scanned) → Scan (digits 256 8 w) r → Scan v r
+    go None p = least ∙ p
+    go (Some t) p =
+        let B = 2 ^ bits_of t.states in
+        record {
+          least = least ∙ p.least;
+          levels =
+              p.levels
+              ∙ ap (number B) (ap (λ (x : List ℕ). codes_of (fold_all x)) bytes ∙ padded_codes k v)
+              ∙ padded_number B k (codes_of (fold_all v));
+        }

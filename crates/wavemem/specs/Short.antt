@@ -1,8 +1,6 @@
 -- Inner: strings of at most eight characters as one word.
 -- Assumes nothing.
-use Rattle.std.specs.Prelude.{ℕ, ◌-◌, ◌^◌, ◌≡◌, Bool, cond, List, map, ◌++◌, eqb, length, replicate}
-use Rattle.value.specs.declared.States.{States}
-use Rattle.value.specs.declared.StatesAnswer.TheVariants as answer
+use Rattle.std.specs.Prelude.{ℕ, ◌-◌, ◌^◌, ◌≡◌, Bool, cond, List, map, ◌++◌, eqb, length, replicate, Option, Some, None, MatchOption}
 use Rattle.value.specs.Digits.{number, digits}
 use Rattle.value.specs.Level.{fold_all, codes_of, bits_of}
 use Rattle.value.specs.Answer.{least_states}
@@ -21,6 +19,10 @@ unfoldable pub marks : List Bool → ℕ
 marks tests = number 256 (map (λ (t : Bool). cond t 0 128) tests)
 
 -- a string's least set, and the number of its levels under it
-pub record Scan (value : List ℕ) (r : Scanned) : Type 0 where
-  pub least : r.answer ≡ least_states value
-  pub levels : (s : States) → r.answer ≡ answer.Least s → r.levels ≡ number (2 ^ bits_of s) (codes_of (fold_all value))
+pub record Told (value : List ℕ) (t : Scanned) : Type 0 where
+  pub least : least_states value ≡ Some t.states
+  pub levels : t.levels ≡ number (2 ^ bits_of t.states) (codes_of (fold_all value))
+
+-- both, or that a character is foreign
+abbrev pub Scan : List ℕ → Option Scanned → Type 0
+Scan value r = MatchOption r (least_states value ≡ None) (Told value)

@@ -8,7 +8,6 @@ ghost use Rattle.wavemem.specs.Packed.{packed_with, packed_from, WholeBytes};
 
 use crate::short::four_of_word;
 use crate::word;
-use value::wide;
 
 // The code of a character that is not foreign, each of its four bits by bits of the character: no load and no jump, so that a loop over
 // it is compiled to wide instructions.
@@ -120,10 +119,10 @@ pub fn equals_words(value: &[u8], bytes: &[u8], at: usize) -> bool
     let mut to = at;
     while from < value.len() {
         let levels = levels_at(value, from);
-        if wide(bytes[to]) != levels >> 8 {
+        if u64::from(bytes[to]) != levels >> 8 {
             return false;
         }
-        if wide(bytes[to + 1]) != levels & 255 {
+        if u64::from(bytes[to + 1]) != levels & 255 {
             return false;
         }
         from += 8;

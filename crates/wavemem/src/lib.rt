@@ -7,7 +7,7 @@ ghost use Rattle.value.specs.Slice.{part, overlay, same};
 ghost use Rattle.value.specs.Level.{fold, fold_all, code_of, codes_of, bits_of, len_of};
 ghost use Rattle.wavemem.specs.Packed.{packed_from, first_count, OneWord, OneByte, FullByte, ByLowBits, WholeBytes, Packable};
 
-use value::{CharCode, States, wide};
+use value::States;
 
 mod chunks;
 pub mod scan;
@@ -17,7 +17,7 @@ pub mod short;
 fn code_of(value: u8) -> u8
     ensures { result ≡ code_of (fold value) }
 {
-    let CharCode::Code(code) = value::bit_char_to_num(value) else {
+    let Some(code) = value::bit_char_to_num(value) else {
         return 9;
     };
     code
@@ -50,7 +50,7 @@ fn levels_from_ascii(states: States, codes: &[u8; 19], value: &[u8]) -> u64
     let mut i = 0;
     while i < value.len() {
         let low = (value[i] & 31) as usize;
-        let code = wide(codes[low - 8]);
+        let code = u64::from(codes[low - 8]);
         i += 1;
         working = (working << bits) | code;
     }
@@ -84,7 +84,7 @@ pub fn word(value: &[u8]) -> u64
     let mut i = 0;
     while i < value.len() {
         shift -= 8;
-        word |= wide(value[i]) << shift;
+        word |= u64::from(value[i]) << shift;
         i += 1;
     }
     word
@@ -106,7 +106,7 @@ fn few_bits(value: &[u8]) -> u64
     let mut working: u64 = 0;
     let mut i = 0;
     while i < value.len() {
-        let bit = wide(value[i] & 1);
+        let bit = u64::from(value[i] & 1);
         i += 1;
         working = (working << 1) | bit;
     }
@@ -122,7 +122,7 @@ fn bits_from_ascii(value: &[u8]) -> u64
     let mut working = few_bits(&value[..from]);
     while from < value.len() {
         let to = from + 8;
-        working = (working << 8) | wide(byte_of_bits(&value[from..to]));
+        working = (working << 8) | u64::from(byte_of_bits(&value[from..to]));
         from = to;
     }
     working

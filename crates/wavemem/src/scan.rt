@@ -7,7 +7,7 @@ ghost use Rattle.wavemem.specs.Scan.{ScanFor};
 
 use crate::number_from_ascii;
 use crate::short::{Scanned, scan_short};
-use value::{States, StatesAnswer};
+use value::States;
 
 // The number of a string's levels, and 0 where 64 bits don't hold them or the entry has more than eight bytes.
 fn levels_for(states: States, value: &[u8], size: usize) -> u64
@@ -24,22 +24,16 @@ fn levels_for(states: States, value: &[u8], size: usize) -> u64
 }
 
 // Of a string for an entry of a size.
-pub fn scan(value: &[u8], size: usize) -> Scanned
+pub fn scan(value: &[u8], size: usize) -> Option<Scanned>
     requires { length value.now ≤ 4096 }
     ensures { ScanFor value.now size result }
 {
     if value.len() <= 8 {
         return scan_short(value);
     }
-    let answer = States::from_ascii(value);
-    let StatesAnswer::Least(states) = answer else {
-        return Scanned {
-            answer: StatesAnswer::Foreign,
-            levels: 0,
-        };
-    };
-    Scanned {
-        answer: StatesAnswer::Least(states),
+    let states = States::from_ascii(value)?;
+    Some(Scanned {
+        states,
         levels: levels_for(states, value, size),
-    }
+    })
 }

@@ -6,12 +6,12 @@ ghost use Rattle.value.specs.Answer.{holds_one};
 ghost use Rattle.wavemem.specs.Short.{padded, zeros, marks, Scan};
 
 use crate::word;
-use value::{States, StatesAnswer, wide};
+use value::States;
 
 // The least set of a string, and the number of its levels under that set.
 #[derive(Clone, Copy)]
 pub struct Scanned {
-    pub answer: StatesAnswer,
+    pub states: States,
     pub levels: u64,
 }
 
@@ -26,7 +26,7 @@ fn padded_word(value: &[u8]) -> u64
     let mut w: u64 = 0x3030_3030_3030_3030;
     let mut i = 0;
     while i < value.len() {
-        w = (w << 8) | wide(value[i]);
+        w = (w << 8) | u64::from(value[i]);
         i += 1;
     }
     w
@@ -129,35 +129,32 @@ fn beside_nine(w: u64) -> u64
 }
 
 // The least set of eight characters, and the number of their levels.
-fn scan_word(w: u64) -> Scanned
+fn scan_word(w: u64) -> Option<Scanned>
     ensures { Scan (digits 256 8 w) result }
 {
     if beside_two(w) == 0 {
-        return Scanned {
-            answer: StatesAnswer::Least(States::Two),
+        return Some(Scanned {
+            states: States::Two,
             levels: two_of_word(w),
-        };
+        });
     }
     if beside_four(w) == 0 {
-        return Scanned {
-            answer: StatesAnswer::Least(States::Four),
+        return Some(Scanned {
+            states: States::Four,
             levels: four_of_word(w),
-        };
+        });
     }
     if beside_nine(w) == 0 {
-        return Scanned {
-            answer: StatesAnswer::Least(States::Nine),
+        return Some(Scanned {
+            states: States::Nine,
             levels: nine_of_word(w),
-        };
+        });
     }
-    Scanned {
-        answer: StatesAnswer::Foreign,
-        levels: 0,
-    }
+    None
 }
 
 // The least set of a string, and the number of its levels: characters 0 in front change neither.
-pub fn scan_short(value: &[u8]) -> Scanned
+pub fn scan_short(value: &[u8]) -> Option<Scanned>
     requires { length value.now ≤ 8 }
     ensures { Scan value.now result }
 {

@@ -55,7 +55,7 @@ loop-from-preserved c =
       within past.In-loop-from,
       omega (arith, within past.In-loop-from, c.loop-from.invariant.1),
       eight_more (codes_of (fold_all v)) c.requires.codes.below (rw length_codes (omega (arith, c.requires.short))) f c.loop-from.working _ (rw length_codes (within past.In-loop-from)) c.loop-from.invariant.2
-          (c.wide.ensures ∙ c.byte_of_bits.ensures ∙ ap (λ (n : ℕ). number 2 (codes_of (fold_all (take n (drop f v))))) z ∙ ap (number 2) (codes_take 8 (drop f v) ∙ ap (take 8) (codes_drop f v))),
+          (c.from.ensures ∙ c.byte_of_bits.ensures ∙ ap (λ (n : ℕ). number 2 (codes_of (fold_all (take n (drop f v))))) z ∙ ap (number 2) (codes_take 8 (drop f v) ∙ ap (take 8) (codes_drop f v))),
     )
 
 pub returns : goal.returns

@@ -11,4 +11,4 @@ returns-in_default c =
 
 pub returns : goal.returns
 returns c =
-    code_told c.args.value (omega arith) (sym c.bit_char_to_num.ensures ∙ c.in-Code.is)
+    code_told c.args.value (omega arith) (sym c.bit_char_to_num.ensures ∙ c.in-Some.is)

@@ -22,7 +22,7 @@ loop-i-preserved c =
     let ok = c.requires in (
       omega arith,
       next_code ok i more 1 c.loop-i.working _ refl c.loop-i.invariant.1
-          (c.wide-bit.ensures
+          (c.from-bit.ensures
           ∙ binary_bit (get_or c.args.value.now i 0) (omega (arith, c.type_inv.value i)) (code_below ok i more 2 ok.codes.below)),
     )
 

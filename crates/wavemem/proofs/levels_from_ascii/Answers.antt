@@ -38,7 +38,7 @@ loop-i-preserved c =
     let ok = c.requires.0 in (
       omega arith,
       next_code ok i more c.bits-bits.result c.loop-i.working _ c.bits-bits.ensures c.loop-i.invariant.1
-          (c.wide-code.ensures
+          (c.from-code.ensures
           ∙ c.requires.1.here (get_or c.args.value.now i 0) (omega (arith, c.type_inv.value i)) (code_below ok i more 9 ok.codes.known)),
     )
 

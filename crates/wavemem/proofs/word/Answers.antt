@@ -23,7 +23,7 @@ loop-i-preserved c =
     let w : c.loop-i.word ≡ number 256 (take c.loop-i.i v) * 2 ^ (8 + t) = c.loop-i.invariant.2 ∙ ap (λ (n : ℕ). number 256 (take c.loop-i.i v) * 2 ^ n) e in (
       omega arith,
       omega arith,
-      rw c.wide.ensures (word_more v c.loop-i.i c.loop-i.word t (omega arith) (omega arith) (below_all 256 v (λ i. omega (arith, c.type_inv.value i))) w),
+      rw c.from.ensures (word_more v c.loop-i.i c.loop-i.word t (omega arith) (omega arith) (below_all 256 v (λ i. omega (arith, c.type_inv.value i))) w),
     )
 
 pub returns : goal.returns

@@ -46,9 +46,9 @@ differs : (l : After-levels_at-levels)
 differs l e =
     agrees_not l.requires.0 l.loop-from.invariant refl l.loop-from-test.true (compared l ∙ e)
 
-pub returns-then-wide-levels : goal.returns-then-wide-levels
-returns-then-wide-levels c =
-    differs (goal.at.returns-then-wide-levels c).After-levels_at-levels (rw (ne_eqb _ _ (λ e. c.if-wide-levels.true (c.wide.ensures ∙ e))))
+pub returns-then-from-levels : goal.returns-then-from-levels
+returns-then-from-levels c =
+    differs (goal.at.returns-then-from-levels c).After-levels_at-levels (rw (ne_eqb _ _ (λ e. c.if-from-levels.true (c.from.ensures ∙ e))))
 
 pub overflow_add-to : goal.overflow_add-to
 overflow_add-to c = omega (arith, fits (goal.at.overflow_add-to c).In-loop-from)
@@ -56,9 +56,9 @@ overflow_add-to c = omega (arith, fits (goal.at.overflow_add-to c).In-loop-from)
 pub bounds-bytes-to-in-loop-from : goal.bounds-bytes-to-in-loop-from
 bounds-bytes-to-in-loop-from c = omega (arith, fits (goal.at.bounds-bytes-to-in-loop-from c).In-loop-from)
 
-pub returns-then-wide-levels-2 : goal.returns-then-wide-levels-2
-returns-then-wide-levels-2 c =
-    differs (goal.at.returns-then-wide-levels-2 c).After-levels_at-levels (rw (eq-eqb _ _ (sym c.wide.ensures ∙ c.if-wide-levels.false), ne_eqb _ _ (λ g. c.if-wide-levels-2.true (c.wide-in-loop-from.ensures ∙ g))))
+pub returns-then-from-levels-2 : goal.returns-then-from-levels-2
+returns-then-from-levels-2 c =
+    differs (goal.at.returns-then-from-levels-2 c).After-levels_at-levels (rw (eq-eqb _ _ (sym c.from.ensures ∙ c.if-from-levels.false), ne_eqb _ _ (λ g. c.if-from-levels-2.true (c.from-in-loop-from.ensures ∙ g))))
 
 pub overflow_add-from : goal.overflow_add-from
 overflow_add-from c =
@@ -73,7 +73,7 @@ loop-from-smaller c = omega (arith, c.loop-from-test.true)
 pub loop-from-preserved : goal.loop-from-preserved
 loop-from-preserved c =
     agrees_on c.requires.0 c.loop-from.invariant refl c.loop-from-test.true refl
-    (compared (goal.at.loop-from-preserved c).After-levels_at-levels ∙ rw (eq-eqb _ _ (sym c.wide.ensures ∙ c.if-wide-levels.false), eq-eqb _ _ (sym c.wide-in-loop-from.ensures ∙ c.if-wide-levels-2.false)))
+    (compared (goal.at.loop-from-preserved c).After-levels_at-levels ∙ rw (eq-eqb _ _ (sym c.from.ensures ∙ c.if-from-levels.false), eq-eqb _ _ (sym c.from-in-loop-from.ensures ∙ c.if-from-levels-2.false)))
 
 pub returns : goal.returns
 returns c = agrees_end c.loop-from.invariant c.loop-from-test.false

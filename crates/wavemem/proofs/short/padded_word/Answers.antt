@@ -25,7 +25,7 @@ pub loop-i-preserved : goal.loop-i-preserved
 loop-i-preserved c =
     let v = c.args.value.now in (
       omega arith,
-      rw c.wide.ensures
+      rw c.from.ensures
           (padded_more v c.loop-i.i c.loop-i.w (omega arith) c.requires (below_all 256 v (λ i. omega (arith, c.type_inv.value i))) c.loop-i.invariant.1),
     )
 
