@@ -15,7 +15,7 @@ use Rattle.fst.specs.declared.Encoding.{Encoding}
 use Rattle.fst.specs.declared.Encoding.TheVariants.{BitVector}
 use Rattle.fst.specs.declared.Description.{Description}
 use Rattle.fst.specs.declared.Added.{Added}
-use Rattle.fst.specs.declared.NextIndex.TheVariants.{Absent, At}
+use Rattle.std.specs.Prelude.{None, Some}
 use Rattle.fst.specs.Refusal.{tried, Outcome}
 use Rattle.fst.specs.Record.{Lent, Kept, Recorder, kept_in, width_stands, is_bad, described}
 use Rattle.fst.specs.Change.{Change, is_other_kind, is_other_length, is_foreign, is_below_last, with_change, lacks_room, refusals, in_hand, stored, add_change, left_by}
@@ -99,23 +99,23 @@ module _ {d : Description} {l : Lent} {i : ℕ} {c : Change} (a : Admitted d l i
 
 -- ---- the last index kept
 
-pub last_none : (n : ℕ) (l : List ℕ) → n ≡ 0 → Absent ≡ last_in n l
+pub last_none : (n : ℕ) (l : List ℕ) → n ≡ 0 → None ≡ last_in n l
 unfolding last_in
 last_none n l e = rw e
 
-pub last_some : (n : ℕ) (l : List ℕ) (start : ℕ) → (n ≡ 0 → ⊥) → At (get_or l (start + (n - 1)) 0) ≡ last_in n (part start n l)
+pub last_some : (n : ℕ) (l : List ℕ) (start : ℕ) → (n ≡ 0 → ⊥) → Some (get_or l (start + (n - 1)) 0) ≡ last_in n (part start n l)
 unfolding last_in
 last_some zero l start h = absurd (h refl)
 last_some (suc m) l start h =
     let e : start + (suc m - 1) ≡ start + m = omega arith in
-    ap At (ap (λ (k : ℕ). get_or l k 0) e ∙ sym (part_at l start (suc m) m 0 (let h : m < suc m = omega arith in h)))
+    ap Some (ap (λ (k : ℕ). get_or l k 0) e ∙ sym (part_at l start (suc m) m 0 (let h : m < suc m = omega arith in h)))
 
-pub below_none : (i n : ℕ) (l : List ℕ) → last_in n l ≡ Absent → false ≡ is_below_last i n l
+pub below_none : (i n : ℕ) (l : List ℕ) → last_in n l ≡ None → false ≡ is_below_last i n l
 unfolding last_in is_below_last
 below_none i zero l e = refl
 below_none i (suc n) l e = let z : ◌≡◌ {A = ℕ} 0 1 = cc in absurd (omega arith)
 
-pub below_some : (i n : ℕ) (l : List ℕ) (last : ℕ) → last_in n l ≡ At last → ltb i last ≡ is_below_last i n l
+pub below_some : (i n : ℕ) (l : List ℕ) (last : ℕ) → last_in n l ≡ Some last → ltb i last ≡ is_below_last i n l
 unfolding last_in is_below_last
 below_some i zero l last e = let z : ◌≡◌ {A = ℕ} 0 1 = cc in absurd (omega arith)
 below_some i (suc n) l last e = let z : get_or l n 0 ≡ last = cc in rw z

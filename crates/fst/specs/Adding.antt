@@ -1,13 +1,11 @@
 -- Inner: what the functions of which Add a change is made ask.
 -- Assumes nothing.
-use Rattle.std.specs.Prelude.{ℕ, zero, suc, ◌^◌, ◌≤◌, ◌≡◌, false, List, length, get_or}
+use Rattle.std.specs.Prelude.{ℕ, zero, suc, ◌^◌, ◌≤◌, ◌≡◌, false, List, length, get_or, Option, None, Some}
 use Rattle.value.specs.declared.States.{States}
 use Rattle.value.specs.Digits.{number}
 use Rattle.value.specs.Level.{fold_all, codes_of, least_of, bits_of}
 use Rattle.fst.specs.declared.Encoding.TheVariants.{BitVector}
 use Rattle.fst.specs.declared.Description.{Description}
-use Rattle.fst.specs.declared.NextIndex.{NextIndex}
-use Rattle.fst.specs.declared.NextIndex.TheVariants.{Absent, At}
 use Rattle.layout.specs.Entry.{entry_size}
 use Rattle.fst.specs.Record.{Lent, kept_in, is_bad}
 use Rattle.fst.specs.Change.{Change, text, is_other_kind, is_other_length, is_foreign, is_below_last}
@@ -27,9 +25,9 @@ pub record AdmittedString (d : Description) (l : Lent) (i : ℕ) (M own : States
   pub least : own ≡ least_of (codes_of (fold_all value))
 
 -- the last of n indices
-unfoldable pub last_in : ℕ → List ℕ → NextIndex
-last_in zero indices = Absent
-last_in (suc n) indices = At (get_or indices n 0)
+unfoldable pub last_in : ℕ → List ℕ → Option ℕ
+last_in zero indices = None
+last_in (suc n) indices = Some (get_or indices n 0)
 
 -- a bit vector of a width, and the size of its entries
 pub record SizedVector (d : Description) (width size : ℕ) : Type 0 where

@@ -1,13 +1,9 @@
 -- The numbers of documents 01 and 02, and "In each operation the numbers are tried in the order written".
 -- Assumes nothing.
-use Rattle.std.specs.Prelude.{ℕ, Bool, true, false, List, [], ◌∷◌}
+use Rattle.std.specs.Prelude.{ℕ, Bool, true, false, List, [], ◌∷◌, Result, Ok, Err}
 use Rattle.fst.specs.declared.Refusal.{Refusal}
 use Rattle.fst.specs.declared.Refusal.TheVariants as refusal
-use Rattle.fst.specs.declared.Verdict.{Verdict}
-use Rattle.fst.specs.declared.Verdict.TheVariants.{Accepted, Refused}
 use Rattle.fst.specs.declared.Description.{Description}
-use Rattle.fst.specs.declared.Made.{Made}
-use Rattle.fst.specs.declared.Made.TheVariants as made
 
 abbrev pub refusal_number : Refusal → ℕ
 refusal_number refusal.WidthTooLarge = 1
@@ -30,9 +26,9 @@ refusal_number refusal.NotBinary = 17
 refusal_number refusal.NotDecimal = 18
 
 -- 0 is no refusal
-abbrev pub number_of : Verdict → ℕ
-number_of Accepted = 0
-number_of (Refused r) = refusal_number r
+abbrev pub number_of : Result Unit Refusal → ℕ
+number_of (Ok _) = 0
+number_of (Err r) = refusal_number r
 
 -- a reply: the number of a refusal, or what was asked for
 pub data Reply (A : Type 0) : Type 0 where
@@ -61,6 +57,6 @@ outcome old (refused n) = record { refused = n; left = old }
 outcome old (given new) = record { refused = 0; left = new }
 
 -- the answer of a call that makes a record, by number and value
-abbrev pub made_of : Made → Reply Description
-made_of (made.Record d) = given d
-made_of (made.Refused r) = refused (refusal_number r)
+abbrev pub made_of : Result Description Refusal → Reply Description
+made_of (Ok d) = given d
+made_of (Err r) = refused (refusal_number r)

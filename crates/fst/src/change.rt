@@ -2,7 +2,6 @@
 ghost use Rattle.std.specs.Prelude.{◌≡◌, cond, false, ◌+◌, ◌≤◌, length};
 ghost use Rattle.value.specs.Slice.{part};
 ghost use Rattle.fst.specs.declared.Encoding.TheVariants as encoding;
-ghost use Rattle.fst.specs.declared.Verdict.TheVariants as verdict;
 ghost use Rattle.value.specs.Level.{mark_of};
 ghost use Rattle.layout.specs.Entry.{entry_size};
 ghost use Rattle.fst.specs.Record.{maximum, is_bad, lent};
@@ -10,7 +9,7 @@ ghost use Rattle.fst.specs.Change.{text, is_below_last, add_change, left_by};
 ghost use Rattle.fst.specs.Adding.{last_in, AdmittedString, ShortEntry};
 
 use crate::record::{exceeds, is_bad, is_bad_vector, lacks_room};
-use crate::{Added, Description, Encoding, NextIndex, Refusal, Verdict};
+use crate::{Added, Description, Encoding, Refusal};
 use entries::{repeats_last, repeats_number, store_number};
 use layout::entry::{entry_size, write_entry};
 use layout::expand::expand_entries;
@@ -26,32 +25,32 @@ struct ShortLevels {
 }
 
 pub fn accepted(next: Description) -> Added
-    ensures { result ≡ record { verdict = verdict.Accepted; next = next } }
+    ensures { result ≡ record { verdict = Ok tt; next = next } }
 {
     Added {
-        verdict: Verdict::Accepted,
+        verdict: Ok(()),
         next,
     }
 }
 
 pub fn refused(description: Description, refusal: Refusal) -> Added
-    ensures { result ≡ record { verdict = verdict.Refused refusal; next = description } }
+    ensures { result ≡ record { verdict = Err refusal; next = description } }
 {
     Added {
-        verdict: Verdict::Refused(refusal),
+        verdict: Err(refusal),
         next: description,
     }
 }
 
-fn last_index(indices: &[u32], index_start: usize, count: u32) -> NextIndex
+fn last_index(indices: &[u32], index_start: usize, count: u32) -> Option<u32>
     requires { index_start + count ≤ length indices.now }
     ensures { result ≡ last_in count (part index_start count indices.now) }
 {
     if 0 < count {
         let last = indices[index_start + (count as usize - 1)];
-        return NextIndex::At(last);
+        return Some(last);
     }
-    NextIndex::Absent
+    None
 }
 
 pub fn is_below_last(index: u32, indices: &[u32], index_start: usize, count: u32) -> bool
@@ -59,7 +58,7 @@ pub fn is_below_last(index: u32, indices: &[u32], index_start: usize, count: u32
     ensures { result ≡ is_below_last index count (part index_start count indices.now) }
 {
     let kept = last_index(indices, index_start, count);
-    let NextIndex::At(last) = kept else {
+    let Some(last) = kept else {
         return false;
     };
     index < last

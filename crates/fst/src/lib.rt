@@ -13,9 +13,9 @@ pub mod real;
 pub mod record;
 
 // Why a call was refused, by the numbers of documents 01 and 02.
-#[derive(Clone, Copy)]
+#[derive(Clone, Copy, PartialEq, Eq)]
 pub enum Refusal {
-    WidthTooLarge,
+    WidthTooLarge = 1,
     BadRecord,
     WrongKind,
     WrongLength,
@@ -39,47 +39,17 @@ impl Refusal {
     pub fn number(self) -> u8
         ensures { result ≡ refusal_number self }
     {
-        let refusal = self;
-        match refusal {
-            Refusal::WidthTooLarge => 1,
-            Refusal::BadRecord => 2,
-            Refusal::WrongKind => 3,
-            Refusal::WrongLength => 4,
-            Refusal::ForeignCharacter => 5,
-            Refusal::IndexBelowLast => 6,
-            Refusal::NoRoom => 7,
-            Refusal::NoSuchEntry => 8,
-            Refusal::BadMark => 9,
-            Refusal::BadCode => 10,
-            Refusal::IndexFalls => 11,
-            Refusal::BadRange => 12,
-            Refusal::DerivationFull => 13,
-            Refusal::BadDerivation => 14,
-            Refusal::LateInput => 15,
-            Refusal::WrongWidth => 16,
-            Refusal::NotBinary => 17,
-            Refusal::NotDecimal => 18,
-        }
+        self as u8
     }
 }
 
-// Whether a call was accepted.
-#[derive(Clone, Copy)]
-pub enum Verdict {
-    Accepted,
-    Refused(Refusal),
-}
-
-impl Verdict {
-    // 0 for an accepted call.
-    pub fn number(self) -> u8
-        ensures { result ≡ number_of self }
-    {
-        let verdict = self;
-        match verdict {
-            Verdict::Accepted => 0,
-            Verdict::Refused(refusal) => refusal.number(),
-        }
+// 0 for an accepted call.
+pub fn verdict_number(verdict: Result<(), Refusal>) -> u8
+    ensures { result ≡ number_of verdict }
+{
+    match verdict {
+        Ok(()) => 0,
+        Err(refusal) => refusal.number(),
     }
 }
 
@@ -161,23 +131,9 @@ impl Description {
     }
 }
 
-// A time index, where there is one.
-#[derive(Clone, Copy)]
-pub enum NextIndex {
-    Absent,
-    At(u32),
-}
-
-// The answer of a call that makes a record.
-#[derive(Clone, Copy)]
-pub enum Made {
-    Record(Description),
-    Refused(Refusal),
-}
-
 // The answer of Add a change: the next description, after a refusal the unchanged one.
 #[derive(Clone, Copy)]
 pub struct Added {
-    pub verdict: Verdict,
+    pub verdict: Result<(), Refusal>,
     pub next: Description,
 }

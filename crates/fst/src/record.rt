@@ -4,7 +4,7 @@ ghost use Rattle.fst.specs.Refusal.{made_of};
 ghost use Rattle.fst.specs.Record.{maximum, max_width, size_of, width_stands, fits, is_bad_bytes, is_bad, lent, fresh, fresh_real};
 ghost use Rattle.fst.specs.Adding.{SizedVector};
 
-use crate::{Description, Encoding, Made, Refusal};
+use crate::{Description, Encoding, Refusal};
 use layout::entry::entry_size;
 use value::States;
 
@@ -13,20 +13,20 @@ pub const MAXIMUM: u32 = 1048576;
 pub const MAX_WIDTH: u32 = 4096;
 
 #[tactic(auto, using(crate::proofs::Rooms::fresh_wide, crate::proofs::Rooms::fresh_event, crate::proofs::Rooms::fresh_vector))]
-pub fn fresh(width: u32) -> Made
+pub fn fresh(width: u32) -> Result<Description, Refusal>
     ensures { made_of result ≡ fresh width }
 {
     if MAX_WIDTH < width {
-        return Made::Refused(Refusal::WidthTooLarge);
+        return Err(Refusal::WidthTooLarge);
     }
     if width == 0 {
-        return Made::Record(Description::new(Encoding::Event, 0));
+        return Ok(Description::new(Encoding::Event, 0));
     }
     let encoding = Encoding::BitVector {
         width,
         max_states: States::Two,
     };
-    Made::Record(Description::new(encoding, 0))
+    Ok(Description::new(encoding, 0))
 }
 
 pub fn fresh_real() -> Description

@@ -8,4 +8,4 @@ pub returns-in_default : goal.returns-in_default
 returns-in_default c = below_none _ _ _ (sym c.last_index-kept.ensures ∙ c.in_default.is)
 
 pub returns : goal.returns
-returns c = below_some _ _ _ _ (sym c.last_index-kept.ensures ∙ c.in-At.is)
+returns c = below_some _ _ _ _ (sym c.last_index-kept.ensures ∙ c.in-Some.is)
