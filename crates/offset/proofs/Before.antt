@@ -12,9 +12,9 @@ use lib.ListN.{length, get_or, drop, replicate, length-replicate, get_or-replica
 use Rattle.value.specs.Level.{place_in}
 use Rattle.fst.specs.Refusal.{Reply, refused, given, ◌⇐◌, tried}
 use Rattle.fst.specs.Record.{maximum}
-use Rattle.fst.specs.declared.NextIndex.TheVariants.{Absent}
+use Rattle.std.specs.Prelude.{Option, Some, None}
 use Rattle.offset.specs.declared.DataOffset.{DataOffset}
-use Rattle.offset.specs.Offset.{falls, greatest, run_of, head_of, Place, none, at, place_of, place, look_up}
+use Rattle.offset.specs.Offset.{falls, greatest, run_of, head_of, place_of, place, look_up}
 use Rattle.offset.proofs.Search.{greatest_is, start_first, head_past}
 use Rattle.offset.proofs.Offsets.{place_found, else_given}
 
@@ -28,11 +28,11 @@ old_place_of sought l =
     let n = run_of i (drop start l) in
     record { start = start; elements = n % 65536; time_match = eqb i sought; next_index = head_of (drop (start + n) l) }
 
-unfoldable pub old_place : ℕ → List ℕ → Place
-old_place sought [] = none
-old_place sought (i ∷ l) = cond (ltb sought i) none (at (old_place_of sought (i ∷ l)))
+unfoldable pub old_place : ℕ → List ℕ → Option DataOffset
+old_place sought [] = None
+old_place sought (i ∷ l) = cond (ltb sought i) None (Some (old_place_of sought (i ∷ l)))
 
-unfoldable pub old_look_up : List ℕ → ℕ → Reply Place
+unfoldable pub old_look_up : List ℕ → ℕ → Reply (Option DataOffset)
 old_look_up indices sought = tried (2 ⇐ ltb maximum (length indices) ∷ 11 ⇐ falls indices ∷ []) (given (old_place sought indices))
 
 -- ---- an answer with its number of entries cut to 16 bits
@@ -40,11 +40,11 @@ old_look_up indices sought = tried (2 ⇐ ltb maximum (length indices) ∷ 11 �
 abbrev pub with_elements : DataOffset → ℕ → DataOffset
 with_elements o n = record { start = o.start; elements = n; time_match = o.time_match; next_index = o.next_index }
 
-abbrev pub truncated_place : Place → Place
-truncated_place none = none
-truncated_place (at o) = at (with_elements o (o.elements % 65536))
+abbrev pub truncated_place : Option DataOffset → Option DataOffset
+truncated_place None = None
+truncated_place (Some o) = Some (with_elements o (o.elements % 65536))
 
-abbrev pub truncated_reply : Reply Place → Reply Place
+abbrev pub truncated_reply : Reply (Option DataOffset) → Reply (Option DataOffset)
 truncated_reply (refused n) = refused n
 truncated_reply (given p) = given (truncated_place p)
 
@@ -53,7 +53,7 @@ unfolding old_place old_place_of place place_of
 old_place_lem s [] = refl
 old_place_lem s (i ∷ l) = go (ltb s i)
   where
-    go : (b : Bool) → cond b none (at (old_place_of s (i ∷ l))) ≡ truncated_place (cond b none (at (place_of s (i ∷ l))))
+    go : (b : Bool) → cond b None (Some (old_place_of s (i ∷ l))) ≡ truncated_place (cond b None (Some (place_of s (i ∷ l))))
     go true = refl
     go false = refl
 
@@ -68,10 +68,10 @@ old_modulo l s = go (ltb maximum (length l)) (falls l)
     go false false = ap given (old_place_lem s l)
 
 -- "Any answer below 65,536 is the old one"
-pub below_is_old : (l : List ℕ) (s : ℕ) (o : DataOffset) → look_up l s ≡ given (at o) → o.elements < 65536 → old_look_up l s ≡ given (at o)
+pub below_is_old : (l : List ℕ) (s : ℕ) (o : DataOffset) → look_up l s ≡ given (Some o) → o.elements < 65536 → old_look_up l s ≡ given (Some o)
 below_is_old l s o e h =
     let same : o.elements % 65536 ≡ o.elements = omega arith in
-    old_modulo l s ∙ ap truncated_reply e ∙ ap (λ (n : ℕ). given (at (with_elements o n))) same
+    old_modulo l s ∙ ap truncated_reply e ∙ ap (λ (n : ℕ). given (Some (with_elements o n))) same
 
 -- ---- n equal indices
 
@@ -88,7 +88,7 @@ run_of_all (suc n) i = rw (eq-eqb i i refl) (ap suc (run_of_all n i))
 
 -- an answer of all n entries of a list
 abbrev pub whole_list : ℕ → Bool → DataOffset
-whole_list n equal = record { start = 0; elements = n; time_match = equal; next_index = Absent }
+whole_list n equal = record { start = 0; elements = n; time_match = equal; next_index = None }
 
 module _ (n i s : ℕ) (some : 0 < n) (reached : i ≤ s) where
   long : length (replicate n i) ≡ n
@@ -104,17 +104,17 @@ module _ (n i s : ℕ) (some : 0 < n) (reached : i ≤ s) where
       (λ j h r. omega (arith, first, get_or-replicate n j i 0 (omega (arith, long))))
 
   -- every one is counted
-  pub equal_indices : n ≤ maximum → look_up (replicate n i) s ≡ given (at (whole_list n (eqb i s)))
+  pub equal_indices : n ≤ maximum → look_up (replicate n i) s ≡ given (Some (whole_list n (eqb i s)))
   equal_indices small =
       let l = replicate n i in
-      let behind : Absent ≡ head_of (drop (0 + n) l) = sym (head_past l (0 + n) (omega (arith, long))) in
+      let behind : None ≡ head_of (drop (0 + n) l) = sym (head_past l (0 + n) (omega (arith, long))) in
       let found = place_found s l greatest_of_all (start_first l i (omega (arith, long)) first) (run_of_all n i) behind in
       else_given l s (omega (arith, long)) (falls_never n i) (omega (arith, long)) (omega (arith, first))
-      ∙ ap (λ (o : DataOffset). given (at o)) (sym found)
+      ∙ ap (λ (o : DataOffset). given (Some o)) (sym found)
 
 -- "A chattering contact put 70,000 entries on one index, and the screen showed 4,464"
-pub seventy_thousand : look_up (replicate 70000 5) 5 ≡ given (at (whole_list 70000 true))
+pub seventy_thousand : look_up (replicate 70000 5) 5 ≡ given (Some (whole_list 70000 true))
 seventy_thousand = equal_indices 70000 5 5 (omega arith) (omega arith) (omega arith)
 
-pub old_seventy_thousand : old_look_up (replicate 70000 5) 5 ≡ given (at (whole_list 4464 true))
+pub old_seventy_thousand : old_look_up (replicate 70000 5) 5 ≡ given (Some (whole_list 4464 true))
 old_seventy_thousand = old_modulo (replicate 70000 5) 5 ∙ ap truncated_reply seventy_thousand

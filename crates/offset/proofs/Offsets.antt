@@ -14,10 +14,9 @@ use Rattle.value.specs.Level.{place_in}
 use Rattle.value.proofs.Tests.{by_le}
 use Rattle.fst.specs.Refusal.{refused, given, tried}
 use Rattle.fst.specs.Record.{maximum}
-use Rattle.fst.specs.declared.NextIndex.{NextIndex}
-use Rattle.fst.specs.declared.NextIndex.TheVariants.{Absent, At}
+use Rattle.std.specs.Prelude.{Option, Some, None}
 use Rattle.offset.specs.declared.DataOffset.{DataOffset}
-use Rattle.offset.specs.Offset.{falls, greatest, run_of, head_of, Place, none, at, place_of, place, look_up}
+use Rattle.offset.specs.Offset.{falls, greatest, run_of, head_of, place_of, place, look_up}
 use Rattle.offset.specs.Search.{Reached}
 use Rattle.offset.proofs.Search.{rising, greatest_bounds, greatest_stands, place_first, head_at, head_past, Carrying, run_is, count_of, carrying_counts}
 
@@ -35,23 +34,23 @@ pub look_up_rising : (l : List ℕ) (s : ℕ) → length l ≤ maximum → falls
 unfolding look_up tried
 look_up_rising l s h f = rw (le-ltb maximum (length l) h, f)
 
-pub place_empty : (s : ℕ) (l : List ℕ) → length l ≡ 0 → place s l ≡ none
+pub place_empty : (s : ℕ) (l : List ℕ) → length l ≡ 0 → place s l ≡ None
 unfolding place
 place_empty s [] h = refl
 place_empty s (i ∷ l) h = absurd (omega arith)
 
-pub place_above : (s : ℕ) (l : List ℕ) → 0 < length l → s < get_or l 0 0 → place s l ≡ none
+pub place_above : (s : ℕ) (l : List ℕ) → 0 < length l → s < get_or l 0 0 → place s l ≡ None
 unfolding place
 place_above s [] h a = absurd (not-suc-le-zero h)
 place_above s (i ∷ l) h a = rw (lt-ltb s i a)
 
-pub place_reached : (s : ℕ) (l : List ℕ) → 0 < length l → get_or l 0 0 ≤ s → place s l ≡ at (place_of s l)
+pub place_reached : (s : ℕ) (l : List ℕ) → 0 < length l → get_or l 0 0 ≤ s → place s l ≡ Some (place_of s l)
 unfolding place
 place_reached s [] h a = absurd (not-suc-le-zero h)
 place_reached s (i ∷ l) h a = rw (le-ltb s i a)
 
 -- what the searches find is the place
-pub place_found : (needle : ℕ) (l : List ℕ) {index start n : ℕ} {next : NextIndex}
+pub place_found : (needle : ℕ) (l : List ℕ) {index start n : ℕ} {next : Option ℕ}
     → index ≡ greatest needle l → start ≡ place_in l index → n ≡ run_of index (drop start l) → next ≡ head_of (drop (start + n) l)
     → ◌≡◌ {A = DataOffset} (record { start = start; elements = n; time_match = eqb index needle; next_index = next }) (place_of needle l)
 unfolding place_of
@@ -68,9 +67,9 @@ pub record Least (l : List ℕ) (i j : ℕ) : Type 0 where
   pub least : (k : ℕ) → k < length l → i < get_or l k 0 → j ≤ get_or l k 0
 
 -- "the next greater index, or absent"
-abbrev pub NextAbove : List ℕ → ℕ → NextIndex → Type 0
-NextAbove l i Absent = (k : ℕ) → k < length l → get_or l k 0 ≤ i
-NextAbove l i (At j) = Least l i j
+abbrev pub NextAbove : List ℕ → ℕ → Option ℕ → Type 0
+NextAbove l i None = (k : ℕ) → k < length l → get_or l k 0 ≤ i
+NextAbove l i (Some j) = Least l i j
 
 -- what an answer says of its index and of the entries that carry it
 pub record Answers (l : List ℕ) (sought : ℕ) (o : DataOffset) : Type 0 where
@@ -140,21 +139,21 @@ place_answers s l r =
 
 -- the answers of Look up to a list that isn't above the maximum and doesn't fall
 module _ (l : List ℕ) (s : ℕ) (small : length l ≤ maximum) (rises : falls l ≡ false) where
-  none_given : (length l ≡ 0) ⊎ ((0 < length l) × (s < get_or l 0 0)) → look_up l s ≡ given none
+  none_given : (length l ≡ 0) ⊎ ((0 < length l) × (s < get_or l 0 0)) → look_up l s ≡ given None
   none_given (inl h) = look_up_rising l s small rises ∙ ap given (place_empty s l h)
   none_given (inr h) = look_up_rising l s small rises ∙ ap given (place_above s l h.0 h.1)
 
-  pub else_given : 0 < length l → get_or l 0 0 ≤ s → look_up l s ≡ given (at (place_of s l))
+  pub else_given : 0 < length l → get_or l 0 0 ≤ s → look_up l s ≡ given (Some (place_of s l))
   else_given some first = look_up_rising l s small rises ∙ ap given (place_reached s l some first)
 
   -- "The answer is none exactly when the list is empty or its first index exceeds the sought one"
-  pub none_exactly : (look_up l s ≡ given none) ↔ ((length l ≡ 0) ⊎ ((0 < length l) × (s < get_or l 0 0)))
+  pub none_exactly : (look_up l s ≡ given None) ↔ ((length l ≡ 0) ⊎ ((0 < length l) × (s < get_or l 0 0)))
   none_exactly = (λ e. by_le (length l) 0 (λ h. inl (omega arith)) (λ h. by_le (get_or l 0 0) s (λ a. only e h a) (λ a. inr (h, a))), none_given)
     where
-      only : look_up l s ≡ given none → 0 < length l → get_or l 0 0 ≤ s → (length l ≡ 0) ⊎ ((0 < length l) × (s < get_or l 0 0))
+      only : look_up l s ≡ given None → 0 < length l → get_or l 0 0 ≤ s → (length l ≡ 0) ⊎ ((0 < length l) × (s < get_or l 0 0))
       only e h a = let found = else_given h a in let z : ◌≡◌ {A = ℕ} 0 1 = cc in absurd (omega arith)
 
-  standing_answers : (o : DataOffset) → look_up l s ≡ given (at o) → Answers l s o
+  standing_answers : (o : DataOffset) → look_up l s ≡ given (Some o) → Answers l s o
   standing_answers o e = by_le (length l) 0 (λ h. no (inl (omega arith))) (λ h. by_le (get_or l 0 0) s (yes h) (λ a. no (inr (h, a))))
     where
       no : (length l ≡ 0) ⊎ ((0 < length l) × (s < get_or l 0 0)) → Answers l s o
@@ -167,7 +166,7 @@ module _ (l : List ℕ) (s : ℕ) (small : length l ≤ maximum) (rises : falls 
           rw same (place_answers s l (record { rises = rises; some = h; first = a }))
 
 -- a list whose look-up isn't refused
-not_refused : (l : List ℕ) (s : ℕ) (p : Place) → look_up l s ≡ given p → (length l ≤ maximum) × (falls l ≡ false)
+not_refused : (l : List ℕ) (s : ℕ) (p : Option DataOffset) → look_up l s ≡ given p → (length l ≤ maximum) × (falls l ≡ false)
 not_refused l s p e =
     by_le (length l) maximum (λ h. (h, rises h (falls l) refl))
     (λ h. let long = look_up_long l s h in let z : ◌≡◌ {A = ℕ} 0 1 = cc in absurd (omega arith))
@@ -178,9 +177,9 @@ not_refused l s p e =
 
 -- "Else, for the greatest index not above it: start, its first entry; the number of entries from there on that carry the same time index;
 -- whether it equals the sought one; the next greater index, or absent"
-pub at_answers : (l : List ℕ) (s : ℕ) (o : DataOffset) → look_up l s ≡ given (at o) → Answers l s o
-at_answers l s o e = let stands = not_refused l s (at o) e in standing_answers l s stands.0 stands.1 o e
+pub at_answers : (l : List ℕ) (s : ℕ) (o : DataOffset) → look_up l s ≡ given (Some o) → Answers l s o
+at_answers l s o e = let stands = not_refused l s (Some o) e in standing_answers l s stands.0 stands.1 o e
 
 -- E2: the number of entries "is the true count"
-pub elements_counted : (l : List ℕ) (s : ℕ) (o : DataOffset) → look_up l s ≡ given (at o) → o.elements ≡ count_of (get_or l o.start 0) l
+pub elements_counted : (l : List ℕ) (s : ℕ) (o : DataOffset) → look_up l s ≡ given (Some o) → o.elements ≡ count_of (get_or l o.start 0) l
 elements_counted l s o e = let a = at_answers l s o e in rw a.stands (sym (carrying_counts a.run))

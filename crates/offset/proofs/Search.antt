@@ -1,12 +1,11 @@
 -- Laws of a list that doesn't fall, of the searches in it and of a run of one index.
 -- Assumes nothing.
 use mathlib.Core.Path.{◌≡◌, refl, sym, ap, ◌∙◌}
-use mathlib.Core.Bool.{Bool, true, false, cond, ◌||◌}
+use mathlib.Core.Bool.{Bool, true, false, cond, ◌||◌, or_assoc, or-false}
 use mathlib.Core.List.{List, [], ◌∷◌}
 use mathlib.Core.Logic.{◌↔◌}
 use Prim.Native.Nat.{ℕ, zero, suc, ◌+◌, ◌-◌, ◌*◌, ◌/◌, ◌≤◌, ◌<◌, max}
 use native.Mathlib.Nat.{not-suc-le-zero, le_of_suc-le-suc, le_refl, le_antisymm, le_trans}
-use native.Mathlib.Numerals.{add-one}
 use native.Mathlib.Omega.{arith}
 use borrow.Author.Tests.{ltb-false, leb-true, leb-false, le-leb, eqb-true, eqb-false, eq-eqb, ne_eqb}
 use lib.Dec.{eqb, leb, ltb}
@@ -14,7 +13,8 @@ use lib.ListN.{length, get_or, drop, length-drop, drop_of_length-le}
 use lib.Seq.{get_or-drop, drop-cons, drop-drop}
 use Rattle.value.specs.Level.{place_in}
 use Rattle.value.proofs.Tests.{or_left, or_right, by_le}
-use Rattle.fst.specs.declared.NextIndex.TheVariants.{Absent, At}
+use Rattle.std.specs.Prelude.{Some, None, fold}
+use Rattle.std.specs.List.{zip}
 use Rattle.offset.specs.Offset.{falls, greatest, run_of, head_of}
 use Rattle.offset.specs.Search.{Reached, Last}
 
@@ -32,24 +32,19 @@ rising (x ∷ y ∷ l) f zero (suc j) h k =
 rising (x ∷ y ∷ l) f (suc i) (suc j) h k =
     rising (y ∷ l) (or_right (ltb y x) (falls (y ∷ l)) f) i j (le_of_suc-le-suc h) (le_of_suc-le-suc k)
 
--- a scan of the pairs, from a place on
-falls_suc : (l : List ℕ) (i : ℕ) → suc i < length l → falls (drop i l) ≡ (ltb (get_or l (suc i) 0) (get_or l i 0) || falls (drop (suc i) l))
-unfolding falls
-falls_suc [] i h = absurd (not-suc-le-zero h)
-falls_suc (x ∷ []) i h = absurd (omega arith)
-falls_suc (x ∷ y ∷ l) zero h = refl
-falls_suc (x ∷ y ∷ l) (suc i) h = falls_suc (y ∷ l) i (le_of_suc-le-suc h)
+-- a scan of the pairs of neighbours
+abbrev pub falls_at : Bool → ℕ × ℕ → Bool
+falls_at fell p = fell || ltb p.1 p.0
 
-pub falls_step : (l : List ℕ) (i : ℕ) → i + 1 < length l → falls (drop i l) ≡ (ltb (get_or l (i + 1) 0) (get_or l i 0) || falls (drop (i + 1) l))
-falls_step l i h = rw add-one (falls_suc l i (omega arith))
-
-pub falls_end : (l : List ℕ) (i : ℕ) → length l ≤ i + 1 → falls (drop i l) ≡ false
+falls_from : (fell : Bool) (x : ℕ) (l : List ℕ) → fold falls_at fell (zip (x ∷ l) l) ≡ (fell || falls (x ∷ l))
 unfolding falls
-falls_end [] zero h = refl
-falls_end [] (suc i) h = refl
-falls_end (x ∷ []) zero h = refl
-falls_end (x ∷ y ∷ l) zero h = absurd (omega arith)
-falls_end (x ∷ l) (suc i) h = falls_end l i (omega arith)
+falls_from fell x [] = sym (or-false fell)
+falls_from fell x (y ∷ l) = falls_from (fell || ltb y x) y l ∙ or_assoc fell (ltb y x) (falls (y ∷ l))
+
+pub falls_pairs : (l : List ℕ) → fold falls_at false (zip l (drop 1 l)) ≡ falls l
+unfolding falls
+falls_pairs [] = refl
+falls_pairs (x ∷ l) = falls_from false x l
 
 -- the last place is one of the `size` from `place` on
 pub record Bracket (needle : ℕ) (l : List ℕ) (place size : ℕ) : Type 0 where
@@ -207,41 +202,41 @@ start_behind {l} {i} {q} f s some k h e =
 
 -- ---- the index at a place
 
-pub head_at : (l : List ℕ) (k : ℕ) → k < length l → head_of (drop k l) ≡ At (get_or l k 0)
+pub head_at : (l : List ℕ) (k : ℕ) → k < length l → head_of (drop k l) ≡ Some (get_or l k 0)
 head_at l k h = rw (drop-cons l k 0)
 
-pub head_past : (l : List ℕ) (k : ℕ) → length l ≤ k → head_of (drop k l) ≡ Absent
+pub head_past : (l : List ℕ) (k : ℕ) → length l ≤ k → head_of (drop k l) ≡ None
 head_past l k h = ap head_of (drop_of_length-le l h)
 
-pub head_is : (l : List ℕ) (k j : ℕ) → head_of (drop k l) ≡ At j → (k < length l) × (get_or l k 0 ≡ j)
+pub head_is : (l : List ℕ) (k j : ℕ) → head_of (drop k l) ≡ Some j → (k < length l) × (get_or l k 0 ≡ j)
 head_is [] zero j e = let z : ◌≡◌ {A = ℕ} 0 1 = cc in absurd (omega arith)
 head_is [] (suc k) j e = let z : ◌≡◌ {A = ℕ} 0 1 = cc in absurd (omega arith)
 head_is (x ∷ l) zero j e = (omega arith, (cc))
 head_is (x ∷ l) (suc k) j e = let i = head_is l k j e in (omega arith, i.1)
 
-pub head_none : (l : List ℕ) (k : ℕ) → head_of (drop k l) ≡ Absent → length l ≤ k
+pub head_none : (l : List ℕ) (k : ℕ) → head_of (drop k l) ≡ None → length l ≤ k
 head_none [] k e = omega arith
 head_none (x ∷ l) zero e = let z : ◌≡◌ {A = ℕ} 0 1 = cc in absurd (omega arith)
 head_none (x ∷ l) (suc k) e = omega (arith, head_none l k e)
 
 -- ---- a run of one index
 
-pub run_ends : (i : ℕ) (l : List ℕ) → head_of l ≡ Absent → run_of i l ≡ 0
+pub run_ends : (i : ℕ) (l : List ℕ) → head_of l ≡ None → run_of i l ≡ 0
 unfolding run_of
 run_ends i [] e = refl
 run_ends i (j ∷ l) e = let z : ◌≡◌ {A = ℕ} 0 1 = cc in absurd (omega arith)
 
-pub run_differs : (i j : ℕ) (l : List ℕ) → head_of l ≡ At j → (j ≡ i → ⊥) → run_of i l ≡ 0
+pub run_differs : (i j : ℕ) (l : List ℕ) → head_of l ≡ Some j → (j ≡ i → ⊥) → run_of i l ≡ 0
 unfolding run_of
 run_differs i j [] e n = refl
 run_differs i j (x ∷ l) e n = let same : x ≡ j = cc in rw (ne_eqb i x (λ q. n (sym (q ∙ same))))
 
-pub run_goes : (i : ℕ) (l : List ℕ) → head_of l ≡ At i → run_of i l ≡ suc (run_of i (drop 1 l))
+pub run_goes : (i : ℕ) (l : List ℕ) → head_of l ≡ Some i → run_of i l ≡ suc (run_of i (drop 1 l))
 unfolding run_of
 run_goes i [] e = let z : ◌≡◌ {A = ℕ} 0 1 = cc in absurd (omega arith)
 run_goes i (x ∷ l) e = let same : i ≡ x = cc in rw (eq-eqb i x same)
 
-pub run_more : (i start n : ℕ) (l : List ℕ) → run_of i (drop start l) ≡ n + run_of i (drop (start + n) l) → head_of (drop (start + n) l) ≡ At i
+pub run_more : (i start n : ℕ) (l : List ℕ) → run_of i (drop start l) ≡ n + run_of i (drop (start + n) l) → head_of (drop (start + n) l) ≡ Some i
     → run_of i (drop start l) ≡ (n + 1) + run_of i (drop (start + (n + 1)) l)
 run_more i start n l e h =
     let one : drop 1 (drop (start + n) l) ≡ drop (start + n + 1) l = drop-drop 1 (start + n) l in
@@ -269,12 +264,12 @@ run_carries i (x ∷ l) k h = go (eqb i x) refl k h (λ k. run_carries i l k)
     go true q (suc k) h f = f k (le_of_suc-le-suc h)
     go false q k h f = absurd (not-suc-le-zero h)
 
-pub run_stops : (i : ℕ) (l : List ℕ) → head_of (drop (run_of i l) l) ≡ At i → ⊥
+pub run_stops : (i : ℕ) (l : List ℕ) → head_of (drop (run_of i l) l) ≡ Some i → ⊥
 unfolding run_of
 run_stops i [] e = let z : ◌≡◌ {A = ℕ} 0 1 = cc in omega arith
 run_stops i (x ∷ l) e = go (eqb i x) refl e (run_stops i l)
   where
-    go : (b : Bool) → eqb i x ≡ b → head_of (drop (cond b (suc (run_of i l)) 0) (x ∷ l)) ≡ At i → (head_of (drop (run_of i l) l) ≡ At i → ⊥) → ⊥
+    go : (b : Bool) → eqb i x ≡ b → head_of (drop (cond b (suc (run_of i l)) 0) (x ∷ l)) ≡ Some i → (head_of (drop (run_of i l) l) ≡ Some i → ⊥) → ⊥
     go true q e f = f e
     go false q e f = let same : i ≡ x = cc in eqb-false i x q same
 
@@ -338,7 +333,7 @@ module _ (l : List ℕ) (f : falls l ≡ false) (i k : ℕ) (h : k < length l) (
         let low = rising l f (place_in l i) end (omega arith) (omega arith) in
         let same : get_or l end 0 ≡ i = omega (arith, low, rising l f end j o a, first.1) in
         let stops = run_stops i (drop (place_in l i) l) in
-        absurd (stops (ap head_of (drop-drop (run_of i (drop (place_in l i) l)) (place_in l i) l) ∙ head_at l end (omega arith) ∙ ap At same)))
+        absurd (stops (ap head_of (drop-drop (run_of i (drop (place_in l i) l)) (place_in l i) l) ∙ head_at l end (omega arith) ∙ ap Some same)))
         (λ o. o),
   )
 

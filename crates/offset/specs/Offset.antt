@@ -1,14 +1,11 @@
 -- Document 01, "Look up (get_offset)", with document 02's E2.
 -- Assumes nothing.
-use Rattle.std.specs.Prelude.{ℕ, suc, ◌+◌, max, Bool, false, cond, ◌||◌, List, [], ◌∷◌, eqb, leb, ltb, length, drop}
+use Rattle.std.specs.Prelude.{ℕ, suc, ◌+◌, max, Bool, false, cond, ◌||◌, List, [], ◌∷◌, eqb, leb, ltb, length, drop, Option, Some, None, Result, Ok, Err}
 use Rattle.value.specs.Level.{place_in}
 use Rattle.fst.specs.Refusal.{Reply, refused, given, ◌⇐◌, tried, refusal_number}
 use Rattle.fst.specs.Record.{maximum}
-use Rattle.fst.specs.declared.NextIndex.{NextIndex}
-use Rattle.fst.specs.declared.NextIndex.TheVariants as next
+use Rattle.fst.specs.declared.Refusal.{Refusal}
 use Rattle.offset.specs.declared.DataOffset.{DataOffset}
-use Rattle.offset.specs.declared.OffsetAnswer.{OffsetAnswer}
-use Rattle.offset.specs.declared.OffsetAnswer.TheVariants as answer
 
 -- "11: an index falls"
 unfoldable pub falls : List ℕ → Bool
@@ -27,14 +24,9 @@ run_of i [] = 0
 run_of i (j ∷ l) = cond (eqb i j) (suc (run_of i l)) 0
 
 -- "the next greater index, or absent": the index behind the run
-abbrev pub head_of : List ℕ → NextIndex
-head_of [] = next.Absent
-head_of (i ∷ l) = next.At i
-
--- an answer of Look up: none, or a place
-pub data Place : Type 0 where
-  none : Place
-  at : DataOffset → Place
+abbrev pub head_of : List ℕ → Option ℕ
+head_of [] = None
+head_of (i ∷ l) = Some i
 
 -- for the greatest index not above the sought one: "start, its first entry; the number of entries ..; whether it equals the sought one; the
 -- next greater index, or absent"; E2: "The number of entries in a lookup answer .. is the true count"
@@ -46,16 +38,15 @@ place_of sought l =
     record { start = start; elements = n; time_match = eqb i sought; next_index = head_of (drop (start + n) l) }
 
 -- "The answer is none exactly when the list is empty or its first index exceeds the sought one"
-unfoldable pub place : ℕ → List ℕ → Place
-place sought [] = none
-place sought (i ∷ l) = cond (ltb sought i) none (at (place_of sought (i ∷ l)))
+unfoldable pub place : ℕ → List ℕ → Option DataOffset
+place sought [] = None
+place sought (i ∷ l) = cond (ltb sought i) None (Some (place_of sought (i ∷ l)))
 
 -- "2: list above the maximum. 11: an index falls"
-unfoldable pub look_up : List ℕ → ℕ → Reply Place
+unfoldable pub look_up : List ℕ → ℕ → Reply (Option DataOffset)
 look_up indices sought = tried (2 ⇐ ltb maximum (length indices) ∷ 11 ⇐ falls indices ∷ []) (given (place sought indices))
 
 -- the answer, by number and values
-abbrev pub offset_of : OffsetAnswer → Reply Place
-offset_of answer.Nothing = given none
-offset_of (answer.At o) = given (at o)
-offset_of (answer.Refused r) = refused (refusal_number r)
+abbrev pub offset_of : Result (Option DataOffset) Refusal → Reply (Option DataOffset)
+offset_of (Ok p) = given p
+offset_of (Err r) = refused (refusal_number r)

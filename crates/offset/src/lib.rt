@@ -1,54 +1,51 @@
 // The entries that hold at a time index, after wellen's src/signal/mod.rs.
 #![tactic(auto)]
 
-ghost use Rattle.std.specs.Prelude.{◌≡◌, false, cond, ◌≤◌, ◌<◌, leb, length, get_or, drop};
+ghost use Rattle.std.specs.Prelude.{◌≡◌, false, cond, ◌||◌, ◌≤◌, ◌<◌, leb, ltb, fold, length, get_or, drop};
+ghost use Rattle.std.specs.List.{zip};
 ghost use Rattle.value.specs.Level.{place_in};
 ghost use Rattle.fst.specs.Record.{maximum};
 ghost use Rattle.offset.specs.Offset.{falls, run_of, head_of, place_of, look_up, offset_of};
 ghost use Rattle.offset.specs.Search.{Reached, Last};
 
+use fst::Refusal;
 use fst::record::MAXIMUM;
-use fst::{NextIndex, Refusal};
 
 // The entries that carry the greatest time index not above the sought one.
-#[derive(Clone, Copy)]
+#[derive(Clone, Copy, PartialEq, Eq)]
 pub struct DataOffset {
     pub start: usize,
     pub elements: u32,
     pub time_match: bool,
-    pub next_index: NextIndex,
+    pub next_index: Option<u32>,
 }
 
-// The answer of Look up.
-#[derive(Clone, Copy)]
-pub enum OffsetAnswer {
-    Nothing,
-    At(DataOffset),
-    Refused(Refusal),
+// Whether an index of the second list is below the one at its place in the first. All are compared, since a scan that can end early is not
+// vectorised.
+fn any_below(indices: &[u32], behind: &[u32]) -> bool
+    ensures { result ≡ fold (λ fell pair. fell || ltb pair.1 pair.0) false (zip indices.now behind.now) }
+{
+    indices
+        .iter()
+        .zip(behind)
+        .fold(false, |fell, (index, next)| fell | (next < index))
 }
 
-// Whether an index is below the one before it. Every pair is compared, since a scan that can end early is not vectorised.
+// Whether an index is below the one before it.
 pub fn falls(indices: &[u32]) -> bool
     ensures { result ≡ falls indices.now }
 {
-    let mut fell = false;
-    let mut i = 0;
-    while i + 1 < indices.len() {
-        fell = fell | (indices[i + 1] < indices[i]);
-        i += 1;
+    match indices {
+        [] => false,
+        [_, behind @ ..] => any_below(indices, behind),
     }
-    fell
 }
 
 // The index at a place, absent from the list's end on.
-pub fn get(indices: &[u32], place: usize) -> NextIndex
+pub fn get(indices: &[u32], place: usize) -> Option<u32>
     ensures { result ≡ head_of (drop place indices.now) }
 {
-    if place < indices.len() {
-        NextIndex::At(indices[place])
-    } else {
-        NextIndex::Absent
-    }
+    indices.get(place).copied()
 }
 
 // 1 where an index is not above the needle, and else 0. By arithmetic, since a comparison is compiled to a jump, and a search's jumps go either
@@ -97,7 +94,7 @@ fn run_length(indices: &[u32], start: usize, index: u32) -> usize
 {
     let mut elements = 0;
     loop {
-        let NextIndex::At(next) = get(indices, start + elements) else {
+        let Some(next) = get(indices, start + elements) else {
             break elements;
         };
         if next != index {
@@ -126,21 +123,21 @@ pub fn find_offset_from_time_table_idx(indices: &[u32], needle: u32) -> DataOffs
     }
 }
 
-// Look up: `Nothing` for an empty list and for one whose first index is above the sought one.
-pub fn get_offset(indices: &[u32], time_table_idx: u32) -> OffsetAnswer
+// Look up: `None` for an empty list and for one whose first index is above the sought one.
+pub fn get_offset(indices: &[u32], time_table_idx: u32) -> Result<Option<DataOffset>, Refusal>
     ensures { offset_of result ≡ look_up indices.now time_table_idx }
 {
     if indices.len() > MAXIMUM as usize {
-        return OffsetAnswer::Refused(Refusal::BadRecord);
+        return Err(Refusal::BadRecord);
     }
     if falls(indices) {
-        return OffsetAnswer::Refused(Refusal::IndexFalls);
+        return Err(Refusal::IndexFalls);
     }
-    let NextIndex::At(first) = get(indices, 0) else {
-        return OffsetAnswer::Nothing;
+    let Some(first) = get(indices, 0) else {
+        return Ok(None);
     };
     if first > time_table_idx {
-        return OffsetAnswer::Nothing;
+        return Ok(None);
     }
-    OffsetAnswer::At(find_offset_from_time_table_idx(indices, time_table_idx))
+    Ok(Some(find_offset_from_time_table_idx(indices, time_table_idx)))
 }
