@@ -5,20 +5,19 @@ use mathlib.Core.Bool.{Bool, true, false, cond, ◌&&◌}
 use mathlib.Core.List.{List, [], ◌∷◌}
 use Prim.Native.Nat.{ℕ, zero, suc, ◌+◌, ◌-◌, ◌*◌, ◌/◌, ◌≤◌, ◌<◌, min}
 use native.Mathlib.Nat.{not-suc-le-zero, mul-le-mul_right, add-zero}
-use native.Mathlib.Numerals.{add-one}
 use native.Mathlib.Omega.{arith}
-use mir.Val.{bool_byte}
 use borrow.Author.Tests.{leb-false, le-leb, lt-leb, le-ltb, lt-ltb, ltb-true, eq-eqb, ne_eqb}
 use lib.Dec.{eqb, leb, ltb}
 use lib.ListN.{length, get_or, take, drop, length-take, length-drop}
-use lib.Seq.{drop-cons, take_all}
+use lib.Seq.{take_all}
 use Rattle.value.specs.Slice.{part}
 use Rattle.value.proofs.Slices.{part_length, part_at, part_part}
 use Rattle.value.proofs.Tests.{by_le}
 use Rattle.fst.specs.Refusal.{refused, given, tried}
 use Rattle.fst.specs.Record.{maximum}
-use Rattle.fst.specs.declared.NextIndex.{NextIndex}
-use Rattle.offset.specs.Offset.{head_of, none, at}
+use Rattle.std.specs.Prelude.{Option, Some, None, sum_by}
+use Rattle.std.proofs.lemmas.List.Recursion.{is_sum_by}
+use Rattle.offset.specs.Offset.{head_of}
 use Rattle.search.specs.Quartering.{not_above, ends_from, ends, quartered, rank, reach_of, start_of, run_up_to, search}
 
 -- ---- a count
@@ -41,22 +40,16 @@ not_above_cons s i l = go (leb i s)
     go true = omega arith
     go false = omega arith
 
-byte_is : (b : Bool) → bool_byte b ≡ cond b 1 0
-byte_is true = refl
-byte_is false = refl
+pub not_above_sum : (s : ℕ) (l : List ℕ) → sum_by (λ i. cond (leb i s) 1 0) l ≡ not_above s l
+unfolding not_above
+not_above_sum s l = sym (is_sum_by (not_above s) (λ i. cond (leb i s) 1 0) refl (not_above_cons s) l)
 
-not_above_suc : (s : ℕ) (l : List ℕ) (i : ℕ) → i < length l → not_above s (drop i l) ≡ bool_byte (leb (get_or l i 0) s) + not_above s (drop (suc i) l)
-not_above_suc s l i h = rw (drop-cons l i 0, byte_is (leb (get_or l i 0) s)) (not_above_cons s (get_or l i 0) (drop (suc i) l))
-
-pub not_above_step : (s : ℕ) (l : List ℕ) (i : ℕ) → i < length l → not_above s (drop i l) ≡ bool_byte (leb (get_or l i 0) s) + not_above s (drop (i + 1) l)
-not_above_step s l i h = rw add-one (not_above_suc s l i h)
-
-pub not_above_end : (s : ℕ) (l : List ℕ) (i : ℕ) → length l ≤ i → not_above s (drop i l) ≡ 0
-not_above_end s l i h = omega (arith, not_above_within s (drop i l), length-drop i l)
-
-pub one_at_most : (b : Bool) → bool_byte b ≤ 1
-one_at_most true = omega arith
-one_at_most false = omega arith
+-- one index that is above
+not_above_alone : (s : ℕ) (l : List ℕ) → length l ≡ 1 → s < get_or l 0 0 → not_above s l ≡ 0
+unfolding not_above
+not_above_alone s [] h above = refl
+not_above_alone s (i ∷ []) h above = rw (lt-leb i s above)
+not_above_alone s (i ∷ j ∷ l) h above = absurd (omega arith)
 
 -- as many quarters as have an end that is not above
 pub passed_by : (s a b c : ℕ) → not_above s (a ∷ b ∷ c ∷ []) ≡ cond (leb a s) 1 0 + cond (leb b s) 1 0 + cond (leb c s) 1 0
@@ -245,15 +238,15 @@ start_some (suc i) l end h =
     rw less
 
 -- as many as there are, if there are fewer
-pub window : (p n : ℕ) (l : List ℕ) → take (min (p + n) (length l) - p) (drop p l) ≡ part p n l
+pub window : (p n : ℕ) (l : List ℕ) → take (min (length l) (p + n) - p) (drop p l) ≡ part p n l
 unfolding part
 window p n l =
     by_le (p + n) (length l)
     (λ h.
-    let all : min (p + n) (length l) - p ≡ n = omega arith in
+    let all : min (length l) (p + n) - p ≡ n = omega arith in
     ap (λ (m : ℕ). take m (drop p l)) all)
     (λ h.
-    take_all (min (p + n) (length l) - p) (drop p l) (omega (arith, length-drop p l)) ∙ sym (take_all n (drop p l) (omega (arith, length-drop p l))))
+    take_all (min (length l) (p + n) - p) (drop p l) (omega (arith, length-drop p l)) ∙ sym (take_all n (drop p l) (omega (arith, length-drop p l))))
 
 part_within : (p n : ℕ) (l : List ℕ) → length (part p n l) ≤ n
 unfolding part
@@ -276,10 +269,8 @@ start_alone i l end some one h e own =
     start_some i l end some ∙ ap (λ (n : ℕ). end - n + rank (i - 1) (part (end - n) n l)) (sym e) in
     let long : length (part (end - 1) 1 l) ≡ 1 = part_length l (end - 1) 1 (omega arith) in
     let first : get_or (part (end - 1) 1 l) 0 0 ≡ i = part_at l (end - 1) 1 0 0 (omega arith) ∙ ap (λ (k : ℕ). get_or l k 0) (add-zero (end - 1)) ∙ own in
-    let above : leb (get_or (part (end - 1) 1 l) 0 0) (i - 1) ≡ false = lt-leb _ (i - 1) (omega (arith, first)) in
-    let step : not_above (i - 1) (part (end - 1) 1 l) ≡ 0 + not_above (i - 1) (drop 1 (part (end - 1) 1 l)) = rw above at (not_above_step (i - 1) (part (end - 1) 1 l) 0 (omega (arith, long))) in
-    let rest = not_above_end (i - 1) (part (end - 1) 1 l) 1 (omega (arith, long)) in
-    omega (arith, is, step, rest, rank_short (i - 1) (part (end - 1) 1 l) (omega (arith, long)))
+    let none = not_above_alone (i - 1) (part (end - 1) 1 l) long (omega (arith, first)) in
+    omega (arith, is, none, rank_short (i - 1) (part (end - 1) 1 l) (omega (arith, long)))
 
 pub search_long : (l : List ℕ) (s : ℕ) → maximum < length l → search l s ≡ refused 2
 unfolding search tried
@@ -289,14 +280,14 @@ pub search_given : (l : List ℕ) (s : ℕ) → length l ≤ maximum → search 
 unfolding search tried
 search_given l s h = rw (le-ltb maximum (length l) h)
 
-pub run_none : (s : ℕ) (l : List ℕ) (end : ℕ) → end ≡ 0 → run_up_to s l end ≡ none
+pub run_none : (s : ℕ) (l : List ℕ) (end : ℕ) → end ≡ 0 → run_up_to s l end ≡ None
 unfolding run_up_to
 run_none s l zero e = refl
 run_none s l (suc end) e = absurd (omega arith)
 
-pub run_at : (s : ℕ) (l : List ℕ) (end : ℕ) {index start n : ℕ} {next : NextIndex} → 0 < end
+pub run_at : (s : ℕ) (l : List ℕ) (end : ℕ) {index start n : ℕ} {next : Option ℕ} → 0 < end
     → index ≡ get_or l (end - 1) 0 → start ≡ start_of index l end → n ≡ end - start → next ≡ head_of (drop end l)
-    → at (record { start = start; elements = n; time_match = eqb index s; next_index = next }) ≡ run_up_to s l end
+    → Some (record { start = start; elements = n; time_match = eqb index s; next_index = next }) ≡ run_up_to s l end
 unfolding run_up_to
 run_at s l zero h e f g k = absurd (not-suc-le-zero h)
 run_at s l (suc last) h e f g k =

@@ -13,9 +13,10 @@ use Rattle.value.specs.Level.{place_in}
 use Rattle.value.specs.Slice.{part}
 use Rattle.value.proofs.Slices.{part_length, part_at}
 use Rattle.value.proofs.Tests.{by_le}
+use Rattle.std.specs.Prelude.{Some}
 use Rattle.fst.specs.Refusal.{given}
 use Rattle.fst.specs.Record.{maximum}
-use Rattle.offset.specs.Offset.{falls, run_of, head_of, at, place, look_up}
+use Rattle.offset.specs.Offset.{falls, run_of, head_of, place, look_up}
 use Rattle.offset.specs.Search.{Last}
 use Rattle.offset.proofs.Search.{rising, place_is, last_greatest, Carrying, run_is}
 use Rattle.offset.proofs.Offsets.{look_up_long, look_up_rising, place_empty, place_above, place_reached, place_found}
@@ -262,7 +263,7 @@ module _ (l : List ℕ) (s : ℕ) (f : falls l ≡ false) where
     found : run_up_to s l (rank s l) ≡ place s l
     found =
         sym (run_at s l end some refl refl refl refl)
-        ∙ ap at (place_found s l (last_greatest f last) first elements next)
+        ∙ ap Some (place_found s l (last_greatest f last) first elements next)
         ∙ sym (place_reached s l (omega (arith, parted.within)) (parted.low 0 some))
 
   answer : run_up_to s l (rank s l) ≡ place s l

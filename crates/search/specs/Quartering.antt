@@ -1,11 +1,12 @@
 -- Search: Look up in a list that is known not to fall. Quartering, which is halving twice at once, finds something in every list, and this is
 -- what.
 -- Assumes nothing.
-use Rattle.std.specs.Prelude.{ℕ, zero, suc, ◌+◌, ◌-◌, ◌*◌, ◌/◌, cond, ◌&&◌, List, [], ◌∷◌, eqb, leb, ltb, length, get_or, drop}
+use Rattle.std.specs.Prelude.{ℕ, zero, suc, ◌+◌, ◌-◌, ◌*◌, ◌/◌, cond, ◌&&◌, List, [], ◌∷◌, eqb, leb, ltb, length, get_or, drop, Option, Some, None}
 use Rattle.value.specs.Slice.{part}
 use Rattle.fst.specs.Refusal.{Reply, given, ◌⇐◌, tried}
 use Rattle.fst.specs.Record.{maximum}
-use Rattle.offset.specs.Offset.{head_of, Place, none, at}
+use Rattle.offset.specs.declared.DataOffset.{DataOffset}
+use Rattle.offset.specs.Offset.{head_of}
 
 -- how many indices are not above a sought one
 unfoldable pub not_above : ℕ → List ℕ → ℕ
@@ -48,14 +49,14 @@ start_of (suc i) l end =
     end - n + rank i (part (end - n) n l)
 
 -- the answer of a rank: none, or the run that ends there
-unfoldable pub run_up_to : ℕ → List ℕ → ℕ → Place
-run_up_to s l zero = none
+unfoldable pub run_up_to : ℕ → List ℕ → ℕ → Option DataOffset
+run_up_to s l zero = None
 run_up_to s l (suc last) =
     let i = get_or l last 0 in
     let end = suc last in
     let start = start_of i l end in
-    at (record { start = start; elements = end - start; time_match = eqb i s; next_index = head_of (drop end l) })
+    Some (record { start = start; elements = end - start; time_match = eqb i s; next_index = head_of (drop end l) })
 
 -- "2: list above the maximum". No index is tried for 11.
-unfoldable pub search : List ℕ → ℕ → Reply Place
+unfoldable pub search : List ℕ → ℕ → Reply (Option DataOffset)
 search indices sought = tried (2 ⇐ ltb maximum (length indices) ∷ []) (given (run_up_to sought indices (rank sought indices)))

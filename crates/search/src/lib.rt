@@ -6,22 +6,19 @@ ghost use Rattle.fst.specs.Record.{maximum};
 ghost use Rattle.offset.specs.Offset.{offset_of};
 ghost use Rattle.search.specs.Quartering.{not_above, ends_from, rank, reach_of, start_of, search};
 
+use fst::Refusal;
 use fst::record::MAXIMUM;
-use fst::{NextIndex, Refusal};
-use offset::{DataOffset, OffsetAnswer, get, not_above};
+use offset::{DataOffset, get, not_above};
 
 // The number of up to 16 indices that are not above the needle. All are compared, since a count that can end early is not vectorised.
-fn count(indices: &[u32], needle: u32) -> usize
+fn count(indices: &[u32], needle: u32) -> u32
     requires { length indices.now ≤ 16 }
     ensures { result ≡ not_above needle indices.now }
 {
-    let mut counted: u32 = 0;
-    let mut i = 0;
-    while i < indices.len() {
-        counted += (indices[i] <= needle) as u32;
-        i += 1;
-    }
-    counted as usize
+    indices
+        .iter()
+        .map(|index| u32::from(*index <= needle))
+        .sum()
 }
 
 // How many of three quarters from a place on end in an index that is not above the needle.
@@ -48,20 +45,7 @@ fn rank(indices: &[u32], needle: u32) -> usize
         size -= 3 * quarter;
     }
     let end = place + size;
-    place + count(&indices[place..end], needle)
-}
-
-// The difference, or 0 where there is none.
-fn less(a: usize, b: usize) -> usize
-    ensures { result ≡ a - b }
-{
-    if b < a { a - b } else { 0 }
-}
-
-fn lesser(a: usize, b: usize) -> usize
-    ensures { result ≡ min a b }
-{
-    if a < b { a } else { b }
+    place + count(&indices[place..end], needle) as usize
 }
 
 // In how many indices the run is looked for that ends at a place. Most runs are short, and found near.
@@ -97,28 +81,28 @@ fn find_start(indices: &[u32], end: usize, index: u32) -> usize
     if reach == 1 {
         return end - 1;
     }
-    let front = less(end, reach);
-    let behind = lesser(front + reach, indices.len());
+    let front = end.saturating_sub(reach);
+    let behind = indices.len().min(front + reach);
     front + rank(&indices[front..behind], index - 1)
 }
 
 // Search: Look up's answer if no index falls, and some answer if one does.
-pub fn search(indices: &[u32], time_table_idx: u32) -> OffsetAnswer
+pub fn search(indices: &[u32], time_table_idx: u32) -> Result<Option<DataOffset>, Refusal>
     ensures { offset_of result ≡ search indices.now time_table_idx }
 {
     if indices.len() > MAXIMUM as usize {
-        return OffsetAnswer::Refused(Refusal::BadRecord);
+        return Err(Refusal::BadRecord);
     }
     let end = rank(indices, time_table_idx);
     if end == 0 {
-        return OffsetAnswer::Nothing;
+        return Ok(None);
     }
     let index = indices[end - 1];
     let start = find_start(indices, end, index);
-    OffsetAnswer::At(DataOffset {
-        start: start,
-        elements: less(end, start) as u32,
+    Ok(Some(DataOffset {
+        start,
+        elements: end.saturating_sub(start) as u32,
         time_match: index == time_table_idx,
         next_index: get(indices, end),
-    })
+    }))
 }

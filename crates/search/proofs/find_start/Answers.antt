@@ -20,13 +20,13 @@ returns-then-reach-eq1 c =
 
 counted : (c : After-rank) →
     let a = c.args in
-    c.less-front.result + c.rank.result ≡ start_of a.index a.indices.now a.end
+    c.saturating_sub-front.result + c.rank.result ≡ start_of a.index a.indices.now a.end
 counted c =
     let a = c.args in
     let l = a.indices.now in
     let reach = c.find_reach-reach in
-    let front = c.less-front in
-    let behind = c.lesser-behind in
+    let front = c.saturating_sub-front in
+    let behind = c.min-behind in
     let searched : take (behind.result - front.result) (drop front.result l) ≡ part front.result reach.result l =
     ap (λ (n : ℕ). take (n - front.result) (drop front.result l)) behind.ensures ∙ window front.result reach.result l in
     let ranked = c.rank.ensures ∙ ap (rank (a.index - 1)) searched in

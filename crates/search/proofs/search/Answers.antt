@@ -37,7 +37,7 @@ pub returns : goal.returns
 returns c =
     let a = c.args in
     let found =
-    run_at a.time_table_idx a.indices.now c.rank-end.result (omega arith) refl c.find_start-start.ensures c.less.ensures c.get.ensures in
+    run_at a.time_table_idx a.indices.now c.rank-end.result (omega arith) refl c.find_start-start.ensures c.saturating_sub.ensures c.get.ensures in
     ap given (found ∙ ap (run_up_to a.time_table_idx a.indices.now) c.rank-end.ensures) ∙ sym (search_given _ _ c.if-indices.false)
 
 pub offset_bounds-indices-end : goal.offset_bounds-indices-end
@@ -47,4 +47,4 @@ pub bounds-indices-end : goal.bounds-indices-end
 bounds-indices-end c = omega (arith, inside (goal.at.bounds-indices-end c).After-rank-end)
 
 pub overflow_cast-result : goal.overflow_cast-result
-overflow_cast-result c = omega (arith, c.less.ensures, inside (goal.at.overflow_cast-result c).After-rank-end, c.if-indices.false)
+overflow_cast-result c = omega (arith, c.saturating_sub.ensures, inside (goal.at.overflow_cast-result c).After-rank-end, c.if-indices.false)
