@@ -15,7 +15,7 @@ use Rattle.value.proofs.Slices.{part_length, part_all, part_part, part_overlay}
 use Rattle.layout.specs.Entry.{entry_size, widen_entry, widen_all}
 use Rattle.layout.specs.Writable.{Writable, entry_from}
 use Rattle.entries.specs.Repeats.{repeats}
-use Rattle.entries.specs.Repeatable.{Repeatable, equals_widened, repeats_plain, repeats_widened}
+use Rattle.entries.specs.Repeatable.{Repeatable, equals_widened, repeats_widened}
 use Rattle.layout.proofs.Sizes.{widen_length, widen_same}
 
 -- ---- the last of n entries of one size
@@ -123,20 +123,16 @@ module _ {M J own : States} {v : List ℕ} {room start n : ℕ} (p : Repeatable 
         fits = omega (arith, one-mul (entry_size (length v) M), last_within);
       }
 
-  module _ (bytes : List ℕ) where
-    pub last_plain : same (part (start + (n - 1) * size) (entry_size (length v) M) bytes) (entry_from M own v) ≡ repeats_plain M own v start n bytes
-    last_plain = rw sized (repeats_plain_lem (entry_size (length v) M) n start bytes (entry_from M own v) some)
+  module _ (bytes : List ℕ) (long : length bytes ≡ room) where
+    -- whether the string repeats it, laid out anew
+    pub last_widened : equals_widened M J own v (start + (n - 1) * size) bytes ≡ repeats_widened M J own v start n bytes
+    last_widened = rw sized (repeats_widened_lem (length v) p.wide M J p.up n start bytes (entry_from J own v) some (omega (arith, p.fits)))
 
-    module _ (long : length bytes ≡ room) where
-      -- whether the string repeats it, laid out anew
-      pub last_widened : equals_widened M J own v (start + (n - 1) * size) bytes ≡ repeats_widened M J own v start n bytes
-      last_widened = rw sized (repeats_widened_lem (length v) p.wide M J p.up n start bytes (entry_from J own v) some (omega (arith, p.fits)))
-
-      -- or as it stands
-      pub last_as_is : size ≡ entry_size (length v) J
-          → same (part (start + (n - 1) * size) (entry_size (length v) J) bytes) (entry_from J own v) ≡ repeats_widened M J own v start n bytes
-      last_as_is e =
-          let z : entry_size (length v) M ≡ entry_size (length v) J = sym sized ∙ e in
-          ap (λ (k : ℕ). same (part (start + (n - 1) * size) k bytes) (entry_from J own v)) (sym z)
-          ∙ ap (λ (l : List ℕ). same l (entry_from J own v)) (sym (widen_same (length v) M J _ z))
-          ∙ last_widened
+    -- or as it stands
+    pub last_as_is : size ≡ entry_size (length v) J
+        → same (part (start + (n - 1) * size) (entry_size (length v) J) bytes) (entry_from J own v) ≡ repeats_widened M J own v start n bytes
+    last_as_is e =
+        let z : entry_size (length v) M ≡ entry_size (length v) J = sym sized ∙ e in
+        ap (λ (k : ℕ). same (part (start + (n - 1) * size) k bytes) (entry_from J own v)) (sym z)
+        ∙ ap (λ (l : List ℕ). same l (entry_from J own v)) (sym (widen_same (length v) M J _ z))
+        ∙ last_widened

@@ -1,37 +1,29 @@
--- A real's bytes, the lowest first: one byte more, and the byte at a place.
+-- A real's bytes, the lowest first.
 -- Assumes nothing.
 use mathlib.Core.Path.{◌≡◌, sym, ap, ◌∙◌}
-use mathlib.Core.List.{List, [], ◌∷◌, ◌++◌, reverse, reverse-cons}
-use Prim.Native.Nat.{ℕ, zero, suc, ◌+◌, ◌^◌, ◌/◌, ◌%◌, ◌<◌}
-use native.Mathlib.Nat.{div-div-eq-div-mul, pow-suc}
-use native.Mathlib.Numerals.{add-one}
-use native.Mathlib.Omega.{arith}
-use lib.ListN.{length, get_or, length-reverse, get_or-append}
-use lib.Seq.{get_or_at}
+use mathlib.Core.List.{List, reverse}
+use Prim.Native.Nat.{ℕ, ◌^◌, ◌<◌}
+use native.Mathlib.Nat.{div-one}
+use lib.Dec.{eqb}
+use lib.ListN.{length, get_or}
+use borrow.Author.Tests.{eq-eqb, ne_eqb}
+use Rattle.std.specs.Int.{w64, to_le_bytes, from_le_bytes}
+use Rattle.std.proofs.lemmas.Nat.{le_bytes_8, from_le_bytes-to_le_bytes_8}
 use Rattle.value.specs.Digits.{digits}
+use Rattle.value.specs.Slice.{same}
 use Rattle.value.proofs.Tests.{by_eq}
-use Rattle.value.proofs.Digits.{digits_length}
+use Rattle.wavemem.proofs.Compare.{same_is, same_not}
 
-module _ (B x : ℕ) where
-  -- the k lowest digits, the lowest first
-  abbrev pub lowest : ℕ → List ℕ
-  lowest k = reverse (digits B k x)
+-- the library's word for them
+pub low_bytes : (n : ℕ) → to_le_bytes w64 n ≡ reverse (digits 256 8 n)
+unfolding digits
+low_bytes n = rw (div-one n)
 
-  pub lowest_length : (k : ℕ) → length (lowest k) ≡ k
-  lowest_length k = length-reverse (digits B k x) ∙ digits_length B k x
-
-  pub lowest_more : (k : ℕ) → lowest (k + 1) ≡ lowest k ++ (x / B ^ k % B ∷ [])
-  unfolding digits
-  lowest_more k = rw add-one (reverse-cons (x / B ^ k % B) (digits B k x))
-
-  pub lowest_at : (k j : ℕ) → j < k → get_or (lowest k) j 0 ≡ x / B ^ j % B
-  lowest_at zero j h = absurd (omega arith)
-  lowest_at (suc k) j h =
-      ap (λ (l : List ℕ). get_or l j 0) (ap lowest (sym (add-one k)) ∙ lowest_more k)
-      ∙ by_eq j k
-      (λ e. rw e (get_or_at (lowest k) (x / B ^ k % B) [] 0 k (lowest_length k)))
-      (λ n. get_or-append (lowest k) (x / B ^ k % B ∷ []) 0 j (rw lowest_length (omega arith)) ∙ lowest_at k j (omega arith))
-
-  -- what is left above k digits, and above one more
-  pub rest_more : (k : ℕ) → x / B ^ k / B ≡ x / B ^ (k + 1)
-  rest_more k = div-div-eq-div-mul x (B ^ k) B ∙ rw (add-one, pow-suc)
+-- eight bytes are a number's where the number that they write is it
+pub same_real : (bs : List ℕ) (x n : ℕ) → length bs ≡ 8 → ((i : ℕ) → get_or bs i 0 < 256) → n < 2 ^ 64 → x ≡ from_le_bytes w64 bs
+    → eqb x n ≡ same bs (reverse (digits 256 8 n))
+same_real bs x n l b s e =
+    let f : to_le_bytes w64 x ≡ bs = le_bytes_8 bs x l b e in
+    by_eq x n
+    (λ q. eq-eqb x n q ∙ sym (same_is bs _ (sym f ∙ ap (to_le_bytes w64) q ∙ low_bytes n)))
+    (λ q. ne_eqb x n q ∙ sym (same_not bs _ (λ g. q (e ∙ ap (from_le_bytes w64) (g ∙ sym (low_bytes n)) ∙ from_le_bytes-to_le_bytes_8 n s))))

@@ -24,13 +24,11 @@ equals_widened M joint own value at bytes =
     let w = length value in
     same (widen_entry w M joint (part at (entry_size w M) bytes)) (entry_from joint own value)
 
--- does a string repeat the last of n entries
-abbrev pub repeats_plain : States → States → List ℕ → ℕ → ℕ → List ℕ → Bool
-repeats_plain M own value start n bytes =
-    let size = entry_size (length value) M in
-    repeats size n (part start (n * size) bytes) (entry_from M own value)
+-- do bytes repeat the last of n entries that are as long
+abbrev pub repeats_plain : List ℕ → ℕ → ℕ → List ℕ → Bool
+repeats_plain new start n bytes = repeats (length new) n (part start (n * length new) bytes) new
 
--- and once they are laid out under a joint set
+-- does a string repeat the last of n entries, once they are laid out under a joint set
 abbrev pub repeats_widened : States → States → States → List ℕ → ℕ → ℕ → List ℕ → Bool
 repeats_widened M joint own value start n bytes =
     let w = length value in

@@ -1,27 +1,32 @@
 // Entries of one size, one behind the other: whether a string repeats the last of them, and the next one stored.
 #![tactic(auto)]
 
-ghost use Rattle.std.specs.Prelude.{◌≡◌, ◌+◌, ◌≤◌, length};
+ghost use Rattle.std.specs.Prelude.{◌≡◌, ◌≢◌, ◌+◌, ◌-◌, ◌*◌, ◌^◌, ◌<◌, ◌≤◌, MatchOption, length};
 ghost use Rattle.value.specs.Slice.{part, overlay};
-ghost use Rattle.layout.specs.Writable.{Writable, Numbered, entry_from};
 ghost use Rattle.entries.specs.Repeatable.{Repeatable, equals_widened, repeats_plain, repeats_widened};
 
-use layout::entry::{entry_equals, entry_size, write_entry};
+use layout::entry::{entry_equals, entry_size};
 use layout::expand::expand_entries;
-use layout::number::{number_at, write_number};
+use layout::number::NewEntry;
 use value::States;
 
 pub mod real;
+
+// Where the last of `count` entries of a size stands, if there is one.
+#[inline(always)]
+fn last_place(byte_start: usize, count: u32, size: usize) -> Option<usize>
+    requires { byte_start + count * size < 2 ^ 64 }
+    ensures { MatchOption result (count ≡ 0) (λ at. (count ≢ 0) × (at ≡ byte_start + (count - 1) * size)) }
+{
+    let before = count.checked_sub(1)?;
+    Some(byte_start + before as usize * size)
+}
 
 fn copy_from(bytes: &[u8], at: usize, count: usize, out: &mut [u8])
     requires { (at + count ≤ length bytes.now) × (count ≤ length out.old) }
     ensures { out.new ≡ overlay out.old 0 (part at count bytes.now) }
 {
-    let mut j = 0;
-    while j < count {
-        out[j] = bytes[at + j];
-        j += 1;
-    }
+    out[..count].copy_from_slice(&bytes[at..at + count]);
 }
 
 // Whether the entry at a place, laid out under a joint set, is that of a string. No entry is longer than the copy.
@@ -57,12 +62,11 @@ pub fn repeats_last(
     requires { Repeatable max_states joint states value.now (length bytes.now) byte_start count }
     ensures { result ≡ repeats_widened max_states joint states value.now byte_start count bytes.now }
 {
-    if count < 1 {
-        return false;
-    }
     let bits = value.len() as u32;
     let size = entry_size(max_states, bits);
-    let at = byte_start + (count as usize - 1) * size;
+    let Some(at) = last_place(byte_start, count, size) else {
+        return false;
+    };
     if size == entry_size(joint, bits) {
         entry_equals(joint, states, value, bytes, at)
     } else {
@@ -70,46 +74,14 @@ pub fn repeats_last(
     }
 }
 
-// Whether a string repeats the last of `count` entries of a size: `equals_entry` there, compiled into its one caller.
-pub fn repeats_number(
-    max_states: States,
-    states: States,
-    value: &[u8],
-    size: usize,
-    number: u64,
-    bytes: &[u8],
-    byte_start: usize,
-    count: u32,
-) -> bool
-    requires { Repeatable max_states max_states states value.now (length bytes.now) byte_start count × Numbered max_states states value.now size number }
-    ensures { result ≡ repeats_plain max_states states value.now byte_start count bytes.now }
+// Whether an entry repeats the last of `count` that are as long.
+#[inline(always)]
+pub fn repeats_entry(entry: &NewEntry<'_>, bytes: &[u8], byte_start: usize, count: u32) -> bool
+    requires { byte_start + count * length entry.now ≤ length bytes.now }
+    ensures { result ≡ repeats_plain entry.now byte_start count bytes.now }
 {
-    if count == 0 {
+    let Some(at) = last_place(byte_start, count, entry.len()) else {
         return false;
-    }
-    let at = byte_start + (count as usize - 1) * size;
-    if 8 < size {
-        return entry_equals(max_states, states, value, bytes, at);
-    }
-    number_at(bytes, at, size) == number
-}
-
-// `store_entry`, compiled into its one caller.
-pub fn store_number(
-    max_states: States,
-    states: States,
-    value: &[u8],
-    size: usize,
-    number: u64,
-    bytes: &mut [u8],
-    at: usize,
-)
-    requires { Writable max_states states value.now (length bytes.old) at × Numbered max_states states value.now size number }
-    ensures { bytes.new ≡ overlay bytes.old at (entry_from max_states states value.now) }
-{
-    if 8 < size {
-        write_entry(max_states, states, value, bytes, at);
-        return;
-    }
-    write_number(number, size, bytes, at);
+    };
+    entry.is_at(bytes, at)
 }

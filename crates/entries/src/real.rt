@@ -1,36 +1,17 @@
 // A real's entry: its 64 bits as 8 bytes, the lowest first.
 ghost use Rattle.std.specs.Prelude.{◌≡◌, reverse, ◌+◌, ◌*◌, ◌≤◌, length};
 ghost use Rattle.value.specs.Digits.{digits};
-ghost use Rattle.value.specs.Slice.{part, overlay, same};
+ghost use Rattle.value.specs.Slice.{part, overlay};
 ghost use Rattle.entries.specs.Repeats.{repeats};
+
+use crate::last_place;
+use layout::bytes::{read_block, write_block};
 
 pub fn write_real(bits: u64, out: &mut [u8], at: usize)
     requires { at + 8 ≤ length out.old }
     ensures { out.new ≡ overlay out.old at (reverse (digits 256 8 bits)) }
 {
-    let mut rest = bits;
-    let mut j = 0;
-    while j < 8 {
-        out[at + j] = (rest & 255) as u8;
-        rest = rest >> 8;
-        j += 1;
-    }
-}
-
-fn real_equals(bits: u64, bytes: &[u8], at: usize) -> bool
-    requires { at + 8 ≤ length bytes.now }
-    ensures { result ≡ same (part at 8 bytes.now) (reverse (digits 256 8 bits)) }
-{
-    let mut rest = bits;
-    let mut j = 0;
-    while j < 8 {
-        if bytes[at + j] as u64 != rest & 255 {
-            return false;
-        }
-        rest = rest >> 8;
-        j += 1;
-    }
-    true
+    write_block(out, at, &bits.to_le_bytes());
 }
 
 // Whether a real repeats the last of `count` entries.
@@ -38,8 +19,8 @@ pub fn repeats_real(bits: u64, bytes: &[u8], byte_start: usize, count: u32) -> b
     requires { byte_start + count * 8 ≤ length bytes.now }
     ensures { result ≡ repeats 8 count (part byte_start (count * 8) bytes.now) (reverse (digits 256 8 bits)) }
 {
-    if count == 0 {
+    let Some(at) = last_place(byte_start, count, 8) else {
         return false;
-    }
-    real_equals(bits, bytes, byte_start + (count as usize - 1) * 8)
+    };
+    u64::from_le_bytes(read_block(bytes, at)) == bits
 }

@@ -1,16 +1,35 @@
--- Laws of a part that is laid over a list as its end and its front, which overlap: elements moved within the list, and zeros.
+-- Laws of parts that are borrowed, and of a part that is laid over a list as its end and its front, which overlap: elements moved within the
+-- list, and zeros.
 -- Assumes nothing.
 use mathlib.Core.Path.{◌≡◌, sym, ap, ap₂, ◌∙◌}
 use mathlib.Core.List.{List, ◌++◌}
 use Prim.Native.Nat.{ℕ, ◌+◌, ◌-◌, ◌≤◌}
 use native.Mathlib.Omega.{arith}
 use lib.ListN.{length, take, drop, replicate, length-drop, length-replicate, replicate-append-replicate, take-append-drop}
-use lib.Seq.{take-add, take_at, drop_at, length-take-le}
+use lib.Seq.{take-add, take_at, drop_at, drop-drop, length-take-le}
+use borrow.Rule.Slice.PartMut.{put_mid}
 use Rattle.value.specs.Slice.{part, overlay}
 use Rattle.value.proofs.Slices.{part_length, part_overlay, overlay_part, overlay_length}
 use Rattle.value.proofs.Backward.{take_part, drop_part, overlay_front}
 
 module _ {A : Type 0} where
+  -- what `&l[start..start + n]` holds
+  pub part_borrowed : (l : List A) (start n : ℕ) → take (start + n - start) (drop start l) ≡ part start n l
+  unfolding part
+  part_borrowed l start n = ap (λ (k : ℕ). take k (drop start l)) (omega arith)
+
+  -- the list once `&mut l[start..start + n]` holds new
+  pub part_stored : (l new : List A) (start n : ℕ) → length new ≡ n → put_mid start (start + n - start) l new ≡ overlay l start new
+  unfolding overlay
+  part_stored l new start n e =
+      ap (λ (r : List A). take start l ++ (new ++ r))
+      (drop-drop (start + n - start) start l ∙ ap (λ (k : ℕ). drop k l) (omega (arith, e)))
+
+  -- and once `&mut l[..n]` does
+  pub front_stored : (l new : List A) (n : ℕ) → length new ≡ n → new ++ drop n l ≡ overlay l 0 new
+  unfolding overlay
+  front_stored l new n e = ap (λ (k : ℕ). new ++ drop k l) (omega (arith, e))
+
   -- all but the first r elements, and then the first b, of which the last are laid a second time
   pub ends_laid : (l v : List A) (start n r b : ℕ) → length v ≡ n → start + n ≤ length l → r ≤ b → b ≤ n
       → overlay (overlay l (start + r) (drop r v)) start (take b v) ≡ overlay l start v

@@ -5,6 +5,7 @@ use mathlib.Core.List.{List, [], ◌∷◌}
 use Prim.Native.Nat.{ℕ, suc, ◌+◌, ◌-◌, ◌*◌, ◌^◌, ◌/◌, ◌%◌, ◌≤◌, ◌<◌}
 use native.Mathlib.Nat.{mul-le-mul_left, zero-mul, zero-add, pow-suc, div-one, div-div-eq-div-mul}
 use native.Mathlib.Omega.{arith}
+use Rattle.std.specs.Prelude.{Option, Some}
 use lib.Dec.{eqb}
 use borrow.Author.Tests.{eq-eqb, ne_eqb}
 use lib.Bits.{bit_and, bit_or, and_mask, or_shifted, or_shifted_r, or_zero_r}
@@ -92,23 +93,42 @@ module _ (n : ℕ) (d : List ℕ) where
   pub rest_next : (k : ℕ) → n / 256 ^ k / 256 ≡ n / 256 ^ suc k
   rest_next k = div-div-eq-div-mul n (256 ^ k) 256 ∙ rw pow-suc
 
--- ---- entries by their numbers
+-- ---- a string's entry and its number
 
-module _ {M own : States} {v : List ℕ} {room at size n : ℕ} (ok : Writable M own v room at) (m : Numbered M own v size n) (few : size ≤ 8) where
-  -- what is stored
-  pub entry_digits : digits 256 size n ≡ entry_from M own v
-  entry_digits = rw (m.is few, m.sized) (digits_number 256 (omega arith) _ (entry_from M own v) (sized (length v) ok.wide M own _) (bytes (length v) ok.wide M own _))
+module _ {M own : States} {v : List ℕ} {size : ℕ} {n : Option ℕ} {e : List ℕ} (m : Numbered M own v size n) (view : entry_from M own v ≡ e) where
+  pub entry_length : size ≡ length e
+  entry_length = m.sized ∙ sym (sized (length v) m.writable.wide M own _) ∙ ap length view
 
-  -- what is compared
-  pub numbers_same : (b : List ℕ) → Below 256 b → length b ≡ room → (x : ℕ) → x ≡ number 256 (part at size b)
-      → eqb x n ≡ same (part at (entry_size (length v) M) b) (entry_from M own v)
-  numbers_same b below long x e =
-      let S = entry_size (length v) M in
-      let E = entry_from M own v in
-      let f : x ≡ number 256 (part at S b) = e ∙ ap (λ (k : ℕ). number 256 (part at k b)) m.sized in
-      let l : length (part at S b) ≡ length E = part_length b at S (omega (arith, ok.fits)) ∙ sym (sized (length v) ok.wide M own _) in
-      by_eq x n
-      (λ q.
-      eq-eqb x n q
-      ∙ sym (same_is (part at S b) E (number_inj 256 (part at S b) E l (below_part 256 b below at S) (bytes (length v) ok.wide M own _) (sym f ∙ q ∙ m.is few))))
-      (λ q. ne_eqb x n q ∙ sym (same_not (part at S b) E (λ g. q (f ∙ ap (number 256) g ∙ sym (m.is few)))))
+  -- what its bytes ask, in a slice with room for them
+  pub entry_writable : (room at : ℕ) → at + length e ≤ room → Writable M own v room at
+  entry_writable room at r =
+      let w = m.writable in
+      record { under = w.under; codes = w.codes; wide = w.wide; short = w.short; fits = omega (arith, entry_length, m.sized) }
+
+  module _ {k : ℕ} (given : n ≡ Some k) where
+    few_and_is : (size ≤ 8) × (k ≡ number 256 (entry_from M own v))
+    few_and_is = rw given at m.is
+
+    pub few : size ≤ 8
+    few = few_and_is.0
+
+    is_number : k ≡ number 256 e
+    is_number = few_and_is.1 ∙ ap (number 256) view
+
+    below : Below 256 e
+    below = rw (← view) (bytes (length v) m.writable.wide M own _)
+
+    -- what is stored
+    pub entry_digits : digits 256 size k ≡ e
+    entry_digits = rw (is_number, entry_length) (digits_number 256 (omega arith) _ e refl below)
+
+    -- what is compared
+    pub numbers_same : (b : List ℕ) → Below 256 b → (at x : ℕ) → at + length e ≤ length b → x ≡ number 256 (part at size b)
+        → eqb x k ≡ same (part at (length e) b) e
+    numbers_same b under at x r i =
+        let p = part at (length e) b in
+        let f : x ≡ number 256 p = i ∙ ap (λ (j : ℕ). number 256 (part at j b)) entry_length in
+        let l : length p ≡ length e = part_length b at (length e) r in
+        by_eq x k
+        (λ q. eq-eqb x k q ∙ sym (same_is p e (number_inj 256 p e l (below_part 256 b under at (length e)) below (sym f ∙ q ∙ is_number))))
+        (λ q. ne_eqb x k q ∙ sym (same_not p e (λ g. q (f ∙ ap (number 256) g ∙ sym is_number))))

@@ -1,6 +1,6 @@
 -- Inner: what writing an entry and comparing one ask.
 -- Assumes nothing.
-use Rattle.std.specs.Prelude.{ℕ, ◌+◌, ◌-◌, ◌≤◌, ◌≡◌, cond, List, [], ◌∷◌, eqb, length, replicate}
+use Rattle.std.specs.Prelude.{ℕ, ◌+◌, ◌-◌, ◌≤◌, ◌≡◌, cond, List, [], ◌∷◌, Option, IfSome, eqb, length, replicate}
 use Rattle.value.specs.declared.States.{States}
 use Rattle.value.specs.Digits.{number}
 use Rattle.value.specs.Level.{fold_all, codes_of, mark_of}
@@ -19,10 +19,11 @@ pub record Writable (M own : States) (value : List ℕ) (room at : ℕ) : Type 0
 abbrev pub entry_from : States → States → List ℕ → List ℕ
 entry_from M own value = entry_of (length value) M own (codes_of (fold_all value))
 
--- the size of a string's entry, and the number that an entry of at most eight bytes is
-pub record Numbered (M own : States) (value : List ℕ) (size n : ℕ) : Type 0 where
+-- the size of a string's entry, and the number that an entry of at most eight bytes is, where it is given
+pub record Numbered (M own : States) (value : List ℕ) (size : ℕ) (n : Option ℕ) : Type 0 where
+  pub writable : Writable M own value size 0
   pub sized : size ≡ entry_size (length value) M
-  pub is : size ≤ 8 → n ≡ number 256 (entry_from M own value)
+  pub is : IfSome n (λ k. (size ≤ 8) × (k ≡ number 256 (entry_from M own value)))
 
 -- the mark's byte and zeros in front of the level bytes, where an entry has more
 unfoldable pub mark_in_front : ℕ → ℕ → ℕ → List ℕ

@@ -5,30 +5,23 @@ ghost use Rattle.layout.specs.Blocks.{Halves};
 
 use crate::entry::push_zeros;
 
-// The first n bytes of the block are those from p on.
-fn read_block(data: &[u8], p: usize, n: usize) -> [u8; 32]
-    requires { (n ≤ 32) × (p + n ≤ length «data».now) }
-    ensures { part 0 n result ≡ part p n «data».now }
+// N bytes from p on.
+#[inline(always)]
+pub fn read_block<const N: usize>(data: &[u8], p: usize) -> [u8; N]
+    requires { p + N ≤ length «data».now }
+    ensures { result ≡ part p N «data».now }
 {
-    let mut block = [0u8; 32];
-    let mut i = 0;
-    while i < n {
-        block[i] = data[p + i];
-        i += 1;
-    }
+    let mut block = [0u8; N];
+    block.copy_from_slice(&data[p..p + N]);
     block
 }
 
-// Stores the first n bytes of the block.
-fn write_block(data: &mut [u8], q: usize, n: usize, block: [u8; 32])
-    requires { (n ≤ 32) × (q + n ≤ length «data».old) }
-    ensures { «data».new ≡ overlay «data».old q (part 0 n block) }
+#[inline(always)]
+pub fn write_block<const N: usize>(data: &mut [u8], q: usize, block: &[u8; N])
+    requires { q + N ≤ length «data».old }
+    ensures { «data».new ≡ overlay «data».old q block.now }
 {
-    let mut i = 0;
-    while i < n {
-        data[q + i] = block[i];
-        i += 1;
-    }
+    data[q..q + N].copy_from_slice(block);
 }
 
 // Moves bytes of the n from p to q, the last ones first, in blocks of 32. Returns how many are left.
@@ -39,8 +32,8 @@ fn move_blocks(data: &mut [u8], p: usize, q: usize, n: usize) -> usize
     let mut left = n;
     while 32 < left {
         left -= 32;
-        let block = read_block(data, p + left, 32);
-        write_block(data, q + left, 32, block);
+        let block: [u8; 32] = read_block(data, p + left);
+        write_block(data, q + left, &block);
     }
     left
 }
@@ -50,21 +43,22 @@ fn move_long(data: &mut [u8], p: usize, q: usize, n: usize)
     requires { (p ≤ q) × (q + n ≤ length «data».old) × (32 ≤ n) }
     ensures { «data».new ≡ overlay «data».old q (part p n «data».old) }
 {
-    let first = read_block(data, p, 32);
+    let first: [u8; 32] = read_block(data, p);
     move_blocks(data, p, q, n);
-    write_block(data, q, 32, first);
+    write_block(data, q, &first);
 }
 
-// Moves n bytes as their first and their last `half` bytes, which may overlap.
-fn move_halves(data: &mut [u8], p: usize, q: usize, n: usize, half: usize)
-    requires { (p ≤ q) × (q + n ≤ length «data».old) × (half ≤ 32) × Halves half n }
+// Moves n bytes as their first and their last HALF bytes, which may overlap.
+#[inline(always)]
+fn move_halves<const HALF: usize>(data: &mut [u8], p: usize, q: usize, n: usize)
+    requires { (p ≤ q) × (q + n ≤ length «data».old) × Halves HALF n }
     ensures { «data».new ≡ overlay «data».old q (part p n «data».old) }
 {
-    let rest = n - half;
-    let first = read_block(data, p, half);
-    let last = read_block(data, p + rest, half);
-    write_block(data, q + rest, half, last);
-    write_block(data, q, half, first);
+    let rest = n - HALF;
+    let first: [u8; HALF] = read_block(data, p);
+    let last: [u8; HALF] = read_block(data, p + rest);
+    write_block(data, q + rest, &last);
+    write_block(data, q, &first);
 }
 
 // Moves n bytes from p to q, which is not before p: what is written has been read.
@@ -72,28 +66,24 @@ pub fn move_up(data: &mut [u8], p: usize, q: usize, n: usize)
     requires { (p ≤ q) × (q + n ≤ length «data».old) × (1 ≤ n) }
     ensures { «data».new ≡ overlay «data».old q (part p n «data».old) }
 {
-    if n <= 2 {
-        move_halves(data, p, q, n, 1)
-    } else if n <= 4 {
-        move_halves(data, p, q, n, 2)
-    } else if n <= 8 {
-        move_halves(data, p, q, n, 4)
-    } else if n <= 16 {
-        move_halves(data, p, q, n, 8)
-    } else if n <= 32 {
-        move_halves(data, p, q, n, 16)
-    } else {
-        move_long(data, p, q, n)
+    match n {
+        ..=2 => move_halves::<1>(data, p, q, n),
+        3..=4 => move_halves::<2>(data, p, q, n),
+        5..=8 => move_halves::<4>(data, p, q, n),
+        9..=16 => move_halves::<8>(data, p, q, n),
+        17..=32 => move_halves::<16>(data, p, q, n),
+        _ => move_long(data, p, q, n),
     }
 }
 
-// Stores n zeros as the first and the last `half` of them, which may overlap.
-fn zero_halves(data: &mut [u8], from: usize, n: usize, half: usize)
-    requires { (from + n ≤ length «data».old) × Halves half n }
+// Stores n zeros as the first and the last HALF of them, which may overlap.
+#[inline(always)]
+fn zero_halves<const HALF: usize>(data: &mut [u8], from: usize, n: usize)
+    requires { (from + n ≤ length «data».old) × Halves HALF n }
     ensures { «data».new ≡ overlay «data».old from (replicate n 0) }
 {
-    push_zeros(data, from + (n - half), half);
-    push_zeros(data, from, half);
+    write_block(data, from + (n - HALF), &[0; HALF]);
+    write_block(data, from, &[0; HALF]);
 }
 
 // Stores n zeros.
@@ -101,23 +91,17 @@ pub fn zero(data: &mut [u8], from: usize, n: usize)
     requires { from + n ≤ length «data».old }
     ensures { «data».new ≡ overlay «data».old from (replicate n 0) }
 {
-    if n == 0 {
-        push_zeros(data, from, n);
-    } else if n <= 2 {
-        zero_halves(data, from, n, 1)
-    } else if n <= 4 {
-        zero_halves(data, from, n, 2)
-    } else if n <= 8 {
-        zero_halves(data, from, n, 4)
-    } else if n <= 16 {
-        zero_halves(data, from, n, 8)
-    } else if n <= 32 {
-        zero_halves(data, from, n, 16)
-    } else if n <= 64 {
-        zero_halves(data, from, n, 32)
-    } else if n <= 128 {
-        zero_halves(data, from, n, 64)
-    } else {
-        push_zeros(data, from, n);
+    match n {
+        0 => {}
+        1..=2 => zero_halves::<1>(data, from, n),
+        3..=4 => zero_halves::<2>(data, from, n),
+        5..=8 => zero_halves::<4>(data, from, n),
+        9..=16 => zero_halves::<8>(data, from, n),
+        17..=32 => zero_halves::<16>(data, from, n),
+        33..=64 => zero_halves::<32>(data, from, n),
+        65..=128 => zero_halves::<64>(data, from, n),
+        _ => {
+            push_zeros(data, from, n);
+        }
     }
 }

@@ -70,12 +70,9 @@ pub fn push_zeros(out: &mut [u8], from: usize, count: usize) -> usize
     requires { from + count ≤ length out.old }
     ensures { (result ≡ from + count) × (out.new ≡ overlay out.old from (replicate count 0)) }
 {
-    let mut j = 0;
-    while j < count {
-        out[from + j] = 0;
-        j += 1;
-    }
-    from + j
+    let to = from + count;
+    out[from..to].fill(0);
+    to
 }
 
 // Whether the bytes from a place on are zeros.
@@ -83,14 +80,7 @@ fn are_zeros(bytes: &[u8], from: usize, count: usize) -> bool
     requires { from + count ≤ length bytes.now }
     ensures { result ≡ same (part from count bytes.now) (replicate count 0) }
 {
-    let mut j = 0;
-    while j < count {
-        if bytes[from + j] != 0 {
-            return false;
-        }
-        j += 1;
-    }
-    true
+    bytes[from..from + count].iter().all(|byte| *byte == 0)
 }
 
 // Stores the mark and zeros in front of `len` level bytes, where the entry has more. Returns the place of the level bytes.

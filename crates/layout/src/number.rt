@@ -1,13 +1,13 @@
 // Entries of at most eight bytes, each as one number.
-ghost use Rattle.std.specs.Prelude.{◌≡◌, ◌+◌, ◌-◌, ◌*◌, ◌^◌, ◌≤◌, length};
-ghost use Rattle.std.specs.Int.Bits.{bit_or};
+ghost use Rattle.std.specs.Prelude.{◌≡◌, ◌+◌, ◌-◌, ◌*◌, ◌^◌, ◌≤◌, IfSome, length};
 ghost use Rattle.value.specs.Digits.{number, digits};
 ghost use Rattle.value.specs.Slice.{part, overlay, same};
-ghost use Rattle.value.specs.Level.{mark_of};
+ghost use Rattle.value.specs.Level.{fold_all, codes_of, bits_of, mark_of};
 ghost use Rattle.layout.specs.Entry.{entry_size};
-ghost use Rattle.layout.specs.Writable.{Writable, Numbered, entry_from};
+ghost use Rattle.layout.specs.Writable.{Writable, entry_from};
 
 use crate::entry::{entry_equals, write_entry};
+use std::marker::Model;
 use value::States;
 
 // A set's mark in the top two bits of so many bytes.
@@ -18,26 +18,97 @@ fn mark_in(states: States, size: usize) -> u64
     (states.mark() as u64) << (8 * size - 2)
 }
 
-// The number of an entry of a size by that of its levels, and 0 for a longer one.
-pub fn marked_number(states: States, size: usize, levels: u64) -> u64
-    requires { 1 ≤ size }
-    ensures { size ≤ 8 → result ≡ bit_or levels (mark_of states * 2 ^ (8 * size - 2)) }
-{
-    if 8 < size {
-        return 0;
-    }
-    levels | mark_in(states, size)
+// A string's entry under a largest set, to be stored or compared: as one number where it has at most eight bytes. In a contract it is its bytes.
+#[derive(Drop)]
+pub struct NewEntry<'a> {
+    max_states: States,
+    states: States,
+    value: &'a [u8],
+    size: usize,
+    number: Option<u64>,
 }
 
-// The number of a string's entry, and 0 for a longer one.
-pub fn entry_number(max_states: States, states: States, value: &[u8], size: usize) -> u64
-    requires { Writable max_states states value.now size 0 × (size ≡ entry_size (length value.now) max_states) }
-    ensures { Numbered max_states states value.now size result }
-{
-    if 8 < size {
-        return 0;
+impl<'a> Model for NewEntry<'a> {
+    ghost use Rattle.std.specs.Prelude.{List, ℕ};
+    ghost use Rattle.layout.specs.Writable.{entry_from, Numbered};
+
+    ghost Value = { List ℕ };
+
+    ghost view = { λ e. entry_from e.max_states e.states e.value.now };
+
+    ghost invariant = { λ e. Numbered e.max_states e.states e.value.now e.size e.number };
+}
+
+impl<'a> NewEntry<'a> {
+    // By the number of the string's levels, where it is known.
+    #[inline(always)]
+    pub fn with_levels(
+        max_states: States,
+        states: States,
+        value: &'a [u8],
+        size: usize,
+        levels: Option<u64>,
+    ) -> NewEntry<'a>
+        requires { Writable max_states states value.now size 0 × (size ≡ entry_size (length value.now) max_states) × IfSome levels (λ l. size ≤ 8 → l ≡ number (2 ^ bits_of states) (codes_of (fold_all value.now))) }
+        ensures { result ≡ entry_from max_states states value.now }
+    {
+        let number = match levels {
+            Some(levels) if size <= 8 => Some(levels | mark_in(states, size)),
+            _ => None,
+        };
+        NewEntry {
+            max_states,
+            states,
+            value,
+            size,
+            number,
+        }
     }
-    marked_number(states, size, wavemem::number_from_ascii(states, value))
+
+    #[inline(always)]
+    pub fn new(max_states: States, states: States, value: &'a [u8], size: usize) -> NewEntry<'a>
+        requires { Writable max_states states value.now size 0 × (size ≡ entry_size (length value.now) max_states) }
+        ensures { result ≡ entry_from max_states states value.now }
+    {
+        let levels = if size <= 8 {
+            Some(wavemem::number_from_ascii(states, value))
+        } else {
+            None
+        };
+        NewEntry::with_levels(max_states, states, value, size, levels)
+    }
+
+    pub fn len(&self) -> usize
+        ensures { result ≡ length self.now }
+    {
+        self.size
+    }
+
+    // Whether the bytes from a place on are this entry.
+    #[inline(always)]
+    pub fn is_at(&self, bytes: &[u8], at: usize) -> bool
+        requires { at + length self.now ≤ length bytes.now }
+        ensures { result ≡ same (part at (length self.now) bytes.now) self.now }
+    {
+        match self.number {
+            Some(number) => number_at(bytes, at, self.size) == number,
+            None => entry_equals(self.max_states, self.states, self.value, bytes, at),
+        }
+    }
+
+    // Stores it from a place on.
+    #[inline(always)]
+    pub fn write(&self, out: &mut [u8], at: usize)
+        requires { at + length self.now ≤ length out.old }
+        ensures { out.new ≡ overlay out.old at self.now }
+    {
+        match self.number {
+            Some(number) => write_number(number, self.size, out, at),
+            None => {
+                write_entry(self.max_states, self.states, self.value, out, at);
+            }
+        }
+    }
 }
 
 // The number of the bytes from a place on.
@@ -73,43 +144,4 @@ pub fn write_number(number: u64, size: usize, out: &mut [u8], at: usize)
         out[at + left] = (rest & 255) as u8;
         rest = rest >> 8;
     }
-}
-
-// `entry_equals`, by the number of a short entry.
-pub fn equals_entry(
-    max_states: States,
-    states: States,
-    value: &[u8],
-    size: usize,
-    number: u64,
-    bytes: &[u8],
-    at: usize,
-) -> bool
-    requires { Writable max_states states value.now (length bytes.now) at × Numbered max_states states value.now size number }
-    ensures { result ≡ same (part at (entry_size (length value.now) max_states) bytes.now) (entry_from max_states states value.now) }
-{
-    if 8 < size {
-        return entry_equals(max_states, states, value, bytes, at);
-    }
-    number_at(bytes, at, size) == number
-}
-
-// `write_entry`, by the number of a short entry.
-pub fn store_entry(
-    max_states: States,
-    states: States,
-    value: &[u8],
-    size: usize,
-    number: u64,
-    out: &mut [u8],
-    at: usize,
-)
-    requires { Writable max_states states value.now (length out.old) at × Numbered max_states states value.now size number }
-    ensures { out.new ≡ overlay out.old at (entry_from max_states states value.now) }
-{
-    if 8 < size {
-        write_entry(max_states, states, value, out, at);
-        return;
-    }
-    write_number(number, size, out, at);
 }

@@ -9,12 +9,13 @@ use Rattle.layout.proofs.Blocks.{ends_filled}
 use Rattle.layout.proofs.bytes.zero_halves.Goals as goal
 
 pub returns : goal.returns
-returns c =
+returns g c =
     let x = c.args in
     let d = x.«data».now in
-    let r = x.n - x.half in
-    let e : x.half ≡ x.n - r = omega (arith, c.requires.1.fits) in
-    c.push_zeros-2.ensures.1
-    ∙ ap (λ (l : List ℕ). overlay l x.from (replicate x.half 0))
-    (c.push_zeros.ensures.1 ∙ ap (λ (k : ℕ). overlay d (x.from + r) (replicate k 0)) e)
-    ∙ ends_filled d x.from x.n r x.half 0 c.requires.0 (omega (arith, c.requires.1.covers)) c.requires.1.fits
+    let h = g.row.HALF in
+    let r = x.n - h in
+    let e : h ≡ x.n - r = omega (arith, c.requires.1.fits) in
+    c.write_block-2.ensures
+    ∙ ap (λ (l : List ℕ). overlay l x.from (replicate h 0))
+    (c.write_block.ensures ∙ ap (λ (k : ℕ). overlay d (x.from + r) (replicate k 0)) e)
+    ∙ ends_filled d x.from x.n r h 0 c.requires.0 (omega (arith, c.requires.1.covers)) c.requires.1.fits
