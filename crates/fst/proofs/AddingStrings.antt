@@ -11,7 +11,7 @@ use borrow.Author.Tests.{not-false, eq-eqb, ne_eqb}
 use lib.Bits.{bit_or}
 use lib.ListN.{length, set}
 use Rattle.value.specs.declared.States.{States}
-use Rattle.value.specs.declared.StatesAnswer.TheVariants as answer
+use Rattle.std.specs.Prelude.{None, Some}
 use Rattle.value.specs.Slice.{part, overlay}
 use Rattle.value.specs.Level.{mark_of, codes_of, fold_all, has_no_code, join}
 use Rattle.value.specs.Answer.{least_states}
@@ -20,7 +20,7 @@ use Rattle.value.proofs.Levels as levels
 use Rattle.value.proofs.Classes.{foreign_told, least_told}
 use Rattle.value.proofs.Slices.{part_length}
 use Rattle.wavemem.specs.Packed.{Codes}
-use Rattle.wavemem.specs.Scan.{ScanFor}
+use Rattle.wavemem.specs.Scan.{ToldFor}
 use Rattle.wavemem.specs.declared.short.Scanned.{Scanned}
 use Rattle.fst.specs.declared.Encoding.{Encoding}
 use Rattle.fst.specs.declared.Encoding.TheVariants.{BitVector}
@@ -54,11 +54,11 @@ module _ {d : Description} {l : Lent} (st : Standing d l) {w : ℕ} {M : States}
     unfolding is_other_length
     string_long = rw (vector, eq-eqb (length s) w long)
 
-    pub string_gives_5 : least_states s ≡ answer.Foreign → refused_with d l 5 ≡ add_change d l i (text s)
+    pub string_gives_5 : least_states s ≡ None → refused_with d l 5 ≡ add_change d l i (text s)
     unfolding is_foreign
     string_gives_5 e = gives_5 st i (text s) string_kind string_long (rw vector (foreign_told s e))
 
-    module _ {own : States} (least : least_states s ≡ answer.Least own) where
+    module _ {own : States} (least : least_states s ≡ Some own) where
       pub string_suited : Suited d l (text s)
       unfolding is_foreign
       string_suited = record { standing = st; kind = string_kind; long = string_long; known = rw vector (least_told s own least).0 }
@@ -233,9 +233,9 @@ module _ {d : Description} {l : Lent} {i : ℕ} {s : List ℕ} {M own : States} 
         record { under = p.under; codes = p.codes; wide = p.wide; short = p.short; fits = omega arith }
 
     -- the levels of a short entry are told by a scan
-    pub levels_told : (size : ℕ) (r : Scanned) → size ≡ entry_size (length s) M → r.answer ≡ answer.Least own → ScanFor s size r → ShortEntry M own s size r.levels
+    pub levels_told : (size : ℕ) (r : Scanned) → size ≡ entry_size (length s) M → r.states ≡ own → ToldFor s size r → ShortEntry M own s size r.levels
     levels_told size r e a t =
-        record { sized = e; is = λ h. t.levels own a h (one_word entry_writable (omega arith)).short }
+        record { sized = e; is = λ h. rw a at (t.levels) h (one_word entry_writable (omega arith)).short }
 
     module _ {size levels : ℕ} (t : ShortEntry M own s size levels) where
       -- the number of a short entry, from that of its levels

@@ -14,7 +14,7 @@ use entries::{repeats_last, repeats_number, store_number};
 use layout::entry::{entry_size, write_entry};
 use layout::expand::expand_entries;
 use layout::number::marked_number;
-use value::{States, StatesAnswer};
+use value::States;
 use wavemem::scan::scan;
 
 // The size of a string's entry, and the number of its levels where that is at most eight bytes.
@@ -207,19 +207,19 @@ impl Description {
         if value.len() != width as usize {
             return refused(self, Refusal::WrongLength);
         }
-        let scanned = scan(value, size);
-        let answer = scanned.answer;
-        let StatesAnswer::Least(states) = answer else {
+        let Some(scanned) = scan(value, size) else {
             return refused(self, Refusal::ForeignCharacter);
         };
         if is_below_last(index, indices, index_start, self.count) {
             return refused(self, Refusal::IndexBelowLast);
         }
-        let levels = scanned.levels;
-        let short = ShortLevels { size, levels };
+        let short = ShortLevels {
+            size,
+            levels: scanned.levels,
+        };
         self.add_levels(
             max_states,
-            states,
+            scanned.states,
             short,
             bytes,
             byte_start,

@@ -53,7 +53,7 @@ pub fn verdict_number(verdict: Result<(), Refusal>) -> u8
     }
 }
 
-#[derive(Clone, Copy)]
+#[derive(Clone, Copy, PartialEq, Eq)]
 pub enum Encoding {
     Event,
     Real,
@@ -65,8 +65,7 @@ impl Encoding {
     pub fn size(self) -> usize
         ensures { result ≡ size_of self }
     {
-        let encoding = self;
-        match encoding {
+        match self {
             Encoding::Event => 0,
             Encoding::Real => 8,
             Encoding::BitVector { width, max_states } => entry_size(max_states, width),
@@ -76,48 +75,31 @@ impl Encoding {
     pub fn width(self) -> u32
         ensures { result ≡ width_of self }
     {
-        let encoding = self;
-        match encoding {
-            Encoding::Event => 0,
-            Encoding::Real => 0,
-            Encoding::BitVector {
-                width,
-                max_states: _,
-            } => width,
+        match self {
+            Encoding::Event | Encoding::Real => 0,
+            Encoding::BitVector { width, .. } => width,
         }
     }
 
     pub fn largest(self) -> States
         ensures { result ≡ largest_in self }
     {
-        let encoding = self;
-        match encoding {
-            Encoding::Event => States::Two,
-            Encoding::Real => States::Two,
-            Encoding::BitVector {
-                width: _,
-                max_states,
-            } => max_states,
+        match self {
+            Encoding::Event | Encoding::Real => States::Two,
+            Encoding::BitVector { max_states, .. } => max_states,
         }
     }
 
+    #[tactic(auto, unfolding(crate::specs::Record::has_no_text))]
     pub fn has_no_text(self) -> bool
         ensures { result ≡ has_no_text self }
     {
-        let encoding = self;
-        match encoding {
-            Encoding::Event => true,
-            Encoding::Real => true,
-            Encoding::BitVector {
-                width: _,
-                max_states: _,
-            } => false,
-        }
+        matches!(self, Encoding::Event | Encoding::Real)
     }
 }
 
 // What is known of a record besides its bytes and time indices, which the caller lends.
-#[derive(Clone, Copy)]
+#[derive(Clone, Copy, PartialEq, Eq)]
 pub struct Description {
     pub encoding: Encoding,
     pub count: u32,
@@ -132,7 +114,7 @@ impl Description {
 }
 
 // The answer of Add a change: the next description, after a refusal the unchanged one.
-#[derive(Clone, Copy)]
+#[derive(Clone, Copy, PartialEq, Eq)]
 pub struct Added {
     pub verdict: Result<(), Refusal>,
     pub next: Description,
