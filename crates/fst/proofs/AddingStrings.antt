@@ -1,14 +1,13 @@
 -- What Add a change leaves of a string for a bit vector.
 -- Assumes nothing.
-use mathlib.Core.Path.{◌≡◌, refl, sym, ap, ap₂, ◌∙◌}
+use mathlib.Core.Path.{◌≡◌, refl, sym, ap, ◌∙◌}
 use mathlib.Core.Bool.{Bool, true, false, not, cond}
 use mathlib.Core.List.{List, [], ◌∷◌, ◌++◌}
-use Prim.Native.Nat.{ℕ, suc, ◌+◌, ◌-◌, ◌*◌, ◌^◌, ◌≤◌}
+use Prim.Native.Nat.{ℕ, suc, ◌+◌, ◌*◌, ◌≤◌}
 use native.Mathlib.Nat.{suc-mul, mul-le-mul_right}
 use native.Mathlib.Numerals.{add-one}
 use native.Mathlib.Omega.{arith}
 use borrow.Author.Tests.{not-false, eq-eqb, ne_eqb}
-use lib.Bits.{bit_or}
 use lib.ListN.{length, set}
 use Rattle.value.specs.declared.States.{States}
 use Rattle.std.specs.Prelude.{None, Some}
@@ -26,14 +25,16 @@ use Rattle.fst.specs.declared.Encoding.{Encoding}
 use Rattle.fst.specs.declared.Encoding.TheVariants.{BitVector}
 use Rattle.fst.specs.declared.Description.{Description}
 use Rattle.layout.specs.Entry.{entry_size, widen_all}
-use Rattle.layout.specs.Writable.{Writable, Numbered, entry_from}
+use Rattle.layout.specs.Writable.{Writable, entry_from}
 use Rattle.layout.specs.Expand.{Widenable}
 use Rattle.fst.specs.Record.{Lent, Kept, Recorder, size_of, kept_in, width_stands, fits, described}
 use Rattle.fst.specs.Change.{text, is_other_kind, is_other_length, is_foreign, appended, changed, with_change, lacks_room, add_change}
 use Rattle.fst.specs.Adding.{Admitted, AdmittedString, ShortEntry}
 use Rattle.entries.specs.Repeatable.{Repeatable, repeats_plain, repeats_widened}
-use Rattle.layout.proofs.Sizes.{size_pos, widen_all_same, widen_all_length}
-use Rattle.layout.proofs.Numbers.{one_word, marked_number}
+use Rattle.layout.proofs.Sizes.{widen_all_same, widen_all_length}
+use Rattle.layout.proofs.Numbers.{one_word}
+use Rattle.layout.proofs.Entries.{sized}
+use Rattle.entries.specs.Repeats.{repeats}
 use Rattle.fst.proofs.Records.{Fits, fits_room, Standing, standing, indices_used}
 use Rattle.fst.proofs.AddingPlain.{behind, Roomier}
 use Rattle.fst.proofs.Adding.{width_known, width_any, refused_with, accepted_with, Suited, gives_4, gives_5, gives_7, accepted, indices_kept, stored_same, count_more, stored_more}
@@ -237,25 +238,18 @@ module _ {d : Description} {l : Lent} {i : ℕ} {s : List ℕ} {M own : States} 
     levels_told size r e a t =
         record { sized = e; is = λ h. rw a at (t.levels) h (one_word entry_writable (omega arith)).short }
 
-    module _ {size levels : ℕ} (t : ShortEntry M own s size levels) where
-      -- the number of a short entry, from that of its levels
-      pub levels_numbered : {m : ℕ} → (size ≤ 8 → m ≡ bit_or levels (mark_of own * 2 ^ (8 * size - 2))) → Numbered M own s size m
-      levels_numbered e =
-          record {
-            sized = t.sized;
-            is =
-                λ h.
-                e h
-                ∙ ap₂ (λ (m k : ℕ). bit_or m (mark_of own * 2 ^ (8 * k - 2))) (t.is h) t.sized
-                ∙ marked_number entry_writable (omega (arith, t.sized));
-          }
+    pub size_here : {size : ℕ} → size ≡ entry_size (length s) M → size_of d.encoding ≡ size
+    size_here e = ap size_of v.vector ∙ sym e
 
-      pub size_some : 1 ≤ size
-      size_some = omega (arith, t.sized, size_pos (length s) same_repeatable.wide M)
+    -- the string's entry has the record's size
+    pub entry_long : {new : List ℕ} → new ≡ entry_from M own s → length new ≡ size_of d.encoding
+    entry_long e = ap length e ∙ sized (length s) same_repeatable.wide M own (codes_of (fold_all s)) ∙ sym (ap size_of v.vector)
 
-      -- the size of an entry of this record
-      pub size_here : size_of d.encoding ≡ size
-      size_here = ap size_of v.vector ∙ sym t.sized
+    -- and is stored as such
+    pub new_writable : {size : ℕ} → size ≡ entry_size (length s) M → Writable M own s size 0
+    new_writable e =
+        let p = same_repeatable in
+        record { under = p.under; codes = p.codes; wide = p.wide; short = p.short; fits = omega (arith, e) }
 
     -- the bytes as they are, and whether their last entry is the string's
     abbrev kept_bytes : List ℕ
@@ -264,10 +258,14 @@ module _ {d : Description} {l : Lent} {i : ℕ} {s : List ℕ} {M own : States} 
     stay : widen_all (length s) M M d.count kept_bytes ≡ kept_bytes
     stay = widen_all_same (length s) M M refl d.count kept_bytes (part_length l.bytes l.byte_start _ room_here)
 
-    pub append_kept : false ≡ repeats_plain M own s l.byte_start d.count l.bytes → with_change (kept_in d l) i (text s) ≡ behind d l i (entry_from M own s)
-    unfolding kept_in changed appended
-    append_kept e = rw (v.vector, indices_used string_standing, ← v.least, ← joined, stay, ← e)
+    module _ {new : List ℕ} (entry : new ≡ entry_from M own s) where
+      repeated : {r : Bool} → r ≡ repeats_plain new l.byte_start d.count l.bytes → r ≡ repeats (entry_size (length s) M) d.count kept_bytes (entry_from M own s)
+      repeated h = let z = entry_long entry ∙ ap size_of v.vector in rw z at h ∙ rw entry
 
-    pub append_same : true ≡ repeats_plain M own s l.byte_start d.count l.bytes → with_change (kept_in d l) i (text s) ≡ kept_in d l
-    unfolding kept_in changed appended
-    append_same e = rw (v.vector, indices_used string_standing, ← v.least, ← joined, stay, ← e)
+      pub append_kept : false ≡ repeats_plain new l.byte_start d.count l.bytes → with_change (kept_in d l) i (text s) ≡ behind d l i new
+      unfolding kept_in changed appended
+      append_kept h = let e = repeated h in rw (v.vector, indices_used string_standing, ← v.least, ← joined, stay, ← e, entry)
+
+      pub append_same : true ≡ repeats_plain new l.byte_start d.count l.bytes → with_change (kept_in d l) i (text s) ≡ kept_in d l
+      unfolding kept_in changed appended
+      append_same h = let e = repeated h in rw (v.vector, indices_used string_standing, ← v.least, ← joined, stay, ← e)

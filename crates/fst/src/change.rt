@@ -10,10 +10,10 @@ ghost use Rattle.fst.specs.Adding.{last_in, AdmittedString, ShortEntry};
 
 use crate::record::{exceeds, is_bad, is_bad_vector, lacks_room};
 use crate::{Added, Description, Encoding, Refusal};
-use entries::{repeats_last, repeats_number, store_number};
+use entries::{repeats_entry, repeats_last};
 use layout::entry::{entry_size, write_entry};
 use layout::expand::expand_entries;
-use layout::number::marked_number;
+use layout::number::NewEntry;
 use value::States;
 use wavemem::scan::scan;
 
@@ -131,10 +131,8 @@ impl Description {
     {
         let count = self.count;
         let size = short.size;
-        let number = marked_number(states, size, short.levels);
-        if repeats_number(
-            max_states, states, value, size, number, bytes, byte_start, count,
-        ) {
+        let entry = NewEntry::with_levels(max_states, states, value, size, Some(short.levels));
+        if repeats_entry(&entry, bytes, byte_start, count) {
             return accepted(self);
         }
         if lacks_room(self, size, bytes, byte_start, indices, index_start) {
@@ -143,7 +141,7 @@ impl Description {
         self.count += 1;
         let entries = count as usize;
         let at = byte_start + entries * size;
-        store_number(max_states, states, value, size, number, bytes, at);
+        entry.write(bytes, at);
         indices[index_start + entries] = index;
         accepted(self)
     }

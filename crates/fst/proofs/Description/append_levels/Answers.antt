@@ -6,14 +6,13 @@ use mathlib.Core.List.{List}
 use Prim.Native.Nat.{ℕ, ◌+◌, ◌*◌, ◌≤◌, ◌<◌}
 use native.Mathlib.Omega.{arith}
 use lib.ListN.{length, set}
-use Rattle.layout.specs.Writable.{Numbered, entry_from}
 use Rattle.fst.specs.declared.Added.{Added}
 use Rattle.fst.specs.Record.{Lent, lent, kept_in}
 use Rattle.fst.specs.Change.{text, with_change, left_by}
 use Rattle.fst.proofs.Adding.{beside}
 use Rattle.fst.proofs.AddingPlain.{Roomier, roomier, behind, dropped, kept_full, kept_more}
-use Rattle.fst.proofs.AddingStrings.{string_standing, same_repeatable, append_kept, append_same, levels_numbered, size_some, size_here}
-use Rattle.fst.proofs.Description.append_levels.Goals.{After-lacks_room, After-marked_number-number, Start}
+use Rattle.fst.proofs.AddingStrings.{string_standing, append_kept, append_same, new_writable, entry_long, size_here}
+use Rattle.fst.proofs.Description.append_levels.Goals.{After-lacks_room, After-repeats_entry, Start}
 use Rattle.fst.proofs.Description.append_levels.Goals as goal
 
 -- an index's place counts no more bytes than a slice has
@@ -32,42 +31,32 @@ module _ (z : After-lacks_room) where
   abbrev here : Lent
   here = lent z.args.bytes.now z.args.byte_start z.args.indices.now z.args.index_start
 
-  abbrev kept : with_change (kept_in z.args.self here) z.args.index (text z.args.value.now)
-      ≡ behind z.args.self here z.args.index (entry_from z.args.max_states z.args.states z.args.value.now)
-  kept = append_kept z.requires.0 z.requires.1 (sym z.if-repeats_number.false ∙ z.repeats_number.ensures)
+  abbrev kept : with_change (kept_in z.args.self here) z.args.index (text z.args.value.now) ≡ behind z.args.self here z.args.index z.with_levels-entry.result
+  kept = append_kept z.requires.0 z.requires.1 z.with_levels-entry.ensures (sym z.if-repeats_entry.false ∙ z.repeats_entry.ensures)
 
-  places : z.lacks_room.result ≡ false
-      → Roomier z.args.self here z.args.short.size
-  places h = roomier _ (size_here z.requires.0 z.requires.1 z.requires.2) (sym z.lacks_room.ensures ∙ h)
+  places : z.lacks_room.result ≡ false → Roomier z.args.self here z.args.short.size
+  places h = roomier _ (size_here z.requires.0 z.requires.1 z.requires.2.sized) (sym z.lacks_room.ensures ∙ h)
 
-pub marked_number-number-requires : goal.marked_number-number-requires
-marked_number-number-requires c =
+pub with_levels-entry-requires : goal.with_levels-entry-requires
+with_levels-entry-requires c =
     let p = c.requires in
-    size_some p.0 p.1 p.2
+    (new_writable p.0 p.1 p.2.sized, p.2.sized, p.2.is)
 
--- the entry's number
-numbered : (n : After-marked_number-number) →
-    let a = n.args in
-    Numbered a.max_states a.states a.value.now a.short.size n.marked_number-number.result
-numbered n =
-    let p = n.requires in
-    levels_numbered p.0 p.1 p.2 n.marked_number-number.ensures
-
-pub repeats_number-requires : goal.repeats_number-requires
-repeats_number-requires c =
+pub repeats_entry-requires : goal.repeats_entry-requires
+repeats_entry-requires c =
     let p = c.requires in
-    (same_repeatable p.0 p.1, numbered (goal.at.repeats_number-requires c).After-marked_number-number)
+    rw (entry_long p.0 p.1 c.with_levels-entry.ensures) (string_standing p.0).room.bytes
 
-pub returns-then-repeats_number : goal.returns-then-repeats_number
-returns-then-repeats_number c =
+pub returns-then-repeats_entry : goal.returns-then-repeats_entry
+returns-then-repeats_entry c =
     let p = c.requires in
     beside c.accepted.ensures
-    ∙ dropped p.0.admitted (append_same p.0 p.1 (sym c.if-repeats_number.true ∙ c.repeats_number.ensures))
+    ∙ dropped p.0.admitted (append_same p.0 p.1 c.with_levels-entry.ensures (sym c.if-repeats_entry.true ∙ c.repeats_entry.ensures))
 
 pub lacks_room-requires : goal.lacks_room-requires
 lacks_room-requires c =
     let p = c.requires in
-    (p.0.admitted.sound, sym (size_here p.0 p.1 p.2))
+    (p.0.admitted.sound, sym (size_here p.0 p.1 p.2.sized))
 
 pub returns-then-lacks_room : goal.returns-then-lacks_room
 returns-then-lacks_room c =
@@ -88,19 +77,10 @@ overflow_add-at c =
     let past = goal.at.overflow_add-at c in
     record { fits = (product _ _ _ _ (places past.After-lacks_room c.if-lacks_room.false).bytes (few_bytes past.Start)).1 }
 
-pub store_number-requires : goal.store_number-requires
-store_number-requires c =
-    let past = goal.at.store_number-requires c in
-    let p = same_repeatable c.requires.0 c.requires.1 in (
-      record {
-        under = p.under;
-        codes = p.codes;
-        wide = p.wide;
-        short = p.short;
-        fits = omega (arith, (places past.After-lacks_room c.if-lacks_room.false).bytes, c.requires.2.sized);
-      },
-      numbered past.After-marked_number-number,
-    )
+pub write-requires : goal.write-requires
+write-requires c =
+    let p = c.requires in
+    omega (arith, (places (goal.at.write-requires c).After-lacks_room c.if-lacks_room.false).bytes, entry_long p.0 p.1 c.with_levels-entry.ensures, size_here p.0 p.1 p.2.sized)
 
 pub overflow_add-indices : goal.overflow_add-indices
 overflow_add-indices c =
@@ -118,5 +98,5 @@ bounds-indices-index_start c = (places (goal.at.bounds-indices-index_start c).Af
 pub returns : goal.returns
 returns c =
     ap₂ (λ (r : Added) (b : List ℕ). left_by r b (set c.args.indices.now (c.args.index_start + c.args.self.count) c.args.index))
-    c.accepted-2.ensures c.store_number.ensures
-    ∙ kept_more c.requires.0.admitted _ (kept (goal.at.returns c).After-lacks_room) _ (size_here c.requires.0 c.requires.1 c.requires.2) (sym c.lacks_room.ensures ∙ c.if-lacks_room.false)
+    c.accepted-2.ensures c.write.ensures
+    ∙ kept_more c.requires.0.admitted _ (kept (goal.at.returns c).After-lacks_room) _ (size_here c.requires.0 c.requires.1 c.requires.2.sized) (sym c.lacks_room.ensures ∙ c.if-lacks_room.false)
