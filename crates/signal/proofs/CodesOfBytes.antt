@@ -1,7 +1,7 @@
 -- Codes byte by byte: those of a byte stand behind those of the bytes before it.
 -- Assumes nothing.
 use mathlib.Core.Path.{◌≡◌, refl, sym, ap, ap₂, ◌∙◌}
-use mathlib.Core.Bool.{Bool, ◌||◌}
+use mathlib.Core.Bool.{Bool, false, ◌||◌}
 use mathlib.Core.List.{List, [], ◌∷◌, ◌++◌, map-append}
 use Prim.Native.Nat.{ℕ, suc, ◌+◌, ◌-◌, ◌*◌, ◌/◌, ◌%◌, ◌^◌, ◌≤◌, ◌<◌, zero-le}
 use native.Mathlib.Nat.{mul_comm, mul-zero, mul-suc, mul-le-mul_left}
@@ -12,7 +12,7 @@ use lib.Bits.{bit_and, bit_or, and_mask, or_zero_l, or_add_and, and_le_r}
 use lib.Dec.{ltb, leb}
 use lib.ListN.{length, take, drop, get_or, length-map, length-drop, take-append-drop}
 use lib.Pow.{pow_pos}
-use lib.Seq.{take-suc, take_all}
+use lib.Seq.{take-suc, take_all, length-take-le}
 use Rattle.value.specs.declared.States.{States}
 use Rattle.value.specs.declared.States.TheVariants.{Two, Four, Nine}
 use Rattle.value.specs.Digits.{number, digits, Below}
@@ -255,22 +255,28 @@ bad_bytes (x ∷ v) b =
     ∙ ap (λ (cs : List ℕ). has_no_code cs)
     (sym (digits_append 16 (omega arith) 2 (2 * length v) x n (rw (← p) (number_lt 256 v b.1))) ∙ ap₂ (λ (k q : ℕ). digits 16 k (x * q + n)) (sym m) (sym p))
 
--- the code of a first byte that has but one
-pub bad_one : (v : List ℕ) → 0 < length v → leb 9 (bit_and (get_or v 0 0) 15) ≡ has_no_code (digits 16 1 (number 256 (take 1 v)))
+-- the code of a first byte that has but one, and none
+pub bad_one : (v : List ℕ) → length v ≡ 1 → leb 9 (bit_and (get_or v 0 0) 15) ≡ has_no_code (digits 16 (length v) (number 256 v))
 unfolding digits any
 bad_one v h =
-    let n = number 256 (take 1 v) in
+    let n = number 256 v in
     let e : n ≡ n / 1 = omega arith in
-    ap (leb 9) (and_mask (get_or v 0 0) 4 ∙ ap (λ (y : ℕ). y % 16) (number_one v h ∙ e)) ∙ sym (any_snoc is_no_code [] (n / 1 % 16))
+    let k : get_or v 0 0 ≡ n = number_one v (omega arith) ∙ ap (number 256) (take_all 1 v (omega arith)) in
+    rw h (ap (leb 9) (and_mask (get_or v 0 0) 4 ∙ ap (λ (y : ℕ). y % 16) (k ∙ e)) ∙ sym (any_snoc is_no_code [] (n / 1 % 16)))
+
+pub bad_none : (v : List ℕ) → length v < 1 → false ≡ has_no_code (digits 16 (length v) (number 256 v))
+unfolding digits any
+bad_none v h = let e : length v ≡ 0 = omega arith in rw e
 
 -- the codes of the first byte where it has but one, and of the full ones
 pub bad_whole : {w : ℕ} {S : States} {levels : List ℕ} → S ≡ Nine → Levels w S levels → Below 256 levels → {p q : Bool}
-    → p ≡ has_no_code (digits 16 (w % 2) (number 256 (take (w % 2) levels))) → q ≡ any is_bad_byte (drop (w % 2) levels) → p || q ≡ has_no_code (codes_at w S levels)
+    → p ≡ has_no_code (digits 16 (length (take (w % 2) levels)) (number 256 (take (w % 2) levels))) → q ≡ any is_bad_byte (drop (w % 2) levels) → p || q ≡ has_no_code (codes_at w S levels)
 bad_whole {w} {S} {levels} n h b e f =
     let z : len_of (w % 2) Nine ≡ w % 2 = omega arith in
     let s : Split w Nine levels (w % 2) (w % 2) = rw z at (split_first Nine (rw n at h)) in
     let ys = drop (w % 2) levels in
+    let l : length (take (w % 2) levels) ≡ w % 2 = length-take-le (w % 2) levels s.within in
     rw n
-    (ap₂ (λ (s t : Bool). s || t) e (f ∙ bad_bytes ys (below_drop 256 levels b (w % 2)))
+    (ap₂ (λ (s t : Bool). s || t) (rw l at e) (f ∙ bad_bytes ys (below_drop 256 levels b (w % 2)))
     ∙ sym (any_append is_no_code (digits 16 (w % 2) (number 256 (take (w % 2) levels))) (digits 16 (2 * length ys) (number 256 ys)))
     ∙ ap (λ (cs : List ℕ). has_no_code cs) (sym (codes_split w Nine levels (w % 2) (w % 2) s.rest b)))

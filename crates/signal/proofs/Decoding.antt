@@ -3,6 +3,7 @@
 use mathlib.Core.Path.{◌≡◌, refl, sym, ap, ◌∙◌}
 use mathlib.Core.Bool.{true, false}
 use mathlib.Core.List.{List, [], ◌∷◌, ◌++◌, map-append}
+use Rattle.std.specs.Prelude.{Ok, Err}
 use Prim.Native.Nat.{ℕ, zero, suc, ◌+◌, ◌-◌, ◌*◌, ◌/◌, ◌^◌, ◌≤◌, ◌<◌}
 use native.Mathlib.Nat.{mul-le-mul_right, suc-mul}
 use native.Mathlib.Numerals.{add-one}
@@ -20,7 +21,7 @@ use Rattle.value.proofs.Digits.{digits_length, digits_at, digits_below}
 use Rattle.value.proofs.Levels.{set_mark, len_room, none_foreign}
 use Rattle.value.proofs.Tests.{or_both}
 use Rattle.value.proofs.Slices.{any_at, any_snoc, overlay_store}
-use Rattle.signal.specs.declared.OwnStates.TheVariants as own
+use Rattle.fst.specs.declared.Refusal.TheVariants.{BadMark}
 use Rattle.signal.specs.Decode.{mark_in, codes_at}
 use Rattle.signal.specs.Parts.{own_states, Levels}
 
@@ -29,11 +30,11 @@ pub mark_by : (M : States) (v : List ℕ) (m k : ℕ) → m ≡ mark_of M → k 
 mark_by M v m k d e = e ∙ ap (λ (N : States). mark_in N v) (ap set_at d ∙ set_mark M)
 
 module _ (M : States) (v : List ℕ) (m k : ℕ) (d : m ≡ mark_of M) (e : k ≡ mark_in (set_at m) v) where
-  pub own_bad : m < k → own.Bad ≡ own_states M v
+  pub own_bad : m < k → Err BadMark ≡ own_states M v
   unfolding own_states
   own_bad h = rw (lt-ltb (mark_of M) (mark_in M v) (rw (← d, ← mark_by M v m k d e) h))
 
-  pub own_good : (S : States) → k ≤ m → S ≡ set_at k → own.Own S ≡ own_states M v
+  pub own_good : (S : States) → k ≤ m → S ≡ set_at k → Ok S ≡ own_states M v
   unfolding own_states
   own_good S h f = let q = mark_by M v m k d e in rw (le-ltb (mark_of M) (mark_in M v) (rw (← d, ← q) h), f, q)
 

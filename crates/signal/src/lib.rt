@@ -1,29 +1,39 @@
 // Reading records, after wellen's src/signal/mod.rs.
 #![tactic(auto)]
 
-use fst::Refusal;
+ghost use Rattle.std.specs.Prelude.{◌≡◌};
+ghost use Rattle.signal.specs.Read.{kind_of};
+
+use fst::Encoding;
 use value::States;
 
 pub mod decode;
+pub mod packed;
 pub mod read;
 
-#[derive(Clone, Copy)]
+#[derive(Clone, Copy, PartialEq, Eq)]
 pub enum Kind {
     Event,
     Real,
     BitVector,
 }
 
-// The answer of Read, beside the part of the lent bytes that holds the levels.
-#[derive(Clone, Copy)]
-pub enum EntryAnswer {
-    Entry { kind: Kind, states: States },
-    Refused(Refusal),
+impl From<Encoding> for Kind {
+    ghost from_gives = { λ encoding kind. kind ≡ kind_of encoding };
+
+    fn from(encoding: Encoding) -> Kind {
+        match encoding {
+            Encoding::Event => Kind::Event,
+            Encoding::Real => Kind::Real,
+            Encoding::BitVector { .. } => Kind::BitVector,
+        }
+    }
 }
 
-// An entry's own set, unless its mark is 3 or above the largest set's.
+// The answer of Read: `part` is that part of the lent bytes which holds the levels.
 #[derive(Clone, Copy)]
-pub enum OwnStates {
-    Own(States),
-    Bad,
+pub struct Entry<'a> {
+    pub kind: Kind,
+    pub states: States,
+    pub part: &'a [u8],
 }

@@ -1,172 +1,122 @@
 // Read an entry, and Text of an entry, after wellen's `get_value_at` and `bit_string`.
 ghost use Rattle.std.specs.Prelude.{◌≡◌};
-ghost use Rattle.fst.specs.declared.Encoding.TheVariants.{BitVector};
 ghost use Rattle.fst.specs.Refusal.{number_of};
 ghost use Rattle.signal.specs.Decode.{entry_at};
-ghost use Rattle.signal.specs.Parts.{Whole, Inside, own_in, answer_in, part_in, text_stored};
-ghost use Rattle.signal.specs.Read.{kind_of, read_entry, reply_of, part_of, text_left, read_text};
+ghost use Rattle.signal.specs.Parts.{Whole, Inside, answer_in, vector_in, text_stored};
+ghost use Rattle.signal.specs.Vectors.{vector_of};
+ghost use Rattle.signal.specs.Read.{read_entry, reply_of, part_of, text_left, read_text};
 
-use crate::decode::{has_bad_code, level_part, own_states, write_text};
-use crate::{EntryAnswer, Kind, OwnStates};
+use crate::decode::Vector;
+use crate::{Entry, Kind};
 use fst::record::is_bad_bytes;
-use fst::{Description, Encoding, Refusal, Verdict};
+use fst::{Description, Encoding, Refusal};
 use value::States;
 
-// The bytes of an entry.
-pub fn entry_at<'a>(
-    description: Description,
-    bytes: &'a [u8],
-    byte_start: usize,
-    entry: u32,
-) -> &'a [u8]
-    requires { Inside description.encoding byte_start bytes.now entry }
-    ensures { result.now ≡ entry_at description.encoding byte_start bytes.now entry }
-{
-    let encoding = description.encoding;
-    let size = encoding.size();
-    let at = byte_start + entry as usize * size;
-    &bytes[at..at + size]
+// A record in the bytes that it is lent with.
+#[derive(Clone, Copy)]
+pub struct Record<'a> {
+    pub description: Description,
+    pub bytes: &'a [u8],
+    pub byte_start: usize,
 }
 
-fn kind_of(encoding: Encoding) -> Kind
-    ensures { result ≡ kind_of encoding }
-{
-    match encoding {
-        Encoding::Event => Kind::Event,
-        Encoding::Real => Kind::Real,
-        Encoding::BitVector {
-            width: _,
-            max_states: _,
-        } => Kind::BitVector,
+impl<'a> Record<'a> {
+    // The bytes of an entry.
+    pub fn entry_at(&self, entry: u32) -> &'a [u8]
+        requires { Inside self.now.description.encoding self.now.byte_start self.now.bytes.now entry }
+        ensures { result.now ≡ entry_at self.now.description.encoding self.now.byte_start self.now.bytes.now entry }
+    {
+        let encoding = self.description.encoding;
+        let size = encoding.size();
+        let at = self.byte_start + entry as usize * size;
+        &self.bytes[at..at + size]
+    }
+
+    // An entry of a bit vector, or 2, or 3, or 8.
+    pub fn vector_at(&self, entry: u32) -> Result<Vector<'a>, Refusal>
+        ensures { vector_of result ≡ vector_in self.now.description self.now.bytes.now self.now.byte_start entry }
+    {
+        if is_bad_bytes(self.description, self.bytes, self.byte_start) {
+            return Err(Refusal::BadRecord);
+        }
+        let Encoding::BitVector { width, max_states } = self.description.encoding else {
+            return Err(Refusal::WrongKind);
+        };
+        if self.description.count <= entry {
+            return Err(Refusal::NoSuchEntry);
+        }
+        Ok(Vector {
+            width,
+            max_states,
+            bytes: self.entry_at(entry),
+        })
+    }
+
+    pub fn read_entry(&self, entry: u32) -> Result<Entry<'a>, Refusal>
+        ensures { reply_of result ≡ read_entry self.now.description self.now.bytes.now self.now.byte_start entry }
+    {
+        if is_bad_bytes(self.description, self.bytes, self.byte_start) {
+            return Err(Refusal::BadRecord);
+        }
+        if self.description.count <= entry {
+            return Err(Refusal::NoSuchEntry);
+        }
+        entry_answer(self.description.encoding, self.entry_at(entry))
+    }
+
+    // The part of the lent bytes that holds the levels, and nothing where reading is refused.
+    pub fn entry_part(&self, entry: u32) -> &'a [u8]
+        ensures { result.now ≡ part_of (read_entry self.now.description self.now.bytes.now self.now.byte_start entry) }
+    {
+        match self.read_entry(entry) {
+            Ok(answer) => answer.part,
+            Err(_) => &self.bytes[..0],
+        }
+    }
+
+    // Text of an entry: only where nothing is refused the characters are stored.
+    pub fn read_text(&self, entry: u32, out: &mut [u8]) -> Result<(), Refusal>
+        ensures { text_left (number_of result) out.new ≡ read_text self.now.description self.now.bytes.now self.now.byte_start entry out.old }
+    {
+        let vector = self.vector_at(entry)?;
+        store_text(&vector, out)
     }
 }
 
-// The own set of an entry of any kind.
-fn own_in(encoding: Encoding, entry: &[u8]) -> OwnStates
-    requires { Whole encoding entry.now }
-    ensures { result ≡ own_in encoding entry.now }
+// The answer by an entry's bytes, or 9.
+fn entry_answer<'a>(encoding: Encoding, bytes: &'a [u8]) -> Result<Entry<'a>, Refusal>
+    requires { Whole encoding bytes.now }
+    ensures { reply_of result ≡ answer_in encoding bytes.now }
 {
-    let Encoding::BitVector {
-        width: _,
-        max_states,
-    } = encoding
-    else {
-        return OwnStates::Own(States::Two);
-    };
-    own_states(max_states, entry)
-}
-
-// The kind and the own set of an entry, or 9.
-fn entry_answer(encoding: Encoding, entry: &[u8]) -> EntryAnswer
-    requires { Whole encoding entry.now }
-    ensures { result ≡ answer_in encoding entry.now }
-{
-    let OwnStates::Own(states) = own_in(encoding, entry) else {
-        return EntryAnswer::Refused(Refusal::BadMark);
-    };
-    EntryAnswer::Entry {
-        kind: kind_of(encoding),
-        states,
-    }
-}
-
-// The part of an entry that holds its levels, and nothing where its mark is bad.
-fn part_in<'a>(encoding: Encoding, entry: &'a [u8]) -> &'a [u8]
-    requires { Whole encoding entry.now }
-    ensures { result.now ≡ part_in encoding entry.now }
-{
-    let OwnStates::Own(states) = own_in(encoding, entry) else {
-        return &entry[0..0];
-    };
-    let Encoding::BitVector {
-        width,
-        max_states: _,
-    } = encoding
-    else {
-        return entry;
-    };
-    level_part(width, states, entry)
-}
-
-pub fn read_entry(
-    description: Description,
-    bytes: &[u8],
-    byte_start: usize,
-    entry: u32,
-) -> EntryAnswer
-    ensures { reply_of result (part_of (read_entry description bytes.now byte_start entry)) ≡ read_entry description bytes.now byte_start entry }
-{
-    if is_bad_bytes(description, bytes, byte_start) {
-        return EntryAnswer::Refused(Refusal::BadRecord);
-    }
-    if description.count <= entry {
-        return EntryAnswer::Refused(Refusal::NoSuchEntry);
-    }
-    let encoding = description.encoding;
-    entry_answer(encoding, entry_at(description, bytes, byte_start, entry))
-}
-
-// The part that the answer of `read_entry` speaks of.
-pub fn entry_part<'a>(
-    description: Description,
-    bytes: &'a [u8],
-    byte_start: usize,
-    entry: u32,
-) -> &'a [u8]
-    ensures { result.now ≡ part_of (read_entry description bytes.now byte_start entry) }
-{
-    if is_bad_bytes(description, bytes, byte_start) {
-        return &bytes[0..0];
-    }
-    if description.count <= entry {
-        return &bytes[0..0];
-    }
-    let encoding = description.encoding;
-    part_in(encoding, entry_at(description, bytes, byte_start, entry))
-}
-
-// Text of an entry's bytes: 9, 10 and 7, and only then the characters are stored.
-fn store_text(width: u32, max_states: States, entry: &[u8], out: &mut [u8]) -> Verdict
-    requires { Whole (BitVector width max_states) entry.now }
-    ensures { text_left (number_of result) out.new ≡ text_stored width max_states entry.now out.old }
-{
-    let OwnStates::Own(states) = own_states(max_states, entry) else {
-        return Verdict::Refused(Refusal::BadMark);
-    };
-    let levels = level_part(width, states, entry);
-    if has_bad_code(width, states, levels) {
-        return Verdict::Refused(Refusal::BadCode);
-    }
-    if out.len() < width as usize {
-        return Verdict::Refused(Refusal::NoRoom);
-    }
-    write_text(width, states, levels, out);
-    Verdict::Accepted
-}
-
-pub fn read_text(
-    description: Description,
-    bytes: &[u8],
-    byte_start: usize,
-    entry: u32,
-    out: &mut [u8],
-) -> Verdict
-    ensures { text_left (number_of result) out.new ≡ read_text description bytes.now byte_start entry out.old }
-{
-    if is_bad_bytes(description, bytes, byte_start) {
-        return Verdict::Refused(Refusal::BadRecord);
-    }
-    let encoding = description.encoding;
+    let kind = Kind::from(encoding);
     let Encoding::BitVector { width, max_states } = encoding else {
-        return Verdict::Refused(Refusal::WrongKind);
+        return Ok(Entry {
+            kind,
+            states: States::Two,
+            part: bytes,
+        });
     };
-    if description.count <= entry {
-        return Verdict::Refused(Refusal::NoSuchEntry);
-    }
-    store_text(
+    let vector = Vector {
         width,
         max_states,
-        entry_at(description, bytes, byte_start, entry),
-        out,
-    )
+        bytes,
+    };
+    let levels = vector.levels()?;
+    Ok(Entry {
+        kind,
+        states: levels.states,
+        part: levels.bytes,
+    })
+}
+
+// Text of an entry's bytes: 9, 10 and 7.
+fn store_text(vector: &Vector, out: &mut [u8]) -> Result<(), Refusal>
+    ensures { text_left (number_of result) out.new ≡ text_stored vector.now.width vector.now.max_states vector.now.bytes.now out.old }
+{
+    let levels = vector.coded_levels()?;
+    if out.len() < levels.width as usize {
+        return Err(Refusal::NoRoom);
+    }
+    levels.write_text(out);
+    Ok(())
 }

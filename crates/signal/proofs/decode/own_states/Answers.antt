@@ -1,5 +1,7 @@
 -- `signal::decode::own_states` meets its contract.
 -- Assumes nothing.
+use mathlib.Core.Path.{ap, ◌∙◌}
+use Rattle.value.specs.Level.{set_at}
 use Rattle.signal.proofs.Decoding.{own_bad, own_good}
 use Rattle.signal.proofs.decode.own_states.Goals as goal
 
@@ -9,4 +11,4 @@ returns-then-most-mark c =
 
 pub returns : goal.returns
 returns c =
-    own_good _ _ _ _ c.mark-most.ensures c.own_mark-mark.ensures _ c.if-most-mark.false c.states_of.ensures
+    own_good _ _ _ _ c.mark-most.ensures c.own_mark-mark.ensures _ c.if-most-mark.false (c.states_at.ensures ∙ ap set_at c.from.ensures)

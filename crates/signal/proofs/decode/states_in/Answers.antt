@@ -11,4 +11,4 @@ unfolding mark_in
 returns-then-most-eq0 c = rw c.if-most-eq0.true
 
 pub returns : goal.returns
-returns c = c.states_of.ensures ∙ ap set_at (mark_some _ _ c.if-most-eq0.false)
+returns c = c.states_at.ensures ∙ ap set_at (c.from.ensures ∙ mark_some _ _ c.if-most-eq0.false)
