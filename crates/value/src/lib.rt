@@ -85,11 +85,9 @@ fn beside_nine(value: u8) -> u8
 fn is_binary(value: &[u8]) -> bool
     ensures { result ≡ holds_all States.Two value.now }
 {
-    let mut union: u8 = 0;
-    let mut i = 0;
-    while i < value.len() {
-        union |= beside_two(value[i]);
-        i += 1;
+    let mut union = 0;
+    for c in value {
+        union |= beside_two(*c);
     }
     union == 0
 }
@@ -118,13 +116,11 @@ impl States {
         requires { false ≡ holds_all States.Two value.now }
         ensures { result ≡ least_states value.now }
     {
-        let mut four: u8 = 0;
-        let mut nine: u8 = 0;
-        let mut i = 0;
-        while i < value.len() {
-            four |= beside_four(value[i]);
-            nine |= beside_nine(value[i]);
-            i += 1;
+        let mut four = 0;
+        let mut nine = 0;
+        for c in value {
+            four |= beside_four(*c);
+            nine |= beside_nine(*c);
         }
         if four == 0 {
             Some(States::Four)

@@ -8,15 +8,12 @@ use Rattle.value.specs.Answer.{holds_all}
 use Rattle.value.proofs.Classes.{holds_none, holds_more}
 use Rattle.value.proofs.is_binary.Goals as goal
 
-pub loop-i-init : goal.loop-i-init
-loop-i-init c = (omega arith, holds_none Two)
+pub loop-c-init : goal.loop-c-init
+loop-c-init c = holds_none Two
 
-pub loop-i-preserved : goal.loop-i-preserved
-loop-i-preserved c =
-    let v = c.args.value.now in
-    (omega arith, holds_more Two v c.loop-i.i c.loop-i.union _ (omega arith) c.loop-i.invariant.1 c.beside_two-union.ensures)
+pub loop-c-preserved : goal.loop-c-preserved
+loop-c-preserved c =
+    holds_more Two c.args.value.now c.loop-c.c-index c.loop-c.union _ (omega arith) c.loop-c.invariant c.beside_two-union.ensures
 
 pub returns : goal.returns
-returns c =
-    let v = c.args.value.now in
-    c.loop-i.invariant.1 ∙ ap (holds_all Two) (take_all c.loop-i.i v c.loop-i-test.false)
+returns c = c.loop-c.invariant ∙ ap (holds_all Two) (take_all c.loop-c.c-index c.args.value.now (omega arith))
