@@ -34,6 +34,7 @@ impl TryFrom<u8> for States {
 }
 
 // The code of a character, none of a foreign byte. In the order of IEEE 1164's own list, then its small letters: as the page has them (specs/Page).
+#[tactic(auto, unfolding(crate::specs::Answer::char_code, crate::specs::Level::code_of, crate::specs::Level::place_in, crate::specs::Level::fold))]
 pub fn bit_char_to_num(value: u8) -> Option<u8>
     ensures { result ≡ char_code value }
 {
@@ -93,6 +94,7 @@ fn is_binary(value: &[u8]) -> bool
 }
 
 // The character of a code, and 0 for a number that is no code.
+#[tactic(auto, unfolding(crate::specs::Level::letter_of))]
 pub fn num_to_bit_char(code: u8) -> u8
     ensures { result ≡ letter_of code }
 {
@@ -157,8 +159,7 @@ impl States {
     pub fn bits(self) -> u32
         ensures { result ≡ bits_of self }
     {
-        let states = self;
-        match states {
+        match self {
             States::Two => 1,
             States::Four => 2,
             States::Nine => 4,
@@ -168,8 +169,7 @@ impl States {
     pub fn mask(self) -> u8
         ensures { result ≡ 2 ^ bits_of self - 1 }
     {
-        let states = self;
-        match states {
+        match self {
             States::Two => 0x1,
             States::Four => 0x3,
             States::Nine => 0xf,
@@ -180,8 +180,7 @@ impl States {
     pub fn bits_in_a_byte(self) -> usize
         ensures { result ≡ 8 / bits_of self }
     {
-        let states = self;
-        match states {
+        match self {
             States::Two => 8,
             States::Four => 4,
             States::Nine => 2,
@@ -192,8 +191,7 @@ impl States {
     pub fn bytes_required(self, bits: u32) -> usize
         ensures { result ≡ len_of bits self }
     {
-        let states = self;
-        match states {
+        match self {
             States::Two => (bits as usize + 7) >> 3,
             States::Four => (bits as usize + 3) >> 2,
             States::Nine => (bits as usize + 1) >> 1,
