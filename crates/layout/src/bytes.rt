@@ -11,9 +11,7 @@ pub fn read_block<const N: usize>(data: &[u8], p: usize) -> [u8; N]
     requires { p + N ≤ length «data».now }
     ensures { result ≡ part p N «data».now }
 {
-    let mut block = [0u8; N];
-    block.copy_from_slice(&data[p..p + N]);
-    block
+    (&data[p..p + N]).try_into().unwrap()
 }
 
 #[inline(always)]
@@ -21,30 +19,24 @@ pub fn write_block<const N: usize>(data: &mut [u8], q: usize, block: &[u8; N])
     requires { q + N ≤ length «data».old }
     ensures { «data».new ≡ overlay «data».old q block.now }
 {
-    data[q..q + N].copy_from_slice(block);
-}
-
-// Moves bytes of the n from p to q, the last ones first, in blocks of 32. Returns how many are left.
-fn move_blocks(data: &mut [u8], p: usize, q: usize, n: usize) -> usize
-    requires { (p ≤ q) × (q + n ≤ length «data».old) }
-    ensures { (result ≤ n) × (result ≤ 32) × («data».new ≡ overlay «data».old (q + result) (part (p + result) (n - result) «data».old)) }
-{
-    let mut left = n;
-    while 32 < left {
-        left -= 32;
-        let block: [u8; 32] = read_block(data, p + left);
-        write_block(data, q + left, &block);
+    for i in 0..N {
+        data[q + i] = block[i];
     }
-    left
 }
 
-// Moves 32 bytes or more: the first block is read before another is written over it.
+// Moves 32 bytes or more in blocks of 32, the last one first. The first block is read before another is written over it.
 fn move_long(data: &mut [u8], p: usize, q: usize, n: usize)
     requires { (p ≤ q) × (q + n ≤ length «data».old) × (32 ≤ n) }
     ensures { «data».new ≡ overlay «data».old q (part p n «data».old) }
 {
     let first: [u8; 32] = read_block(data, p);
-    move_blocks(data, p, q, n);
+    let blocks = (n - 1) / 32;
+    let rest = n - 32 * blocks;
+    for k in (0..blocks).rev() {
+        let i = rest + 32 * k;
+        let block: [u8; 32] = read_block(data, p + i);
+        write_block(data, q + i, &block);
+    }
     write_block(data, q, &first);
 }
 

@@ -4,4 +4,4 @@ use Rattle.layout.proofs.Blocks.{part_borrowed}
 use Rattle.layout.proofs.bytes.read_block.Goals as goal
 
 pub returns : goal.returns
-returns g c = c.copy_from_slice.ensures.after ∙ part_borrowed c.args.«data».now c.args.p g.row.N
+returns g c = (rw c.unwrap.ensures at c.try_into.ensures.1).same ∙ part_borrowed c.args.«data».now c.args.p g.row.N
