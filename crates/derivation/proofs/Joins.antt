@@ -1,6 +1,6 @@
 -- What each part of Add a piece is given and leaves: the number of a name, the piece in its place, the room for it.
 -- Assumes nothing.
-use mathlib.Core.Path.{◌≡◌, refl, sym, ap, ap₂, ◌∙◌}
+use mathlib.Core.Path.{◌≡◌, refl, sym, ap, ◌∙◌}
 use mathlib.Core.Bool.{Bool, true, false, cond, not, ◌&&◌, ◌||◌, true≢false}
 use mathlib.Core.List.{List, [], ◌∷◌, ◌++◌, map, map-append}
 use Prim.Native.Nat.{ℕ, zero, suc, ◌+◌, ◌-◌, ◌≤◌, ◌<◌}
@@ -9,40 +9,23 @@ use native.Mathlib.Omega.{arith}
 use borrow.Author.Tests.{ltb-false, leb-false, lt-ltb, le-ltb, le-leb, lt-leb}
 use lib.Dec.{leb, ltb}
 use lib.ListN.{length, take, get_or, set, length-append, length-map, take-append-drop, get_or-map}
-use lib.Seq.{length-take-le, take-suc, drop-cons, get_or-take}
+use lib.Seq.{length-take-le, take-suc, get_or-take}
 use Rattle.value.specs.Slice.{part, overlay, sum}
 use Rattle.value.specs.Level.{place_in}
-use Rattle.value.proofs.Slices.{overlay_snoc, overlay_part}
+use Rattle.value.proofs.Slices.{overlay_snoc, overlay_part, overlay_length}
 use Rattle.value.proofs.Tests.{or_left, or_right, by_le}
 use Rattle.fst.specs.Refusal.{Outcome}
 use Rattle.derivation.specs.declared.Extract.{Extract}
 use Rattle.derivation.specs.declared.DerivedBitVecSignal.{DerivedBitVecSignal}
-use Rattle.derivation.specs.declared.InputNumber.TheVariants.{At, Missing}
 use Rattle.derivation.specs.declared.Side.{Side}
 use Rattle.derivation.specs.declared.Side.TheVariants.{Left, Right}
 use Rattle.derivation.specs.Piece.{Sized, add_piece, adjoin, derivation_with, extract_of, is_bad_derivation, is_bad_range, is_overfull, merged, merging, name_added, names_of, packed_of, piece_added, piece_of, piece_width, pieces_of}
-use Rattle.derivation.specs.Answer.{input_number, merges, has_no_room, Joining, Named, with_pieces, with_names}
+use Rattle.derivation.specs.Answer.{merges, has_no_room, Joining, Named, with_pieces, with_names}
 use Rattle.derivation.proofs.Pieces.{packed_all, place_le, name_known, name_new, sum_added, Sound, sound, refused_full, accepted}
 
 -- ---- the number of a name
 
 module _ (names : List ℕ) (name : ℕ) where
-  pub number_known : (n : ℕ) → At n ≡ input_number names name → place_in names name ≡ n
-  unfolding input_number
-  number_known n = go (ltb (place_in names name) (length names))
-    where
-      go : (b : Bool) → At n ≡ cond b (At (place_in names name)) Missing → place_in names name ≡ n
-      go true h = cc
-      go false h = let z : ◌≡◌ {A = ℕ} 0 1 = cc in absurd (omega arith)
-
-  pub number_missing : Missing ≡ input_number names name → place_in names name ≡ length names
-  unfolding input_number
-  number_missing = go (ltb (place_in names name) (length names)) refl
-    where
-      go : (b : Bool) → ltb (place_in names name) (length names) ≡ b → Missing ≡ cond b (At (place_in names name)) Missing → place_in names name ≡ length names
-      go true t h = let z : ◌≡◌ {A = ℕ} 0 1 = cc in absurd (omega arith)
-      go false t h = omega (arith, ltb-false (place_in names name) (length names) t, place_le names name)
-
   -- a ninth name has the number 8
   pub ninth : length names ≤ 8 → ltb 8 (length (name_added name names)) ≡ leb 8 (place_in names name)
   ninth h =
@@ -68,6 +51,23 @@ unfolding merges
 merges_none Left e ps h = ap (merges Left e) h
 merges_none Right e ps h = ap (merges Right e) h
 
+pub merges_left : (l : List ℕ) (e : Extract) → 1 ≤ length l → merges Left e (map extract_of l) ≡ adjoin e (extract_of (get_or l 0 0))
+unfolding merges
+merges_left [] e h = absurd (omega arith)
+merges_left (x ∷ l) e h = refl
+
+pub merges_right : (l : List ℕ) (e : Extract) → 1 ≤ length l → merges Right e (map extract_of l) ≡ adjoin (extract_of (get_or l (length l - 1) 0)) e
+unfolding merges
+merges_right [] e h = absurd (omega arith)
+merges_right (x ∷ []) e h = refl
+merges_right (x ∷ y ∷ l) e h =
+    let last : length (x ∷ y ∷ l) - 1 ≡ suc (length (y ∷ l) - 1) = omega arith in
+    rw last (merges_right (y ∷ l) e (omega arith))
+
+pub merges_empty : (l : List ℕ) (side : Side) (e : Extract) → length l < 1 → merges side e (map extract_of l) ≡ false
+merges_empty [] side e h = merges_none side e [] refl
+merges_empty (x ∷ l) side e h = absurd (omega arith)
+
 -- where it merges with no neighbour
 pub unmerged_left : (e : Extract) (ps : List Extract) → merges Left e ps ≡ false → piece_added Left e ps ≡ e ∷ ps
 unfolding merges piece_added merging
@@ -84,12 +84,6 @@ unmerged_right e (p ∷ q ∷ ps) h = ap (λ (l : List Extract). p ∷ l) (unmer
 pub merged_left : (e p : Extract) (ps : List Extract) → merges Left e (p ∷ ps) ≡ true → piece_added Left e (p ∷ ps) ≡ merged e p ∷ ps
 unfolding merges piece_added merging
 merged_left e p ps h = rw h
-
-pub last_right : (e : Extract) (ps : List Extract) (p : Extract) → merges Right e (ps ++ (p ∷ [])) ≡ adjoin p e
-unfolding merges
-last_right e [] p = refl
-last_right e (q ∷ []) p = refl
-last_right e (q ∷ r ∷ ps) p = last_right e (r ∷ ps) p
 
 pub merged_right : (e : Extract) (ps : List Extract) (p : Extract) → merges Right e (ps ++ (p ∷ [])) ≡ true
     → piece_added Right e (ps ++ (p ∷ [])) ≡ ps ++ (merged p e ∷ [])
@@ -149,13 +143,6 @@ module _ (l : List ℕ) (n : ℕ) (room : n ≤ length l) where
       ∙ map-append extract_of (take (n - 1) l) (get_or l (n - 1) 0 ∷ [])
 
   module _ (e : Extract) where
-    pub merges_left : 0 < n → merges Left e packed ≡ adjoin e (extract_of (get_or l 0 0))
-    unfolding merges
-    merges_left h = ap (merges Left e) (drop-cons packed 0 (extract_of 0) (rw count_is h)) ∙ ap (adjoin e) (piece_at 0 h)
-
-    pub merges_right : 0 < n → merges Right e packed ≡ adjoin (extract_of (get_or l (n - 1) 0)) e
-    merges_right h = ap (merges Right e) (last_piece h) ∙ last_right e (map extract_of (take (n - 1) l)) (extract_of (get_or l (n - 1) 0))
-
     pub merges_some : (side : Side) → merges side e packed ≡ true → 0 < n
     merges_some side h =
         by_le n 0
@@ -194,19 +181,19 @@ module _ (l : List ℕ) (n : ℕ) (room : n ≤ length l) where
 
 -- ---- the parts of Add a piece
 
-module _ {d : DerivedBitVecSignal} {side : Side} {e : Extract} {m : Bool} (sized : Sized d) (j : Joining side d e m) where
+module _ {d : DerivedBitVecSignal} {side : Side} {e : Extract} (j : Joining side d e) where
   fitting : d.piece_count ≤ length d.bits
-  fitting = omega (arith, sized.bits, j.few)
+  fitting = omega (arith, j.sized.bits, j.few)
 
   -- the piece that it merges with, and the two as one, are no wider than all
   pub narrow_at : (i : ℕ) → i < d.piece_count → (extract_of (get_or d.bits i 0)).width + e.width ≤ 4096
   narrow_at i h = omega (arith, width_at_lem d.bits d.piece_count fitting i h, j.whole, j.narrow)
 
-  pub some_piece : m ≡ true → 0 < d.piece_count
-  some_piece t = merges_some d.bits d.piece_count fitting e side (sym j.told ∙ t)
+  pub some_piece : merges side e (pieces_of d) ≡ true → 0 < d.piece_count
+  some_piece t = merges_some d.bits d.piece_count fitting e side t
 
   -- the fields of a derivation that a piece has joined
-  pub piece_put : (n : ℕ) (l : List ℕ) → n ≡ cond m d.piece_count (suc d.piece_count)
+  pub piece_put : (n : ℕ) (l : List ℕ) → n ≡ cond (merges side e (pieces_of d)) d.piece_count (suc d.piece_count)
       → l ≡ overlay d.bits 0 (map packed_of (piece_added side e (pieces_of d)))
       → ◌≡◌ {A = DerivedBitVecSignal}
       (record { width = d.width + e.width; input_count = d.input_count; inputs = d.inputs; piece_count = n; bits = l })
@@ -214,26 +201,25 @@ module _ {d : DerivedBitVecSignal} {side : Side} {e : Extract} {m : Bool} (sized
   piece_put n l count q =
       let w : d.width + e.width ≡ sum (map piece_width (piece_added side e (pieces_of d))) = rw (sum_added side e (pieces_of d)) (omega (arith, j.whole)) in
       let z : n ≡ length (piece_added side e (pieces_of d)) =
-      count ∙ ap (λ (b : Bool). cond b d.piece_count (suc d.piece_count)) j.told
-      ∙ ap (λ (k : ℕ). cond (merges side e (pieces_of d)) k (suc k)) (sym (count_is d.bits d.piece_count fitting))
+      count ∙ ap (λ (k : ℕ). cond (merges side e (pieces_of d)) k (suc k)) (sym (count_is d.bits d.piece_count fitting))
       ∙ sym (length_added side e (pieces_of d)) in
       λ i. record { width = w i; input_count = d.input_count; inputs = d.inputs; piece_count = z i; bits = q i }
 
-module _ {d : DerivedBitVecSignal} {number name : ℕ} (sized : Sized d) (n : Named d number name) where
+module _ {d : DerivedBitVecSignal} {number name : ℕ} (n : Named d number name) where
   names_are : length (names_of d) ≡ d.input_count
-  names_are = length-take-le d.input_count d.inputs (omega (arith, sized.names, n.few))
+  names_are = length-take-le d.input_count d.inputs (omega (arith, n.sized.names, n.few))
 
   pub name_put : number ≡ d.input_count
       → ◌≡◌ {A = DerivedBitVecSignal}
-      (record { width = d.width; input_count = d.input_count + 1; inputs = set d.inputs d.input_count name; piece_count = d.piece_count; bits = d.bits })
+      (record { width = d.width; input_count = d.input_count + 1; inputs = set d.inputs number name; piece_count = d.piece_count; bits = d.bits })
       (with_names d (name_added name (names_of d)))
   unfolding part
   name_put h =
       let e = name_new (names_of d) name (sym n.place ∙ h ∙ sym names_are) in
       let c : d.input_count + 1 ≡ length (name_added name (names_of d)) = rw (e, length-append) (omega (arith, names_are)) in
-      let q : set d.inputs d.input_count name ≡ overlay d.inputs 0 (name_added name (names_of d)) =
-      ap (λ (i : ℕ). set d.inputs i name) (sym (zero-add d.input_count))
-      ∙ sym (overlay_snoc d.inputs 0 d.input_count name (omega (arith, sized.names, n.low)))
+      let q : set d.inputs number name ≡ overlay d.inputs 0 (name_added name (names_of d)) =
+      ap (λ (i : ℕ). set d.inputs i name) (h ∙ sym (zero-add d.input_count))
+      ∙ sym (overlay_snoc d.inputs 0 d.input_count name (omega (arith, n.sized.names, n.low)))
       ∙ ap (overlay d.inputs 0) (sym e) in
       λ i. record { width = d.width; input_count = c i; inputs = q i; piece_count = d.piece_count; bits = d.bits }
 
@@ -244,18 +230,25 @@ module _ {d : DerivedBitVecSignal} {number name : ℕ} (sized : Sized d) (n : Na
       let e = name_known (names_of d) name k in
       let c : d.input_count ≡ length (name_added name (names_of d)) = rw e (sym names_are) in
       let q : d.inputs ≡ overlay d.inputs 0 (name_added name (names_of d)) =
-      sym (overlay_part d.inputs 0 d.input_count (omega (arith, sized.names, n.few))) ∙ ap (overlay d.inputs 0) (sym e) in
+      sym (overlay_part d.inputs 0 d.input_count (omega (arith, n.sized.names, n.few))) ∙ ap (overlay d.inputs 0) (sym e) in
       λ i. record { width = d.width; input_count = c i; inputs = q i; piece_count = d.piece_count; bits = d.bits }
+
+module _ {d : DerivedBitVecSignal} {number name : ℕ} (n : Named d number name) where
+  named_sized : Sized (with_names d (name_added name (names_of d)))
+  named_sized =
+      let fits : length (name_added name (names_of d)) ≤ 8 =
+      ltb-false 8 _ (ninth (names_of d) name (omega (arith, names_are n, n.few)) ∙ lt-leb 8 _ (omega (arith, n.place, n.low))) in
+      record { names = overlay_length d.inputs (name_added name (names_of d)) 0 (omega (arith, fits, n.sized.names)) ∙ n.sized.names; bits = n.sized.bits }
 
 -- ---- 13
 
-pub has_room : (d : DerivedBitVecSignal) (e : Extract) (m : Bool) → has_no_room d e m ≡ false
-    → (e.signal < 8) × (m ≡ false → d.piece_count < 64) × (d.width + e.width ≤ 4096)
+has_room : (d : DerivedBitVecSignal) (side : Side) (e : Extract) → has_no_room d side e ≡ false
+    → (e.signal < 8) × (merges side e (pieces_of d) ≡ false → d.piece_count < 64) × (d.width + e.width ≤ 4096)
 unfolding has_no_room
-has_room d e m h =
+has_room d side e h =
     let a = leb 8 e.signal in
     let n = ltb 4096 (d.width + e.width) in
-    let b = not m && leb 64 d.piece_count in
+    let b = not (merges side e (pieces_of d)) && leb 64 d.piece_count in
     let k = or_left (a || n) b h in (
       leb-false 8 e.signal (or_left a n k),
       (λ f. leb-false 64 d.piece_count (ap (λ (t : Bool). not t && leb 64 d.piece_count) (sym f) ∙ or_right (a || n) b h)),
@@ -270,25 +263,25 @@ or_swap false false true = refl
 or_swap false false false = refl
 
 -- a piece tried: what its tests were given
-pub record Tried (d : DerivedBitVecSignal) (side : Side) (name msb lsb : ℕ) (e : Extract) (m : Bool) : Type 0 where
+pub record Tried (d : DerivedBitVecSignal) (side : Side) (name msb lsb : ℕ) (e : Extract) : Type 0 where
   pub sized : Sized d
   pub good : is_bad_derivation d ≡ false
   pub range : is_bad_range msb lsb ≡ false
   pub made : e ≡ piece_of d name msb lsb
-  pub told : m ≡ merges side e (pieces_of d)
 
-module _ {d : DerivedBitVecSignal} {side : Side} {name msb lsb : ℕ} {e : Extract} {m : Bool} (t : Tried d side name msb lsb e m) where
+module _ {d : DerivedBitVecSignal} {side : Side} {name msb lsb : ℕ} {e : Extract} (t : Tried d side name msb lsb e) where
   abbrev s : Sound d
   s = sound d t.good
 
-  full_is : has_no_room d e m ≡ is_overfull (name_added name (names_of d)) (piece_added side e (pieces_of d))
+  full_is : has_no_room d side e ≡ is_overfull (name_added name (names_of d)) (piece_added side e (pieces_of d))
   unfolding has_no_room is_overfull
   full_is =
+      let m = merges side e (pieces_of d) in
       let n : length (names_of d) ≡ d.input_count = length-take-le d.input_count d.inputs (omega (arith, t.sized.names, s.named)) in
       let p : length (pieces_of d) ≡ d.piece_count = count_is d.bits d.piece_count (omega (arith, t.sized.bits, s.few)) in
       let w : d.width + e.width ≡ sum (map piece_width (piece_added side e (pieces_of d))) = rw (sum_added side e (pieces_of d)) (omega (arith, s.whole)) in
       let q : length (piece_added side e (pieces_of d)) ≡ cond m d.piece_count (suc d.piece_count) =
-      length_added side e (pieces_of d) ∙ ap₂ (λ (b : Bool) (k : ℕ). cond b k (suc k)) (sym t.told) p in
+      length_added side e (pieces_of d) ∙ ap (λ (k : ℕ). cond m k (suc k)) p in
       let f : leb 8 e.signal ≡ ltb 8 (length (name_added name (names_of d))) =
       ap (λ (x : Extract). leb 8 x.signal) t.made ∙ sym (ninth (names_of d) name (omega (arith, s.named))) in
       rw (← w, q, ← f)
@@ -303,22 +296,22 @@ module _ {d : DerivedBitVecSignal} {side : Side} {name msb lsb : ℕ} {e : Extra
           (λ k. lt-leb 64 d.piece_count k ∙ sym (le-ltb 64 (suc d.piece_count) k))
 
   -- 13 is tried of the piece that was made
-  room_test : has_no_room d e m ≡ is_overfull (name_added name (names_of d)) (piece_added side (piece_of d name msb lsb) (pieces_of d))
+  room_test : has_no_room d side e ≡ is_overfull (name_added name (names_of d)) (piece_added side (piece_of d name msb lsb) (pieces_of d))
   room_test = full_is ∙ ap (λ (x : Extract). is_overfull (name_added name (names_of d)) (piece_added side x (pieces_of d))) t.made
 
-  pub no_room : has_no_room d e m ≡ true → ◌≡◌ {A = Outcome DerivedBitVecSignal} (record { refused = 13; left = d }) (add_piece d side name msb lsb)
+  pub no_room : has_no_room d side e ≡ true → ◌≡◌ {A = Outcome DerivedBitVecSignal} (record { refused = 13; left = d }) (add_piece d side name msb lsb)
   no_room h = sym (refused_full d side name msb lsb t.good t.range (sym room_test ∙ h))
 
-  module _ (room : has_no_room d e m ≡ false) where
+  module _ (room : has_no_room d side e ≡ false) where
     pub naming : Named d e.signal name
-    naming = record { few = s.named; place = ap (λ (x : Extract). x.signal) t.made; low = (has_room d e m room).0 }
+    naming = record { sized = t.sized; few = s.named; place = ap (λ (x : Extract). x.signal) t.made; low = (has_room d side e room).0 }
 
     -- the derivation with the name, and then with the piece
     module _ (named : DerivedBitVecSignal) (names-put : named ≡ with_names d (name_added name (names_of d))) where
-      pub joining : Joining side named e m
+      pub joining : Joining side named e
       joining =
-          let r = has_room d e m room in
-          rw names-put (record { few = s.few; whole = s.whole; told = t.told; unmerged = r.1; narrow = r.2 })
+          let r = has_room d side e room in
+          rw names-put (record { sized = named_sized naming; few = s.few; whole = s.whole; unmerged = r.1; narrow = r.2 })
 
       pub joined : (next : DerivedBitVecSignal) → next ≡ with_pieces named (piece_added side e (pieces_of named))
           → ◌≡◌ {A = Outcome DerivedBitVecSignal} (record { refused = 0; left = next }) (add_piece d side name msb lsb)

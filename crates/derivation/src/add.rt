@@ -1,60 +1,67 @@
 // A derivation, and Add a piece.
-ghost use Rattle.std.specs.Prelude.{false, ◌∷◌, ◌≡◌, ◌≤◌, ◌<◌, length, take};
-ghost use Rattle.value.specs.Slice.{overlay};
-ghost use Rattle.derivation.specs.Answer.{input_number, merges, has_no_room, refused_by, Joining, Named, with_pieces, with_names};
+ghost use Rattle.std.specs.Prelude.{◌∷◌, ◌≡◌, ◌==◌, ◌≤◌, ◌<◌, true, false, length, map, take, position};
+ghost use Rattle.std.specs.List.{list_any};
+ghost use Rattle.value.specs.Slice.{overlay, sum};
+ghost use Rattle.fst.specs.Refusal.{outcome};
+ghost use Rattle.derivation.specs.Answer.{added_of, merges, has_no_room, Joining, Named, with_pieces, with_names};
 ghost use Rattle.derivation.specs.declared.Side.TheVariants.{Left, Right};
-ghost use Rattle.derivation.specs.Piece.{pieces_of, names_of, is_bad_derivation, is_bad_range, piece_of, piece_added, name_added, add_piece, add_full, slice_of, identity_of, joined_of, empty_derivation};
+ghost use Rattle.derivation.specs.Piece.{extract_of, pieces_of, names_of, is_bad_piece, is_bad_derivation, is_bad_range, piece_of, piece_added, piece_width, name_added, add_piece, add_full, slice_of, identity_of, joined_of, empty_derivation};
 
-use crate::{DerivedBitVecSignal, Extract, InputNumber, Joined, Side};
+use crate::{DerivedBitVecSignal, Extract, Joined, Side};
+use fst::Refusal;
 use fst::record::MAX_WIDTH;
-use fst::{Refusal, Verdict};
 
 const MAX_INPUTS: u32 = 8;
 
 const MAX_PIECES: u32 = 64;
-
-// The number of the first of `count` names that is `signal`.
-fn find_input(inputs: &[u32; 8], count: usize, signal: u32) -> InputNumber
-    requires { (count ≤ 8) × (length inputs.now ≡ 8) }
-    ensures { result ≡ input_number (take count inputs.now) signal }
-{
-    let mut number = 0;
-    while number < count {
-        if inputs[number] == signal {
-            return InputNumber::At(number as u16);
-        }
-        number += 1;
-    }
-    InputNumber::Missing
-}
 
 // Puts a number in front of the first `count`, which move up by one.
 fn insert_first(bits: &mut [u64; 64], count: usize, value: u64)
     requires { (count < 64) × (length bits.old ≡ 64) }
     ensures { bits.new ≡ overlay bits.old 0 (value ∷ take count bits.old) }
 {
-    let mut moved = value;
-    let mut i = 0;
-    while i <= count {
-        let next = bits[i];
-        bits[i] = moved;
-        moved = next;
-        i += 1;
-    }
+    bits.copy_within(..count, 1);
+    bits[0] = value;
 }
 
 // Number 12.
+#[tactic(auto, unfolding(crate::specs::Piece::is_bad_range))]
 fn is_bad_range(msb: u32, lsb: u32) -> bool
     ensures { result ≡ is_bad_range msb lsb }
 {
-    if msb < lsb {
-        return true;
-    }
-    MAX_WIDTH <= msb
+    msb < lsb || MAX_WIDTH <= msb
+}
+
+// The number of the first name that is `signal`.
+fn find_input(names: &[u32], signal: u32) -> Option<usize>
+    ensures { result ≡ position (λ name. name == signal) names.now }
+{
+    names.iter().position(|name| *name == signal)
+}
+
+// Whether one of the pieces is bad among so many inputs.
+fn any_bad(pieces: &[u64], inputs: u32) -> bool
+    ensures { result ≡ list_any (is_bad_piece inputs) (map extract_of pieces.now) }
+{
+    pieces
+        .iter()
+        .map(|piece| Extract::from(*piece))
+        .any(|extract| extract.is_bad(inputs))
+}
+
+fn total_width(pieces: &[u64]) -> u32
+    requires { length pieces.now ≤ 64 }
+    ensures { result ≡ sum (map piece_width (map extract_of pieces.now)) }
+{
+    pieces
+        .iter()
+        .map(|piece| u32::from(Extract::from(*piece).width))
+        .sum()
 }
 
 impl DerivedBitVecSignal {
     // The derivation of no piece.
+    #[tactic(auto, unfolding(crate::specs::Piece::empty_derivation))]
     fn empty() -> DerivedBitVecSignal
         ensures { result ≡ empty_derivation }
     {
@@ -67,214 +74,214 @@ impl DerivedBitVecSignal {
         }
     }
 
-    // Number 14 of Add a piece.
-    pub fn is_bad(self) -> bool
-        ensures { result ≡ is_bad_derivation self }
+    // The packed pieces, all 64 for a count above.
+    pub fn pieces(&self) -> &[u64]
+        ensures { result.now ≡ take self.now.piece_count self.now.bits }
     {
-        let count = self.piece_count;
-        let inputs = self.input_count;
-        if MAX_PIECES < count {
-            return true;
-        }
-        if MAX_INPUTS < inputs {
-            return true;
-        }
-        let mut sum: u64 = 0;
-        let mut i: usize = 0;
-        while i < count as usize {
-            let extract = Extract::from_u64(self.bits[i]);
-            if extract.is_bad(inputs) {
-                return true;
-            }
-            sum += extract.width as u64;
-            i += 1;
-        }
-        if self.width as u64 != sum {
-            return true;
-        }
-        MAX_WIDTH < self.width
+        let count = self.bits.len().min(self.piece_count as usize);
+        &self.bits[..count]
+    }
+
+    // The inputs' names, all eight for a count above.
+    pub fn names(&self) -> &[u32]
+        ensures { result.now ≡ take self.now.input_count self.now.inputs }
+    {
+        let count = self.inputs.len().min(self.input_count as usize);
+        &self.inputs[..count]
+    }
+
+    // Number 14 of Add a piece.
+    #[tactic(auto, using(crate::proofs::Walks::any_listed), unfolding(crate::specs::Piece::is_bad_derivation))]
+    pub fn is_bad(&self) -> bool
+        ensures { result ≡ is_bad_derivation self.now }
+    {
+        let pieces = self.pieces();
+        MAX_PIECES < self.piece_count
+            || MAX_INPUTS < self.input_count
+            || any_bad(pieces, self.input_count)
+            || self.width != total_width(pieces)
+            || MAX_WIDTH < self.width
     }
 
     // The piece of bits msb to lsb of a name, which gets the next number where it is new.
-    fn make_extract(self, signal: u32, msb: u32, lsb: u32) -> Extract
-        requires { (is_bad_derivation self ≡ false) × (is_bad_range msb lsb ≡ false) }
-        ensures { result ≡ piece_of self signal msb lsb }
+    fn make_extract(&self, signal: u32, msb: u32, lsb: u32) -> Extract
+        requires { is_bad_range msb lsb ≡ false }
+        ensures { result ≡ piece_of self.now signal msb lsb }
     {
-        let count = self.input_count;
+        let names = self.names();
         let width = (msb + 1 - lsb) as u16;
-        let InputNumber::At(number) = find_input(&self.inputs, count as usize, signal) else {
+        let Some(number) = find_input(names, signal) else {
             return Extract {
-                signal: count as u16,
-                width: width,
-                lsb: lsb,
+                signal: names.len() as u16,
+                width,
+                lsb,
             };
         };
         Extract {
-            signal: number,
-            width: width,
-            lsb: lsb,
+            signal: number as u16,
+            width,
+            lsb,
         }
     }
 
     // Whether a piece merges with its neighbour.
-    fn merges(self, side: Side, extract: Extract) -> bool
-        requires { is_bad_derivation self ≡ false }
-        ensures { result ≡ merges side extract (pieces_of self) }
+    #[tactic(auto, using(crate::proofs::Joins::merges_empty))]
+    fn merges(&self, side: Side, extract: Extract) -> bool
+        ensures { result ≡ merges side extract (pieces_of self.now) }
     {
-        let count = self.piece_count;
-        if count == 0 {
-            return false;
-        }
-        match side {
-            Side::Left => extract.adjoins(Extract::from_u64(self.bits[0])),
-            Side::Right => {
-                let last = count as usize - 1;
-                Extract::from_u64(self.bits[last]).adjoins(extract)
-            }
+        match (side, self.pieces()) {
+            (Side::Left, [low, ..]) => extract.adjoins(Extract::from(*low)),
+            (Side::Right, [.., high]) => Extract::from(*high).adjoins(extract),
+            (_, []) => false,
         }
     }
 
     // Number 13: a piece of a ninth input, one that makes the derivation too wide, or a 65th that doesn't merge.
-    fn has_no_room(self, extract: Extract, merges: bool) -> bool
-        requires { is_bad_derivation self ≡ false }
-        ensures { result ≡ has_no_room self extract merges }
+    #[tactic(auto, unfolding(crate::specs::Answer::has_no_room))]
+    fn has_no_room(&self, side: Side, extract: Extract) -> bool
+        ensures { result ≡ has_no_room self.now side extract }
     {
-        if MAX_INPUTS <= extract.signal as u32 {
-            return true;
-        }
-        if MAX_WIDTH < self.width + extract.width as u32 {
-            return true;
-        }
-        if merges {
-            return false;
-        }
-        MAX_PIECES <= self.piece_count
+        MAX_INPUTS <= u32::from(extract.signal)
+            || u64::from(MAX_WIDTH) < u64::from(self.width) + u64::from(extract.width)
+            || !self.merges(side, extract) && MAX_PIECES <= self.piece_count
     }
 
-    // The piece joins on the most significant side.
-    fn put_left(mut self, extract: Extract, merges: bool) -> DerivedBitVecSignal
-        requires { Joining Left self extract merges }
-        ensures { result ≡ with_pieces self (piece_added Left extract (pieces_of self)) }
+    // The piece and its neighbour become one.
+    fn merge(&mut self, side: Side, extract: Extract)
+        requires joining { Joining side self.old extract }
+        requires merging { merges side extract (pieces_of self.old) ≡ true }
+        ensures { self.new ≡ with_pieces self.old (piece_added side extract (pieces_of self.old)) }
     {
-        let count = self.piece_count;
-        self.width += extract.width as u32;
-        if merges {
-            let one = extract.merged(Extract::from_u64(self.bits[0]));
-            self.bits[0] = one.to_u64();
-            return self;
+        self.width += u32::from(extract.width);
+        match side {
+            Side::Left => {
+                let low = Extract::from(self.bits[0]);
+                self.bits[0] = u64::from(extract.merged(low));
+            }
+            Side::Right => {
+                let last = self.piece_count as usize - 1;
+                let high = Extract::from(self.bits[last]);
+                self.bits[last] = u64::from(high.merged(extract));
+            }
         }
-        insert_first(&mut self.bits, count as usize, extract.to_u64());
-        self.piece_count = count + 1;
-        self
     }
 
-    // The piece joins on the least significant side.
-    fn put_right(mut self, extract: Extract, merges: bool) -> DerivedBitVecSignal
-        requires { Joining Right self extract merges }
-        ensures { result ≡ with_pieces self (piece_added Right extract (pieces_of self)) }
+    // The piece takes a place of its own.
+    fn insert(&mut self, side: Side, extract: Extract)
+        requires joining { Joining side self.old extract }
+        requires apart { merges side extract (pieces_of self.old) ≡ false }
+        ensures { self.new ≡ with_pieces self.old (piece_added side extract (pieces_of self.old)) }
     {
         let count = self.piece_count as usize;
-        self.width += extract.width as u32;
-        if merges {
-            let last = count - 1;
-            let one = Extract::from_u64(self.bits[last]).merged(extract);
-            self.bits[last] = one.to_u64();
-            return self;
-        }
-        self.bits[count] = extract.to_u64();
+        self.width += u32::from(extract.width);
         self.piece_count += 1;
-        self
+        match side {
+            Side::Left => insert_first(&mut self.bits, count, u64::from(extract)),
+            Side::Right => self.bits[count] = u64::from(extract),
+        }
+    }
+
+    // The piece joins on its side.
+    fn put(&mut self, side: Side, extract: Extract)
+        requires { Joining side self.old extract }
+        ensures { self.new ≡ with_pieces self.old (piece_added side extract (pieces_of self.old)) }
+    {
+        if self.merges(side, extract) {
+            self.merge(side, extract);
+        } else {
+            self.insert(side, extract);
+        }
     }
 
     // Keeps the name of an input's number, where that is the next number.
-    fn with_input(mut self, number: u16, signal: u32) -> DerivedBitVecSignal
-        requires { Named self number signal }
-        ensures { result ≡ with_names self (name_added signal (names_of self)) }
+    fn put_name(&mut self, number: u16, signal: u32)
+        requires { Named self.old number signal }
+        ensures { self.new ≡ with_names self.old (name_added signal (names_of self.old)) }
     {
-        let count = self.input_count;
-        if number as u32 == count {
-            let at = count as usize;
-            self.inputs[at] = signal;
-            self.input_count = count + 1;
-        }
-        self
-    }
-
-    // The derivation stays as it was.
-    fn refused(self, refusal: Refusal) -> Joined
-        ensures { result ≡ refused_by refusal self }
-    {
-        let verdict = Verdict::Refused(refusal);
-        Joined {
-            verdict: verdict,
-            next: self,
+        if u32::from(number) == self.input_count {
+            self.inputs[number as usize] = signal;
+            self.input_count += 1;
         }
     }
 
-    // Add a piece. The numbers are tried in the order 14, 12, 13.
-    fn concat(self, side: Side, signal: u32, msb: u32, lsb: u32) -> Joined
-        ensures { joined_of result ≡ add_piece self side signal msb lsb }
+    // The next derivation. The numbers are tried in the order 14, 12, 13.
+    fn with_piece(
+        mut self,
+        side: Side,
+        signal: u32,
+        msb: u32,
+        lsb: u32,
+    ) -> Result<DerivedBitVecSignal, Refusal>
+        ensures { outcome self (added_of result) ≡ add_piece self side signal msb lsb }
     {
         if self.is_bad() {
-            return self.refused(Refusal::BadDerivation);
+            return Err(Refusal::BadDerivation);
         }
         if is_bad_range(msb, lsb) {
-            return self.refused(Refusal::BadRange);
+            return Err(Refusal::BadRange);
         }
         let extract = self.make_extract(signal, msb, lsb);
-        let merges = self.merges(side, extract);
-        if self.has_no_room(extract, merges) {
-            return self.refused(Refusal::DerivationFull);
+        if self.has_no_room(side, extract) {
+            return Err(Refusal::DerivationFull);
         }
-        let named = self.with_input(extract.signal, signal);
-        let next = match side {
-            Side::Left => named.put_left(extract, merges),
-            Side::Right => named.put_right(extract, merges),
-        };
-        Joined {
-            verdict: Verdict::Accepted,
-            next: next,
+        self.put_name(extract.signal, signal);
+        self.put(side, extract);
+        Ok(self)
+    }
+
+    // The next derivation with all wires of a signal. No wires add nothing.
+    fn with_wires(self, side: Side, signal: u32, width: u32) -> Result<DerivedBitVecSignal, Refusal>
+        ensures { outcome self (added_of result) ≡ add_full self side signal width }
+    {
+        if 0 < width {
+            return self.with_piece(side, signal, width - 1, 0);
+        }
+        if self.is_bad() {
+            return Err(Refusal::BadDerivation);
+        }
+        Ok(self)
+    }
+
+    // After a refusal the derivation stays as it was.
+    fn joined(self, added: Result<DerivedBitVecSignal, Refusal>) -> Joined
+        ensures { joined_of result ≡ outcome self (added_of added) }
+    {
+        match added {
+            Ok(next) => Joined {
+                verdict: Ok(()),
+                next,
+            },
+            Err(refusal) => Joined {
+                verdict: Err(refusal),
+                next: self,
+            },
         }
     }
 
+    // Add a piece on the most significant side.
     pub fn concat_left(self, signal: u32, msb: u32, lsb: u32) -> Joined
         ensures { joined_of result ≡ add_piece self Left signal msb lsb }
     {
-        self.concat(Side::Left, signal, msb, lsb)
+        self.joined(self.with_piece(Side::Left, signal, msb, lsb))
     }
 
     pub fn concat_right(self, signal: u32, msb: u32, lsb: u32) -> Joined
         ensures { joined_of result ≡ add_piece self Right signal msb lsb }
     {
-        self.concat(Side::Right, signal, msb, lsb)
+        self.joined(self.with_piece(Side::Right, signal, msb, lsb))
     }
 
-    // Add a piece of all wires of a signal. No wires add nothing.
-    fn concat_full(self, side: Side, signal: u32, width: u32) -> Joined
-        ensures { joined_of result ≡ add_full self side signal width }
-    {
-        if 0 < width {
-            return self.concat(side, signal, width - 1, 0);
-        }
-        if self.is_bad() {
-            return self.refused(Refusal::BadDerivation);
-        }
-        Joined {
-            verdict: Verdict::Accepted,
-            next: self,
-        }
-    }
-
+    // Add a piece of all wires of a signal.
     pub fn concat_left_full(self, signal: u32, width: u32) -> Joined
         ensures { joined_of result ≡ add_full self Left signal width }
     {
-        self.concat_full(Side::Left, signal, width)
+        self.joined(self.with_wires(Side::Left, signal, width))
     }
 
     pub fn concat_right_full(self, signal: u32, width: u32) -> Joined
         ensures { joined_of result ≡ add_full self Right signal width }
     {
-        self.concat_full(Side::Right, signal, width)
+        self.joined(self.with_wires(Side::Right, signal, width))
     }
 
     // The derivation of one slice.
@@ -291,6 +298,6 @@ impl DerivedBitVecSignal {
         if 0 < width {
             return DerivedBitVecSignal::new_slice(signal, width - 1, 0);
         }
-        DerivedBitVecSignal::empty().refused(Refusal::BadRange)
+        DerivedBitVecSignal::empty().joined(Err(Refusal::BadRange))
     }
 }

@@ -5,51 +5,50 @@ ghost use Rattle.derivation.specs.Piece.{packed_of, extract_of, end_of, is_bad_p
 use crate::Extract;
 use fst::record::MAX_WIDTH;
 
-impl Extract {
-    pub fn from_u64(value: u64) -> Extract
-        ensures { result ≡ extract_of value }
-    {
+impl From<u64> for Extract {
+    ghost from_gives = { λ number extract. extract ≡ extract_of number };
+
+    fn from(number: u64) -> Extract {
         Extract {
-            signal: (value >> 48) as u16,
-            width: ((value >> 32) & 0xffff) as u16,
-            lsb: (value & 0xffff_ffff) as u32,
+            signal: (number >> 48) as u16,
+            width: ((number >> 32) & 0xffff) as u16,
+            lsb: (number & 0xffff_ffff) as u32,
         }
     }
+}
 
-    pub fn to_u64(self) -> u64
-        ensures { result ≡ packed_of self }
-    {
-        ((self.signal as u64) << 48) | ((self.width as u64) << 32) | (self.lsb as u64)
+impl From<Extract> for u64 {
+    ghost from_gives = { λ extract number. number ≡ packed_of extract };
+
+    fn from(extract: Extract) -> u64 {
+        (u64::from(extract.signal) << 48)
+            | (u64::from(extract.width) << 32)
+            | u64::from(extract.lsb)
     }
+}
 
+impl Extract {
     // One above the highest bit.
     pub fn end(self) -> u64
         ensures { result ≡ end_of self }
     {
-        self.lsb as u64 + self.width as u64
+        u64::from(self.lsb) + u64::from(self.width)
     }
 
     // Whether number 14 refuses a derivation of so many inputs for this piece.
+    #[tactic(auto, unfolding(crate::specs::Piece::is_bad_piece))]
     pub fn is_bad(self, inputs: u32) -> bool
         ensures { result ≡ is_bad_piece inputs self }
     {
-        if self.width == 0 {
-            return true;
-        }
-        if inputs <= self.signal as u32 {
-            return true;
-        }
-        (MAX_WIDTH as u64) < self.end()
+        self.width == 0 || inputs <= u32::from(self.signal) || u64::from(MAX_WIDTH) < self.end()
     }
 
     // Whether the bits of `low` end where this piece begins.
+    #[tactic(auto, unfolding(crate::specs::Piece::adjoin))]
     pub(crate) fn adjoins(self, low: Extract) -> bool
         ensures { result ≡ adjoin self low }
     {
-        if self.signal != low.signal {
-            return false;
-        }
-        self.lsb as u64 == low.end()
+        self.signal == low.signal && u64::from(self.lsb) == low.end()
     }
 
     // This piece and `low` as one.
@@ -58,9 +57,8 @@ impl Extract {
         ensures { result ≡ merged self low }
     {
         Extract {
-            signal: low.signal,
             width: self.width + low.width,
-            lsb: low.lsb,
+            ..low
         }
     }
 }

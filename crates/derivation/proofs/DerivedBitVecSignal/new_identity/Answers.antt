@@ -3,7 +3,7 @@
 use mathlib.Core.Path.{◌≡◌, sym, ap, ◌∙◌}
 use Prim.Native.Nat.{suc, ◌-◌}
 use native.Mathlib.Omega.{arith}
-use Rattle.derivation.specs.Piece.{joined_of, identity_of}
+use Rattle.derivation.specs.Piece.{identity_of}
 use Rattle.derivation.proofs.DerivedBitVecSignal.new_identity.Goals as goal
 
 pub returns-then-width-gt0 : goal.returns-then-width-gt0
@@ -18,4 +18,4 @@ unfolding identity_of
 returns c =
     let a = c.args in
     let z : a.width ≡ 0 = omega arith in
-    ap joined_of c.refused.ensures ∙ rw (z, c.empty.ensures)
+    c.joined.ensures ∙ rw (z, c.empty.ensures)

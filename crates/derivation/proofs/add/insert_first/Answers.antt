@@ -1,13 +1,14 @@
 -- `derivation::add::insert_first` meets its contract.
 -- Assumes nothing.
+use mathlib.Core.Path.{ap, ◌∙◌}
+use mathlib.Core.List.{List}
+use Prim.Native.Nat.{ℕ}
 use native.Mathlib.Omega.{arith}
-use Rattle.derivation.proofs.Walks.{carried_none, carried_more}
+use lib.ListN.{set}
+use Rattle.derivation.proofs.Walks.{shifted}
 use Rattle.derivation.proofs.add.insert_first.Goals as goal
 
-pub loop-i-init : goal.loop-i-init
-loop-i-init c = (omega arith, carried_none c.args.bits.now c.args.value)
-
-pub loop-i-preserved : goal.loop-i-preserved
-loop-i-preserved c =
+pub returns : goal.returns
+returns c =
     let a = c.args in
-    (omega arith, carried_more a.bits.now a.value c.loop-i.bits c.loop-i.moved c.loop-i.i (omega arith) c.loop-i.invariant.1)
+    ap (λ (l : List ℕ). set l 0 a.value) c.copy_within.ensures.after ∙ shifted a.bits.now a.count a.value (omega arith)
