@@ -17,8 +17,7 @@ use Rattle.offset.specs.declared.DataOffset.{DataOffset}
 use Rattle.signal.specs.Read.{Entry, kind_of}
 use Rattle.offset.specs.Offset.{Place, none, at}
 use Rattle.yoksimert.specs.declared.FlatDescription.{FlatDescription}
-use Rattle.yoksimert.specs.declared.Decoded.{Decoded}
-use Rattle.yoksimert.specs.declared.Decoded.TheVariants.{Known, Unknown}
+use Rattle.std.specs.Prelude.{Option, Some, None}
 use Rattle.yoksimert.specs.declared.FlatMade.{FlatMade}
 use Rattle.yoksimert.specs.declared.FlatEntry.{FlatEntry}
 use Rattle.yoksimert.specs.declared.FlatEqual.{FlatEqual}
@@ -26,22 +25,22 @@ use Rattle.yoksimert.specs.declared.FlatOffset.{FlatOffset}
 
 -- ---- descriptions
 
-abbrev pub known : Encoding → ℕ → Decoded
-known e n = Known (described e n)
+abbrev pub known : Encoding → ℕ → Option Description
+known e n = Some (described e n)
 
 -- kind 0 is an event's, 1 a real's, 2 a bit vector's; a set's number is its mark; an event and a real have neither width nor set
-unfoldable pub decoded : FlatDescription → Decoded
+unfoldable pub decoded : FlatDescription → Option Description
 decoded f =
     cond (eqb f.kind 2)
-    (cond (leb f.set 2) (known (BitVector f.width (set_at f.set)) f.count) Unknown)
+    (cond (leb f.set 2) (known (BitVector f.width (set_at f.set)) f.count) None)
     (cond (eqb f.width 0 && eqb f.set 0)
-    (cond (eqb f.kind 0) (known Event f.count) (cond (eqb f.kind 1) (known Real f.count) Unknown))
-    Unknown)
+    (cond (eqb f.kind 0) (known Event f.count) (cond (eqb f.kind 1) (known Real f.count) None))
+    None)
 
 -- numbers that are no description are taken for a bit vector of width 0, which is refused with 2
-abbrev pub described_by : Decoded → Description
-described_by (Known d) = d
-described_by Unknown = empty (BitVector 0 Two)
+abbrev pub described_by : Option Description → Description
+described_by (Some d) = d
+described_by None = empty (BitVector 0 Two)
 
 abbrev pub kind_number : Kind → ℕ
 kind_number kind.Event = 0

@@ -6,7 +6,7 @@ ghost use Rattle.yoksimert.specs.Flat.{described_by};
 ghost use Rattle.yoksimert.specs.Derivations.{derivation_of, left_by_joined, input_of, inputs_by, made_by, flat_derive};
 
 use crate::flat::{decode, flat_made, verdict_number};
-use crate::{Decoded, FlatDerivation, FlatInput, FlatInputs, FlatJoined, FlatMade};
+use crate::{FlatDerivation, FlatInput, FlatInputs, FlatJoined, FlatMade};
 use derivation::{DerivedBitVecSignal, Joined};
 use fst::{Description, Encoding};
 use steps::{Input, Inputs};
@@ -114,12 +114,12 @@ pub extern "C" fn yoksimert_concat_right_full(
 // ---- Derive
 
 // Numbers that are no description are taken for a record that is refused with 2.
-fn description_of(decoded: Decoded) -> Description
+fn description_of(decoded: Option<Description>) -> Description
     ensures { result ≡ described_by decoded }
 {
     match decoded {
-        Decoded::Known(description) => description,
-        Decoded::Unknown => Description::new(
+        Some(description) => description,
+        None => Description::new(
             Encoding::BitVector {
                 width: 0,
                 max_states: States::Two,

@@ -12,7 +12,7 @@ use crate::flat::{
     decode, encode, flat_equal, flat_made, flat_offset, kind_number, level_length, no_entry,
     refusal_number, set_number, verdict_number,
 };
-use crate::{Decoded, FlatDescription, FlatEntry, FlatEqual, FlatMade, FlatOffset};
+use crate::{FlatDescription, FlatEntry, FlatEqual, FlatMade, FlatOffset};
 use equality::compare_records;
 use fst::record::{fresh, fresh_real};
 use numbers::read::{read_decimal, read_signed, read_unsigned};
@@ -48,7 +48,7 @@ pub extern "C" fn yoksimert_read(
 ) -> FlatEntry
     ensures { result ≡ flat_read description bytes.now byte_start entry }
 {
-    let Decoded::Known(known) = decode(description) else {
+    let Some(known) = decode(description) else {
         return no_entry(2);
     };
     match read_entry(known, bytes, byte_start, entry) {
@@ -80,7 +80,7 @@ pub extern "C" fn yoksimert_text(
 ) -> u32
     ensures { ◌≡◌ {A = Outcome (List ℕ)} (record { refused = result; left = out.new }) (flat_text description bytes.now byte_start entry out.old) }
 {
-    let Decoded::Known(known) = decode(description) else {
+    let Some(known) = decode(description) else {
         return 2;
     };
     verdict_number(read_text(known, bytes, byte_start, entry, out))
@@ -96,7 +96,7 @@ pub extern "C" fn yoksimert_unsigned(
 ) -> FlatNumber
     ensures { result ≡ flat_number (flat_read_number unsigned description bytes.now byte_start entry) }
 {
-    let Decoded::Known(known) = decode(description) else {
+    let Some(known) = decode(description) else {
         return FlatNumber {
             number: 2,
             value: 0,
@@ -115,7 +115,7 @@ pub extern "C" fn yoksimert_signed(
 ) -> FlatSigned
     ensures { result ≡ flat_signed (flat_read_number signed description bytes.now byte_start entry) }
 {
-    let Decoded::Known(known) = decode(description) else {
+    let Some(known) = decode(description) else {
         return FlatSigned {
             number: 2,
             value: 0,
@@ -134,7 +134,7 @@ pub extern "C" fn yoksimert_decimal(
 ) -> FlatNumber
     ensures { result ≡ flat_number (flat_read_number decimal description bytes.now byte_start entry) }
 {
-    let Decoded::Known(known) = decode(description) else {
+    let Some(known) = decode(description) else {
         return FlatNumber {
             number: 2,
             value: 0,
@@ -159,13 +159,13 @@ pub extern "C" fn yoksimert_compare(
 ) -> FlatEqual
     ensures { result ≡ flat_compare a (lent a_bytes.now a_byte_start a_indices.now a_index_start) b (lent b_bytes.now b_byte_start b_indices.now b_index_start) }
 {
-    let Decoded::Known(first) = decode(a) else {
+    let Some(first) = decode(a) else {
         return FlatEqual {
             number: 2,
             equal: false,
         };
     };
-    let Decoded::Known(second) = decode(b) else {
+    let Some(second) = decode(b) else {
         return FlatEqual {
             number: 2,
             equal: false,

@@ -8,7 +8,7 @@ ghost use Rattle.equality.specs.Compare.{equal_of};
 ghost use Rattle.offset.specs.Offset.{offset_of};
 ghost use Rattle.yoksimert.specs.Flat.{known, decoded, encoded, no_description, kind_number, no_entry, level_length, flat_made, flat_equal, nowhere, placed, flat_offset};
 
-use crate::{Decoded, FlatDescription, FlatEntry, FlatEqual, FlatMade, FlatOffset};
+use crate::{FlatDescription, FlatEntry, FlatEqual, FlatMade, FlatOffset};
 use equality::EqualAnswer;
 use fst::{Description, Encoding, Made, NextIndex, Refusal, Verdict};
 use offset::{DataOffset, OffsetAnswer};
@@ -53,20 +53,20 @@ pub fn kind_number(kind: Kind) -> u32
 
 // ---- descriptions
 
-fn known(encoding: Encoding, count: u32) -> Decoded
+fn known(encoding: Encoding, count: u32) -> Option<Description>
     ensures { result ≡ known encoding count }
 {
-    Decoded::Known(Description::new(encoding, count))
+    Some(Description::new(encoding, count))
 }
 
-fn known_vector(width: u32, max_states: States, count: u32) -> Decoded
+fn known_vector(width: u32, max_states: States, count: u32) -> Option<Description>
     ensures { result ≡ known (BitVector width max_states) count }
 {
     known(Encoding::BitVector { width, max_states }, count)
 }
 
 // An arm for each set: the compiler then sees that the numbers of both sides are the same.
-pub fn decode(flat: FlatDescription) -> Decoded
+pub fn decode(flat: FlatDescription) -> Option<Description>
     ensures { result ≡ decoded flat }
 {
     let count = flat.count;
@@ -76,14 +76,14 @@ pub fn decode(flat: FlatDescription) -> Decoded
             0 => known_vector(flat.width, States::Two, count),
             1 => known_vector(flat.width, States::Four, count),
             2 => known_vector(flat.width, States::Nine, count),
-            _ => Decoded::Unknown,
+            _ => None,
         };
     }
     if flat.width != 0 {
-        return Decoded::Unknown;
+        return None;
     }
     if flat.set != 0 {
-        return Decoded::Unknown;
+        return None;
     }
     if flat.kind == 0 {
         return known(Encoding::Event, count);
@@ -91,7 +91,7 @@ pub fn decode(flat: FlatDescription) -> Decoded
     if flat.kind == 1 {
         return known(Encoding::Real, count);
     }
-    Decoded::Unknown
+    None
 }
 
 fn encoding_number(encoding: Encoding) -> u32

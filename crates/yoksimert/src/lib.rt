@@ -1,8 +1,6 @@
 // The operations of documents 01 and 02 for C and Rust: flat structs of numbers in and out, and lent slices. A caller can pass any numbers.
 #![tactic(auto)]
 
-use fst::Description;
-
 pub mod derivations;
 pub mod exports;
 pub mod flat;
@@ -17,13 +15,6 @@ pub struct FlatDescription {
     pub width: u32,
     pub set: u32,
     pub count: u32,
-}
-
-// What numbers describe.
-#[derive(Clone, Copy)]
-pub enum Decoded {
-    Known(Description),
-    Unknown,
 }
 
 // In each answer `number` is 0 for an accepted call, and else the number of the refusal.

@@ -11,7 +11,7 @@ ghost use Rattle.yoksimert.specs.declared.FlatAdded.{FlatAdded};
 ghost use Rattle.yoksimert.specs.Recorder.{recorded_by, added_to, flat_fresh};
 
 use crate::flat::{decode, encode, refusal_number, verdict_number};
-use crate::{Decoded, FlatAdded, FlatDescription};
+use crate::{FlatAdded, FlatDescription};
 use fst::record::{fresh, fresh_real};
 use fst::{Added, Made};
 
@@ -48,7 +48,7 @@ fn record_change(
 ) -> Recorded
     ensures { left_by_flat result.number (added_to recorder result) bytes.new indices.new ≡ flat_add recorder (lent bytes.old byte_start indices.old index_start) index (text value.now) }
 {
-    let Decoded::Known(known) = decode(recorder) else {
+    let Some(known) = decode(recorder) else {
         return Recorded {
             number: 2,
             set: recorder.set,
@@ -69,7 +69,7 @@ fn record_real(
 ) -> Recorded
     ensures { left_by_flat result.number (added_to recorder result) bytes.new indices.new ≡ flat_add recorder (lent bytes.old byte_start indices.old index_start) index (real bits) }
 {
-    let Decoded::Known(known) = decode(recorder) else {
+    let Some(known) = decode(recorder) else {
         return Recorded {
             number: 2,
             set: recorder.set,

@@ -4,5 +4,5 @@ use mathlib.Core.Path.{sym, ap, ◌∙◌}
 use Rattle.yoksimert.specs.Flat.{described_by}
 use Rattle.yoksimert.proofs.derivations.description_of.Goals as goal
 
-pub returns-in-Unknown : goal.returns-in-Unknown
-returns-in-Unknown c = c.new.ensures ∙ sym (ap described_by c.in-Unknown.is)
+pub returns-in-None : goal.returns-in-None
+returns-in-None c = c.new.ensures ∙ sym (ap described_by c.in-None.is)

@@ -10,4 +10,4 @@ returns-in_default c = ap flat_number (number_unknown decimal _ _ _ _ (sym c.dec
 
 pub returns : goal.returns
 returns c =
-    c.read_decimal.ensures ∙ ap flat_number (number_known decimal _ _ _ _ (sym c.decode.ensures ∙ c.in-Known.is))
+    c.read_decimal.ensures ∙ ap flat_number (number_known decimal _ _ _ _ (sym c.decode.ensures ∙ c.in-Some.is))

@@ -10,4 +10,4 @@ returns-in_default c = ap flat_signed (number_unknown signed _ _ _ _ (sym c.deco
 
 pub returns : goal.returns
 returns c =
-    c.read_signed.ensures ∙ ap flat_signed (number_known signed _ _ _ _ (sym c.decode.ensures ∙ c.in-Known.is))
+    c.read_signed.ensures ∙ ap flat_signed (number_known signed _ _ _ _ (sym c.decode.ensures ∙ c.in-Some.is))

@@ -12,4 +12,4 @@ returns-in_default c =
 pub returns : goal.returns
 returns c =
     let a = c.args in
-    text_known a.description a.bytes.now a.byte_start a.entry a.out.now _ (sym c.decode.ensures ∙ c.in-Known.is) _ _ _ c.verdict_number.ensures c.read_text.ensures
+    text_known a.description a.bytes.now a.byte_start a.entry a.out.now _ (sym c.decode.ensures ∙ c.in-Some.is) _ _ _ c.verdict_number.ensures c.read_text.ensures

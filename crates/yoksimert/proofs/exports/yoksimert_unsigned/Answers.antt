@@ -10,4 +10,4 @@ returns-in_default c = ap flat_number (number_unknown unsigned _ _ _ _ (sym c.de
 
 pub returns : goal.returns
 returns c =
-    c.read_unsigned.ensures ∙ ap flat_number (number_known unsigned _ _ _ _ (sym c.decode.ensures ∙ c.in-Known.is))
+    c.read_unsigned.ensures ∙ ap flat_number (number_known unsigned _ _ _ _ (sym c.decode.ensures ∙ c.in-Some.is))

@@ -15,4 +15,4 @@ returns-in_default c =
 pub returns : goal.returns
 returns c =
     let a = c.args in
-    record_known a.recorder (lent a.bytes.now a.byte_start a.indices.now a.index_start) a.index (text a.value.now) (sym c.decode.ensures ∙ c.in-Known.is) c.add_change.result c.add_change.ensures c.left_of.ensures
+    record_known a.recorder (lent a.bytes.now a.byte_start a.indices.now a.index_start) a.index (text a.value.now) (sym c.decode.ensures ∙ c.in-Some.is) c.add_change.result c.add_change.ensures c.left_of.ensures
