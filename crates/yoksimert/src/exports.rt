@@ -9,7 +9,7 @@ ghost use Rattle.yoksimert.specs.Flat.{encoded, flat_made, flat_offset};
 ghost use Rattle.yoksimert.specs.Exports.{flat_read, flat_text, flat_read_number, flat_compare};
 
 use crate::flat::{
-    decode, encode, flat_equal, flat_made, flat_offset, kind_number, level_length, no_entry,
+    decode, flat_equal, flat_made, flat_offset, kind_number, level_length, no_entry,
     refusal_number, set_number, verdict_number,
 };
 use crate::{FlatDescription, FlatEntry, FlatEqual, FlatMade, FlatOffset};
@@ -35,7 +35,7 @@ pub extern "C" fn yoksimert_fresh(width: u32) -> FlatMade
 pub extern "C" fn yoksimert_fresh_real() -> FlatDescription
     ensures { result ≡ encoded fresh_real }
 {
-    encode(fresh_real())
+    FlatDescription::from(fresh_real())
 }
 
 // Read an entry.

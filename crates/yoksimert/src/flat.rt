@@ -107,15 +107,17 @@ fn encoding_number(encoding: Encoding) -> u32
     }
 }
 
-pub fn encode(description: Description) -> FlatDescription
-    ensures { result ≡ encoded description }
-{
-    let encoding = description.encoding;
-    FlatDescription {
-        kind: encoding_number(encoding),
-        width: encoding.width(),
-        set: set_number(encoding.largest()),
-        count: description.count,
+impl From<Description> for FlatDescription {
+    ghost from_gives = { λ d f. f ≡ encoded d };
+
+    fn from(description: Description) -> FlatDescription {
+        let encoding = description.encoding;
+        FlatDescription {
+            kind: encoding_number(encoding),
+            width: encoding.width(),
+            set: set_number(encoding.largest()),
+            count: description.count,
+        }
     }
 }
 
@@ -138,7 +140,7 @@ pub fn flat_made(made: Made) -> FlatMade
     match made {
         Made::Record(description) => FlatMade {
             number: 0,
-            description: encode(description),
+            description: FlatDescription::from(description),
         },
         Made::Refused(refusal) => FlatMade {
             number: refusal_number(refusal),

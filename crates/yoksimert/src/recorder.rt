@@ -10,7 +10,7 @@ ghost use Rattle.yoksimert.specs.declared.FlatDescription.{FlatDescription};
 ghost use Rattle.yoksimert.specs.declared.FlatAdded.{FlatAdded};
 ghost use Rattle.yoksimert.specs.Recorder.{recorded_by, added_to, flat_fresh};
 
-use crate::flat::{decode, encode, refusal_number, verdict_number};
+use crate::flat::{decode, refusal_number, verdict_number};
 use crate::{FlatAdded, FlatDescription};
 use fst::record::{fresh, fresh_real};
 use fst::{Added, Made};
@@ -29,7 +29,7 @@ fn left_of(added: Added) -> Recorded
     let verdict = added.verdict;
     let next = added.next;
     let number = verdict_number(verdict);
-    let flat = encode(next);
+    let flat = FlatDescription::from(next);
     Recorded {
         number,
         set: flat.set,
@@ -86,7 +86,7 @@ fn record_fresh(recorder: FlatDescription, width: u32) -> FlatAdded
     match made {
         Made::Record(description) => FlatAdded {
             number: 0,
-            next: encode(description),
+            next: FlatDescription::from(description),
         },
         Made::Refused(refusal) => FlatAdded {
             number: refusal_number(refusal),
@@ -101,7 +101,7 @@ fn record_fresh_real(_recorder: FlatDescription) -> FlatAdded
 {
     FlatAdded {
         number: 0,
-        next: encode(fresh_real()),
+        next: FlatDescription::from(fresh_real()),
     }
 }
 

@@ -5,4 +5,4 @@ use Rattle.yoksimert.specs.Flat.{encoded}
 use Rattle.yoksimert.proofs.exports.yoksimert_fresh_real.Goals as goal
 
 pub returns : goal.returns
-returns c = c.encode.ensures ∙ ap encoded c.fresh_real.ensures
+returns c = c.from.ensures ∙ ap encoded c.fresh_real.ensures

@@ -8,7 +8,7 @@ use Rattle.yoksimert.proofs.Numbers.{made_of_lem}
 use Rattle.yoksimert.proofs.flat.flat_made.Goals as goal
 
 pub returns-in-Record : goal.returns-in-Record
-returns-in-Record c = made_of_lem c.encode.ensures ∙ sym (ap (λ (a : Made). flat_made (made_of a)) c.in-Record.is)
+returns-in-Record c = made_of_lem c.from.ensures ∙ sym (ap (λ (a : Made). flat_made (made_of a)) c.in-Record.is)
 
 pub returns-in-Refused : goal.returns-in-Refused
 returns-in-Refused c =

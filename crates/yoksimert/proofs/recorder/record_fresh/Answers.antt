@@ -6,7 +6,7 @@ use Rattle.yoksimert.proofs.recorder.record_fresh.Goals as goal
 pub returns-in-Record : goal.returns-in-Record
 returns-in-Record c =
     let a = c.args in
-    fresh_made a.recorder a.width _ c.fresh-made.ensures _ c.in-Record.is _ c.encode.ensures
+    fresh_made a.recorder a.width _ c.fresh-made.ensures _ c.in-Record.is _ c.from.ensures
 
 pub returns-in-Refused : goal.returns-in-Refused
 returns-in-Refused c =

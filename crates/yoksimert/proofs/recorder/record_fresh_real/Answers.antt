@@ -6,4 +6,4 @@ use Rattle.yoksimert.proofs.Flattened.{made_equal}
 use Rattle.yoksimert.proofs.recorder.record_fresh_real.Goals as goal
 
 pub returns : goal.returns
-returns c = made_equal refl (c.encode.ensures ∙ ap encoded c.fresh_real.ensures)
+returns c = made_equal refl (c.from.ensures ∙ ap encoded c.fresh_real.ensures)
