@@ -12,7 +12,8 @@ use Rattle.steps.specs.declared.Input.{Input}
 use Rattle.steps.specs.declared.Inputs.{Inputs}
 use Rattle.steps.specs.Inputs.{is_bad_input}
 use Rattle.transform.specs.Derive.{Derived, derive}
-use Rattle.std.specs.Prelude.{None}
+use Rattle.std.specs.Prelude.{Err}
+use Rattle.fst.specs.declared.Refusal.{Refusal}
 use Rattle.yoksimert.specs.declared.FlatMade.{FlatMade}
 use Rattle.yoksimert.specs.declared.FlatDerivation.{FlatDerivation}
 use Rattle.yoksimert.specs.declared.FlatInput.{FlatInput}
@@ -21,7 +22,7 @@ use Rattle.yoksimert.specs.Flat.{decoded, flat_made}
 use Rattle.yoksimert.specs.Derivations.{derivation_of, input_of, inputs_by, made_by, flat_derived, flat_derive}
 
 -- an input that is no description is refused with 2
-pub unknown_is_bad : (f : FlatInput) (bytes indices : List ℕ) → decoded f.description ≡ None → is_bad_input bytes indices (input_of f) ≡ true
+pub unknown_is_bad : (f : FlatInput) (bytes indices : List ℕ) → {r : Refusal} → decoded f.description ≡ Err r → is_bad_input bytes indices (input_of f) ≡ true
 unfolding is_bad width_stands
 unknown_is_bad f bytes indices h = rw h refl
 

@@ -19,7 +19,8 @@ use Rattle.offset.specs.declared.DataOffset.{DataOffset}
 use Rattle.yoksimert.specs.declared.FlatDescription.{FlatDescription}
 use Rattle.yoksimert.specs.declared.FlatMade.{FlatMade}
 use Rattle.yoksimert.specs.declared.FlatOffset.{FlatOffset}
-use Rattle.std.specs.Prelude.{Some, None}
+use Rattle.std.specs.Prelude.{Ok, Err}
+use Rattle.fst.specs.declared.Refusal.TheVariants.{BadRecord}
 use Rattle.yoksimert.specs.Flat.{known, decoded, flat_of, encoded, placed}
 
 -- ---- what `decode` finds
@@ -29,17 +30,17 @@ module _ (f : FlatDescription) where
   unfolding decoded
   vector k s M m = rw (eq-eqb f.kind 2 k, le-leb f.set 2 s, m)
 
-  pub no_set : f.kind ≡ 2 → 2 < f.set → None ≡ decoded f
+  pub no_set : f.kind ≡ 2 → 2 < f.set → Err BadRecord ≡ decoded f
   unfolding decoded
   no_set k s = rw (eq-eqb f.kind 2 k, lt-leb f.set 2 s)
 
   module _ (k : f.kind ≡ 2 → ⊥) where
-    pub some_width : (f.width ≡ 0 → ⊥) → None ≡ decoded f
+    pub some_width : (f.width ≡ 0 → ⊥) → Err BadRecord ≡ decoded f
     unfolding decoded
     some_width w = rw (ne_eqb f.kind 2 k, ne_eqb f.width 0 w)
 
     module _ (w : f.width ≡ 0) where
-      pub some_set : (f.set ≡ 0 → ⊥) → None ≡ decoded f
+      pub some_set : (f.set ≡ 0 → ⊥) → Err BadRecord ≡ decoded f
       unfolding decoded
       some_set s = rw (ne_eqb f.kind 2 k, eq-eqb f.width 0 w, ne_eqb f.set 0 s)
 
@@ -52,7 +53,7 @@ module _ (f : FlatDescription) where
         unfolding decoded
         real n e = rw (ne_eqb f.kind 2 k, eq-eqb f.width 0 w, eq-eqb f.set 0 s, ne_eqb f.kind 0 n, eq-eqb f.kind 1 e)
 
-        pub no_kind : (f.kind ≡ 0 → ⊥) → (f.kind ≡ 1 → ⊥) → None ≡ decoded f
+        pub no_kind : (f.kind ≡ 0 → ⊥) → (f.kind ≡ 1 → ⊥) → Err BadRecord ≡ decoded f
         unfolding decoded
         no_kind n m = rw (ne_eqb f.kind 2 k, eq-eqb f.width 0 w, eq-eqb f.set 0 s, ne_eqb f.kind 0 n, ne_eqb f.kind 1 m)
 
@@ -80,11 +81,11 @@ back_at (BitVector w Four) n = refl
 back_at (BitVector w Nine) n = refl
 
 -- every description comes back from its numbers
-pub back : (d : Description) → decoded (encoded d) ≡ Some d
+pub back : (d : Description) → decoded (encoded d) ≡ Ok d
 back d = back_at d.encoding d.count
 
 -- numbers that are a description are that description's
-pub forth : (f : FlatDescription) (d : Description) → decoded f ≡ Some d → encoded d ≡ f
+pub forth : (f : FlatDescription) (d : Description) → decoded f ≡ Ok d → encoded d ≡ f
 forth f d h =
     by_eq f.kind 2
     (λ k. by_le f.set 2
@@ -105,12 +106,12 @@ forth f d h =
 
     is : (e : Encoding) → known e f.count ≡ decoded f → flat_of e f.count ≡ f → encoded d ≡ f
     is e q r =
-        let same : Some d ≡ known e f.count = sym h ∙ sym q in
+        let same : Ok d ≡ known e f.count = sym h ∙ sym q in
         let this : d ≡ described e f.count = cc in
         ap encoded this ∙ r
 
-    none : None ≡ decoded f → encoded d ≡ f
+    none : Err BadRecord ≡ decoded f → encoded d ≡ f
     none q =
-        let same : None ≡ Some d = q ∙ h in
+        let same : Err BadRecord ≡ Ok d = q ∙ h in
         let z : ◌≡◌ {A = ℕ} 0 1 = cc in
         absurd (omega arith)

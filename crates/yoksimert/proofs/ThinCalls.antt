@@ -20,7 +20,7 @@ use Rattle.fst.proofs.Refusals.{Result, through, stopped, result}
 use Rattle.signal.specs.Read.{kind_of}
 use Rattle.yoksimert.specs.declared.FlatDescription.{FlatDescription}
 use Rattle.yoksimert.specs.declared.recorder.Recorded.{Recorded}
-use Rattle.std.specs.Prelude.{Some}
+use Rattle.std.specs.Prelude.{Ok}
 use Rattle.yoksimert.specs.Flat.{decoded, kind_number, encoded}
 use Rattle.yoksimert.specs.Exports.{flat_add, left_by_flat}
 use Rattle.yoksimert.specs.Recorder.{recorded_by, added_to, made_over, flat_fresh}
@@ -76,7 +76,7 @@ added_alike d l i c = go (result (given new) (refusals d l i c) tt)
 -- ---- the calls
 
 module _ (f : FlatDescription) (l : Lent) (i : ℕ) (c : Change) where
-  pub record_known : {d : Description} → decoded f ≡ Some d → (a : Added) {bytes indices : List ℕ} → left_by a bytes indices ≡ add_change d l i c
+  pub record_known : {d : Description} → decoded f ≡ Ok d → (a : Added) {bytes indices : List ℕ} → left_by a bytes indices ≡ add_change d l i c
       → {r : Recorded} → r ≡ recorded_by a → left_by_flat r.number (added_to f r) bytes indices ≡ flat_add f l i c
   record_known {d} h a {bytes} {indices} e q =
       ap (λ (r : Recorded). left_by_flat r.number (added_to f r) bytes indices) q

@@ -1,12 +1,14 @@
 -- Descriptions and answers as numbers.
 -- Assumes nothing.
-use Rattle.std.specs.Prelude.{ℕ, ◌-◌, Bool, true, false, cond, ◌&&◌, eqb, leb, length}
+use Rattle.std.specs.Prelude.{Result, Ok, Err, ℕ, ◌-◌, Bool, true, false, cond, ◌&&◌, eqb, leb, length}
 use Rattle.value.specs.declared.States.{States}
 use Rattle.value.specs.declared.States.TheVariants.{Two}
 use Rattle.value.specs.Level.{mark_of, set_at, len_of}
 use Rattle.fst.specs.declared.Encoding.{Encoding}
 use Rattle.fst.specs.declared.Encoding.TheVariants.{Event, Real, BitVector}
 use Rattle.fst.specs.declared.Description.{Description}
+use Rattle.fst.specs.declared.Refusal.{Refusal}
+use Rattle.fst.specs.declared.Refusal.TheVariants.{BadRecord}
 use Rattle.fst.specs.Refusal.{Reply, refused, given}
 use Rattle.fst.specs.Record.{width_of, largest_in, described, empty}
 use Rattle.signal.specs.declared.Kind.{Kind}
@@ -17,7 +19,6 @@ use Rattle.offset.specs.declared.DataOffset.{DataOffset}
 use Rattle.signal.specs.Read.{Entry, kind_of}
 use Rattle.offset.specs.Offset.{Place, none, at}
 use Rattle.yoksimert.specs.declared.FlatDescription.{FlatDescription}
-use Rattle.std.specs.Prelude.{Option, Some, None}
 use Rattle.yoksimert.specs.declared.FlatMade.{FlatMade}
 use Rattle.yoksimert.specs.declared.FlatEntry.{FlatEntry}
 use Rattle.yoksimert.specs.declared.FlatEqual.{FlatEqual}
@@ -25,22 +26,22 @@ use Rattle.yoksimert.specs.declared.FlatOffset.{FlatOffset}
 
 -- ---- descriptions
 
-abbrev pub known : Encoding → ℕ → Option Description
-known e n = Some (described e n)
+abbrev pub known : Encoding → ℕ → Result Description Refusal
+known e n = Ok (described e n)
 
--- kind 0 is an event's, 1 a real's, 2 a bit vector's; a set's number is its mark; an event and a real have neither width nor set
-unfoldable pub decoded : FlatDescription → Option Description
+-- the description of numbers, or 2: kind 0 is an event's, 1 a real's, 2 a bit vector's; a set's number is its mark; an event and a real have neither width nor set
+unfoldable pub decoded : FlatDescription → Result Description Refusal
 decoded f =
     cond (eqb f.kind 2)
-    (cond (leb f.set 2) (known (BitVector f.width (set_at f.set)) f.count) None)
+    (cond (leb f.set 2) (known (BitVector f.width (set_at f.set)) f.count) (Err BadRecord))
     (cond (eqb f.width 0 && eqb f.set 0)
-    (cond (eqb f.kind 0) (known Event f.count) (cond (eqb f.kind 1) (known Real f.count) None))
-    None)
+    (cond (eqb f.kind 0) (known Event f.count) (cond (eqb f.kind 1) (known Real f.count) (Err BadRecord)))
+    (Err BadRecord))
 
 -- numbers that are no description are taken for a bit vector of width 0, which is refused with 2
-abbrev pub described_by : Option Description → Description
-described_by (Some d) = d
-described_by None = empty (BitVector 0 Two)
+abbrev pub described_by : Result Description Refusal → Description
+described_by (Ok d) = d
+described_by (Err r) = empty (BitVector 0 Two)
 
 abbrev pub kind_number : Kind → ℕ
 kind_number kind.Event = 0

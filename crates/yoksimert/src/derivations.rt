@@ -2,10 +2,9 @@
 ghost use Rattle.std.specs.Prelude.{◌≡◌};
 ghost use Rattle.derivation.specs.declared.Side.TheVariants.{Left, Right};
 ghost use Rattle.derivation.specs.Piece.{joined_of, add_piece, add_full};
-ghost use Rattle.yoksimert.specs.Flat.{described_by};
 ghost use Rattle.yoksimert.specs.Derivations.{derivation_of, left_by_joined, input_of, inputs_by, made_by, flat_derive};
 
-use crate::flat::{decode, flat_made, verdict_number};
+use crate::flat::{flat_made, verdict_number};
 use crate::{FlatDerivation, FlatInput, FlatInputs, FlatJoined, FlatMade};
 use derivation::{DerivedBitVecSignal, Joined};
 use fst::{Description, Encoding};
@@ -114,28 +113,16 @@ pub extern "C" fn yoksimert_concat_right_full(
 // ---- Derive
 
 // Numbers that are no description are taken for a record that is refused with 2.
-fn description_of(decoded: Option<Description>) -> Description
-    ensures { result ≡ described_by decoded }
-{
-    match decoded {
-        Some(description) => description,
-        None => Description::new(
-            Encoding::BitVector {
-                width: 0,
-                max_states: States::Two,
-            },
-            0,
-        ),
-    }
-}
-
 fn input_of(flat: FlatInput) -> Input
     ensures { result ≡ input_of flat }
 {
-    let numbers = flat.description;
-    let description = description_of(decode(numbers));
+    let no_width = Encoding::BitVector {
+        width: 0,
+        max_states: States::Two,
+    };
+    let description = Description::try_from(flat.description);
     Input {
-        description,
+        description: description.unwrap_or(Description::new(no_width, 0)),
         byte_start: flat.byte_start,
         index_start: flat.index_start,
     }

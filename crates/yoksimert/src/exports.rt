@@ -9,11 +9,12 @@ ghost use Rattle.yoksimert.specs.Flat.{encoded, flat_made, flat_offset};
 ghost use Rattle.yoksimert.specs.Exports.{flat_read, flat_text, flat_read_number, flat_compare};
 
 use crate::flat::{
-    decode, flat_equal, flat_made, flat_offset, kind_number, level_length, no_entry,
-    refusal_number, set_number, verdict_number,
+    flat_equal, flat_made, flat_offset, kind_number, level_length, no_entry, refusal_number,
+    set_number, verdict_number,
 };
 use crate::{FlatDescription, FlatEntry, FlatEqual, FlatMade, FlatOffset};
 use equality::compare_records;
+use fst::Description;
 use fst::record::{fresh, fresh_real};
 use numbers::read::{read_decimal, read_signed, read_unsigned};
 use numbers::{FlatNumber, FlatSigned};
@@ -48,8 +49,9 @@ pub extern "C" fn yoksimert_read(
 ) -> FlatEntry
     ensures { result ≡ flat_read description bytes.now byte_start entry }
 {
-    let Some(known) = decode(description) else {
-        return no_entry(2);
+    let known = match Description::try_from(description) {
+        Ok(known) => known,
+        Err(refusal) => return no_entry(refusal_number(refusal)),
     };
     match read_entry(known, bytes, byte_start, entry) {
         EntryAnswer::Refused(refusal) => no_entry(refusal_number(refusal)),
@@ -80,8 +82,9 @@ pub extern "C" fn yoksimert_text(
 ) -> u32
     ensures { ◌≡◌ {A = Outcome (List ℕ)} (record { refused = result; left = out.new }) (flat_text description bytes.now byte_start entry out.old) }
 {
-    let Some(known) = decode(description) else {
-        return 2;
+    let known = match Description::try_from(description) {
+        Ok(known) => known,
+        Err(refusal) => return refusal_number(refusal),
     };
     verdict_number(read_text(known, bytes, byte_start, entry, out))
 }
@@ -96,11 +99,14 @@ pub extern "C" fn yoksimert_unsigned(
 ) -> FlatNumber
     ensures { result ≡ flat_number (flat_read_number unsigned description bytes.now byte_start entry) }
 {
-    let Some(known) = decode(description) else {
-        return FlatNumber {
-            number: 2,
-            value: 0,
-        };
+    let known = match Description::try_from(description) {
+        Ok(known) => known,
+        Err(refusal) => {
+            return FlatNumber {
+                number: refusal_number(refusal),
+                value: 0,
+            };
+        }
     };
     read_unsigned(known, bytes, byte_start, entry)
 }
@@ -115,11 +121,14 @@ pub extern "C" fn yoksimert_signed(
 ) -> FlatSigned
     ensures { result ≡ flat_signed (flat_read_number signed description bytes.now byte_start entry) }
 {
-    let Some(known) = decode(description) else {
-        return FlatSigned {
-            number: 2,
-            value: 0,
-        };
+    let known = match Description::try_from(description) {
+        Ok(known) => known,
+        Err(refusal) => {
+            return FlatSigned {
+                number: refusal_number(refusal),
+                value: 0,
+            };
+        }
     };
     read_signed(known, bytes, byte_start, entry)
 }
@@ -134,11 +143,14 @@ pub extern "C" fn yoksimert_decimal(
 ) -> FlatNumber
     ensures { result ≡ flat_number (flat_read_number decimal description bytes.now byte_start entry) }
 {
-    let Some(known) = decode(description) else {
-        return FlatNumber {
-            number: 2,
-            value: 0,
-        };
+    let known = match Description::try_from(description) {
+        Ok(known) => known,
+        Err(refusal) => {
+            return FlatNumber {
+                number: refusal_number(refusal),
+                value: 0,
+            };
+        }
     };
     read_decimal(known, bytes, byte_start, entry)
 }
@@ -159,17 +171,23 @@ pub extern "C" fn yoksimert_compare(
 ) -> FlatEqual
     ensures { result ≡ flat_compare a (lent a_bytes.now a_byte_start a_indices.now a_index_start) b (lent b_bytes.now b_byte_start b_indices.now b_index_start) }
 {
-    let Some(first) = decode(a) else {
-        return FlatEqual {
-            number: 2,
-            equal: false,
-        };
+    let first = match Description::try_from(a) {
+        Ok(first) => first,
+        Err(refusal) => {
+            return FlatEqual {
+                number: refusal_number(refusal),
+                equal: false,
+            };
+        }
     };
-    let Some(second) = decode(b) else {
-        return FlatEqual {
-            number: 2,
-            equal: false,
-        };
+    let second = match Description::try_from(b) {
+        Ok(second) => second,
+        Err(refusal) => {
+            return FlatEqual {
+                number: refusal_number(refusal),
+                equal: false,
+            };
+        }
     };
     flat_equal(compare_records(
         first,

@@ -2,7 +2,6 @@
 ghost use Rattle.std.specs.Prelude.{◌≡◌};
 ghost use Rattle.value.specs.Level.{mark_of};
 ghost use Rattle.fst.specs.Refusal.{refusal_number, number_of, made_of};
-ghost use Rattle.fst.specs.declared.Encoding.TheVariants.{BitVector};
 ghost use Rattle.signal.specs.Read.{kind_of};
 ghost use Rattle.equality.specs.Compare.{equal_of};
 ghost use Rattle.offset.specs.Offset.{offset_of};
@@ -53,45 +52,34 @@ pub fn kind_number(kind: Kind) -> u32
 
 // ---- descriptions
 
-fn known(encoding: Encoding, count: u32) -> Option<Description>
-    ensures { result ≡ known encoding count }
-{
-    Some(Description::new(encoding, count))
-}
+impl TryFrom<FlatDescription> for Description {
+    type Error = Refusal;
 
-fn known_vector(width: u32, max_states: States, count: u32) -> Option<Description>
-    ensures { result ≡ known (BitVector width max_states) count }
-{
-    known(Encoding::BitVector { width, max_states }, count)
-}
+    ghost try_from_gives = { λ f d. d ≡ decoded f };
 
-// An arm for each set: the compiler then sees that the numbers of both sides are the same.
-pub fn decode(flat: FlatDescription) -> Option<Description>
-    ensures { result ≡ decoded flat }
-{
-    let count = flat.count;
-    if flat.kind == 2 {
-        let set = flat.set;
-        return match set {
-            0 => known_vector(flat.width, States::Two, count),
-            1 => known_vector(flat.width, States::Four, count),
-            2 => known_vector(flat.width, States::Nine, count),
-            _ => None,
+    #[tactic(auto, using(std::proofs::lemmas::Bool::Decides::nat_tests, std::proofs::lemmas::Grind::common_steps), unfolding(crate::specs::Flat::decoded))]
+    // An arm for each set: the compiler then sees that the numbers of both sides are the same.
+    fn try_from(flat: FlatDescription) -> Result<Description, Refusal> {
+        let width = flat.width;
+        let encoding = match (flat.kind, flat.set) {
+            (2, 0) => Encoding::BitVector {
+                width,
+                max_states: States::Two,
+            },
+            (2, 1) => Encoding::BitVector {
+                width,
+                max_states: States::Four,
+            },
+            (2, 2) => Encoding::BitVector {
+                width,
+                max_states: States::Nine,
+            },
+            (0, 0) if width == 0 => Encoding::Event,
+            (1, 0) if width == 0 => Encoding::Real,
+            _ => return Err(Refusal::BadRecord),
         };
+        Ok(Description::new(encoding, flat.count))
     }
-    if flat.width != 0 {
-        return None;
-    }
-    if flat.set != 0 {
-        return None;
-    }
-    if flat.kind == 0 {
-        return known(Encoding::Event, count);
-    }
-    if flat.kind == 1 {
-        return known(Encoding::Real, count);
-    }
-    None
 }
 
 fn encoding_number(encoding: Encoding) -> u32

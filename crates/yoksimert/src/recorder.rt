@@ -10,10 +10,10 @@ ghost use Rattle.yoksimert.specs.declared.FlatDescription.{FlatDescription};
 ghost use Rattle.yoksimert.specs.declared.FlatAdded.{FlatAdded};
 ghost use Rattle.yoksimert.specs.Recorder.{recorded_by, added_to, flat_fresh};
 
-use crate::flat::{decode, refusal_number, verdict_number};
+use crate::flat::{refusal_number, verdict_number};
 use crate::{FlatAdded, FlatDescription};
 use fst::record::{fresh, fresh_real};
-use fst::{Added, Made};
+use fst::{Added, Description, Made};
 
 // What a change leaves of a recorder: its kind and width stay.
 #[derive(Clone, Copy)]
@@ -48,12 +48,13 @@ fn record_change(
 ) -> Recorded
     ensures { left_by_flat result.number (added_to recorder result) bytes.new indices.new ≡ flat_add recorder (lent bytes.old byte_start indices.old index_start) index (text value.now) }
 {
-    let Some(known) = decode(recorder) else {
-        return Recorded {
-            number: 2,
+    let known = match Description::try_from(recorder) {
+        Ok(known) => known,
+        Err(refusal) => return Recorded {
+            number: refusal_number(refusal),
             set: recorder.set,
             count: recorder.count,
-        };
+        },
     };
     left_of(known.add_change(bytes, byte_start, indices, index_start, index, value))
 }
@@ -69,12 +70,13 @@ fn record_real(
 ) -> Recorded
     ensures { left_by_flat result.number (added_to recorder result) bytes.new indices.new ≡ flat_add recorder (lent bytes.old byte_start indices.old index_start) index (real bits) }
 {
-    let Some(known) = decode(recorder) else {
-        return Recorded {
-            number: 2,
+    let known = match Description::try_from(recorder) {
+        Ok(known) => known,
+        Err(refusal) => return Recorded {
+            number: refusal_number(refusal),
             set: recorder.set,
             count: recorder.count,
-        };
+        },
     };
     left_of(known.add_real(bytes, byte_start, indices, index_start, index, bits))
 }

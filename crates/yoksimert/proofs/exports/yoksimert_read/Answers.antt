@@ -21,7 +21,7 @@ at c =
 pub returns-in_default : goal.returns-in_default
 returns-in_default c =
     let a = c.args in
-    c.no_entry.ensures ∙ read_unknown a.description a.bytes.now a.byte_start a.entry (sym c.decode.ensures ∙ c.in_default.is)
+    c.no_entry.ensures ∙ read_unknown a.description a.bytes.now a.byte_start a.entry (sym c.try_from.ensures ∙ c.in_default.is)
 
 pub overflow_mul-end : goal.overflow_mul-end
 overflow_mul-end c = omega (arith, (at (goal.at.overflow_mul-end c).After-level_length-length).0)
@@ -41,12 +41,12 @@ pub returns-in-Refused : goal.returns-in-Refused
 returns-in-Refused c =
     let a = c.args in
     c.no_entry-in-Refused.ensures
-    ∙ read_refused a.description a.bytes.now a.byte_start a.entry _ (sym c.decode.ensures ∙ c.in-Some.is) _ c.read_entry.ensures c.in-Refused.is c.refusal_number.ensures
+    ∙ read_refused a.description a.bytes.now a.byte_start a.entry _ (sym c.try_from.ensures ∙ c.in-Ok.is) _ c.read_entry.ensures c.in-Refused.is c.refusal_number.ensures
 
 pub returns-in-Entry : goal.returns-in-Entry
 returns-in-Entry c =
     let a = c.args in
     let r = c.read_entry.ensures in
     let told = c.in-Entry.is in
-    read_known a.description a.bytes.now a.byte_start a.entry _ (sym c.decode.ensures ∙ c.in-Some.is) _ r told c.kind_number.ensures c.set_number.ensures c.size-size.ensures
+    read_known a.description a.bytes.now a.byte_start a.entry _ (sym c.try_from.ensures ∙ c.in-Ok.is) _ r told c.kind_number.ensures c.set_number.ensures c.size-size.ensures
     (c.level_length-length.ensures ∙ (placed _ a.bytes.now a.byte_start a.entry _ (given_by _ r told)).own)

@@ -10,9 +10,9 @@ use Rattle.yoksimert.proofs.recorder.record_change.Goals as goal
 pub returns-in_default : goal.returns-in_default
 returns-in_default c =
     let a = c.args in
-    add_unknown a.recorder (lent a.bytes.now a.byte_start a.indices.now a.index_start) a.index (text a.value.now) (sym c.decode.ensures ∙ c.in_default.is)
+    add_unknown a.recorder (lent a.bytes.now a.byte_start a.indices.now a.index_start) a.index (text a.value.now) (sym c.try_from.ensures ∙ c.in_default.is)
 
 pub returns : goal.returns
 returns c =
     let a = c.args in
-    record_known a.recorder (lent a.bytes.now a.byte_start a.indices.now a.index_start) a.index (text a.value.now) (sym c.decode.ensures ∙ c.in-Some.is) c.add_change.result c.add_change.ensures c.left_of.ensures
+    record_known a.recorder (lent a.bytes.now a.byte_start a.indices.now a.index_start) a.index (text a.value.now) (sym c.try_from.ensures ∙ c.in-Ok.is) c.add_change.result c.add_change.ensures c.left_of.ensures
