@@ -50,8 +50,8 @@ fn the_page_is_in_order() {
 /// One arm for each line of the page, in its order, and a last one for foreign bytes.
 #[test]
 fn the_match_has_the_lines_of_the_page() {
-    let arm = |(letter, code)| (format!("b'{letter}'"), format!("CharCode::Code({code})"));
+    let arm = |(letter, code)| (format!("b'{letter}'"), format!("Some({code})"));
     let mut expected: Vec<_> = lines().into_iter().map(arm).collect();
-    expected.push(("_".to_string(), "CharCode::Foreign".to_string()));
+    expected.push(("_".to_string(), "None".to_string()));
     assert_eq!(arms(), expected);
 }

@@ -24,10 +24,7 @@ impl Operation for LookUp {
     const NAMES: &'static [&'static str] = &["lookup"];
     const NUMBERS: &'static [u8] = &[2, 11];
     const DEFINITIONS: &'static [Module] = &[
-        Module::new(
-            "Rattle.fst.specs.declared.NextIndex.TheVariants",
-            "Absent At",
-        ),
+        Module::library("Rattle.std.specs.Prelude", "Some None", ""),
         Module::new("Rattle.offset.specs.Offset", "none at"),
     ];
 
@@ -149,7 +146,7 @@ pub(super) fn equation(
 fn data_offset(offset: &Offset) -> String {
     let next = offset
         .next_index
-        .map_or("Absent".to_string(), |index| format!("At {index}"));
+        .map_or("None".to_string(), |index| format!("(Some {index})"));
     format!(
         "(record {{ start = {}; elements = {}; time_match = {}; next_index = {next} }})",
         offset.start, offset.elements, offset.time_match
