@@ -8,16 +8,15 @@ ghost use Rattle.layout.specs.Expand.{Widenable};
 ghost use Rattle.fst.specs.Record.{maximum};
 ghost use Rattle.offset.specs.Search.{Reached};
 
-use fst::NextIndex;
 use signal::decode::states_at;
-use value::{States, StatesAnswer};
+use value::States;
 
 // The mark of a string's least set, and 3 for a string with a foreign character.
 #[unsafe(no_mangle)]
 pub extern "C" fn bench_least(value: &[u8]) -> u32 {
     match States::from_ascii(value) {
-        StatesAnswer::Least(states) => states.mark() as u32,
-        StatesAnswer::Foreign => 3,
+        Some(states) => u32::from(states.mark()),
+        None => 3,
     }
 }
 
@@ -33,11 +32,7 @@ pub extern "C" fn bench_pack(mark: u32, value: &[u8], out: &mut [u8]) -> usize
 pub extern "C" fn bench_equals(mark: u32, value: &[u8], bytes: &[u8]) -> u32
     requires { Packable (set_at mark) value.now (length bytes.now) 0 0 }
 {
-    if wavemem::equals_n_state_from_ascii(states_at(mark), value, bytes, 0, 0) {
-        1
-    } else {
-        0
-    }
+    u32::from(wavemem::equals_n_state_from_ascii(states_at(mark), value, bytes, 0, 0))
 }
 
 #[unsafe(no_mangle)]
@@ -65,24 +60,17 @@ pub extern "C" fn bench_search(indices: &[u32], needle: u32) -> Place
     requires indices_len_bound { length indices.now ≤ maximum }
 {
     let offset = offset::find_offset_from_time_table_idx(indices, needle);
-    let next = offset.next_index;
-    let mut has_next = false;
-    let mut next_index = 0;
-    if let NextIndex::At(index) = next {
-        has_next = true;
-        next_index = index;
-    }
     Place {
         start: offset.start,
         elements: offset.elements,
         time_match: offset.time_match,
-        has_next,
-        next_index,
+        has_next: offset.next_index.is_some(),
+        next_index: offset.next_index.unwrap_or(0),
     }
 }
 
 // 1 where an index falls, and else 0.
 #[unsafe(no_mangle)]
 pub extern "C" fn bench_falls(indices: &[u32]) -> u32 {
-    if offset::falls(indices) { 1 } else { 0 }
+    u32::from(offset::falls(indices))
 }
