@@ -1,73 +1,44 @@
 -- Comparing entries, from what the steps of a comparison say.
 -- Assumes nothing.
-use mathlib.Core.Path.{◌≡◌, refl, sym, ap, ap₂, ◌∙◌, subst}
+use mathlib.Core.Path.{◌≡◌, refl, sym, ap, ap₂, ◌∙◌}
 use mathlib.Core.Bool.{Bool, true, false, cond, ◌&&◌}
-use mathlib.Core.List.{List, [], ◌∷◌, ◌++◌, reverse, reverse-cons}
-use Prim.Native.Nat.{ℕ, suc, ◌+◌, ◌-◌, ◌*◌, ◌^◌, ◌%◌, ◌≤◌, ◌<◌}
-use native.Mathlib.Nat.{pow-suc, pow-le-pow_right, lt_of_lt_of_le, mul-le-mul_right}
+use mathlib.Core.List.{List, [], ◌∷◌, ◌++◌, reverse}
+use Prim.Native.Nat.{ℕ, min, ◌+◌, ◌≤◌, ◌<◌}
 use native.Mathlib.Numerals.{add-one}
 use native.Mathlib.Omega.{arith}
-use lib.Dec.{T, eqb, eqb→eq}
+use lib.Dec.{eqb}
 use borrow.Author.Tests.{eq-eqb, ne_eqb}
-use lib.Bits.{bit_or, bit_xor, or_shifted, or_add_and, xor_add_and, xor_self, and_le_l, and_le_r}
-use lib.Pow.{shl_exact}
-use lib.ListN.{length, get_or, take, drop, length-map, drop_of_length-le}
-use lib.Seq.{take-suc, take-take, take_all, drop-cons, get_or-take}
+use lib.ListN.{length, get_or, take}
+use lib.Seq.{take-suc, take_all}
 use Rattle.value.specs.declared.States.{States}
+use Rattle.std.specs.Int.{w64, from_le_bytes}
 use Rattle.value.specs.Digits.{number}
 use Rattle.value.specs.Slice.{same, any}
-use Rattle.value.specs.Level.{mark_of, len_of, set_at, letter_of, has_no_code, text_of}
-use Rattle.value.proofs.Digits.{number_snoc}
-use Rattle.value.proofs.Levels.{mark_inj, text_inj, all_below_lem}
+use Rattle.value.specs.Level.{text_of}
+use Rattle.value.proofs.Levels.{text_inj, all_below_lem}
 use Rattle.value.proofs.Slices.{same_sound, same_refl, same_by}
-use Rattle.value.proofs.Tests.{to_t, from_t, both_ways}
+use Rattle.value.proofs.Tests.{from_t, both_ways, by_eq, by_le}
 use Rattle.fst.specs.declared.Encoding.{Encoding}
 use Rattle.fst.specs.declared.Encoding.TheVariants.{Event, Real, BitVector}
 use Rattle.fst.specs.declared.Description.{Description}
-use Rattle.fst.specs.declared.Refusal.{Refusal}
-use Rattle.fst.specs.Refusal.{Reply, refused, given, Test, ◌⇐◌, tried, refusal_number}
+use Rattle.fst.specs.Refusal.{Reply, refused, given, Test, ◌⇐◌, tried}
 use Rattle.fst.specs.Record.{Lent, is_bad}
 use Rattle.fst.proofs.Records.{Standing, standing}
-use Rattle.fst.proofs.Refusals.{number_some}
-use Rattle.signal.specs.declared.OwnStates.TheVariants as own
-use Rattle.signal.specs.Decode.{Indexed, entry_at, mark_in, set_in, level_part, levels_in, has_bad_mark, has_bad_code, text_in, codes_at}
-use Rattle.signal.specs.Parts.{own_states, Whole}
-use Rattle.signal.proofs.Decoding.{mark_by, codes_length}
-use Rattle.signal.proofs.Reading.{Owned, owned, bad_told}
+use Rattle.signal.specs.Decode.{Indexed, entry_at, levels_in, has_bad_mark, has_bad_code, codes_at}
+use Rattle.signal.specs.Parts.{Unpacked, unpacked}
+use Rattle.signal.specs.Parts as levels
+use Rattle.signal.proofs.Decoding.{codes_length}
+use Rattle.signal.proofs.Reading.{coded_given, codes_are}
 use Rattle.signal.proofs.Entries.{HasIndexed, entry_number, rest, rest_more, rest_end}
-use Rattle.equality.specs.declared.EqualAnswer.{EqualAnswer}
-use Rattle.equality.specs.declared.EqualAnswer.TheVariants as answer
-use Rattle.equality.specs.Compare.{same_value, agree, walked, compare_records, equal_of}
-use Rattle.equality.specs.Pairs.{bad_number, Valid, pair_of}
+use Rattle.equality.specs.Compare.{same_real, same_value, agree, walked, compare_records}
+use Rattle.equality.specs.Pairs.{Held, codes, held, coded, same_held, pair_of}
 
 -- ---- a real's bits
 
-pub bits_start : (v : List ℕ) → length v ≡ 8 → 0 ≡ number 256 (reverse (drop 8 v))
+pub le_number : (v : List ℕ) → length v ≡ 8 → from_le_bytes w64 v ≡ number 256 (reverse v)
 unfolding number
-bits_start v h = ap (λ (l : List ℕ). number 256 (reverse l)) (sym (drop_of_length-le v {i = 8} (omega arith)))
-
--- one byte more, below those that stand there
-pub bits_more : (v : List ℕ) (i bits byte : ℕ) → length v ≡ 8 → i ≤ 8 → 0 < i → bits ≡ number 256 (reverse (drop i v)) → bits < 256 ^ (8 - i)
-    → byte ≡ get_or v (i - 1) 0 → byte < 256
-    → (bit_or (bits * 2 ^ 8 % 2 ^ 64) byte ≡ number 256 (reverse (drop (i - 1) v))) × (bit_or (bits * 2 ^ 8 % 2 ^ 64) byte < 256 ^ (8 - (i - 1)))
-bits_more v i bits byte l a p e b g u = go (i - 1) (omega arith)
-  where
-    small : (n : ℕ) → i ≡ suc n → bits < 2 ^ 56
-    small n q = lt_of_lt_of_le b (pow-le-pow_right {n = 256} (omega arith) {i = 8 - i} {j = 7} (omega arith))
-
-    or : (n : ℕ) → i ≡ suc n → bit_or (bits * 2 ^ 8 % 2 ^ 64) byte ≡ bits * 256 + byte
-    or n q = ap (λ (x : ℕ). bit_or x byte) (shl_exact {a = bits} 56 8 64 (small n q) (omega arith)) ∙ or_shifted bits 8 byte u
-
-    next : (n : ℕ) → i ≡ suc n → 8 - n ≡ suc (8 - i)
-    next n q = omega arith
-
-    go : (n : ℕ) → i ≡ suc n → (bit_or (bits * 2 ^ 8 % 2 ^ 64) byte ≡ number 256 (reverse (drop n v))) × (bit_or (bits * 2 ^ 8 % 2 ^ 64) byte < 256 ^ (8 - n))
-    go n q = (
-      or n q ∙ ap₂ (λ (x y : ℕ). x * 256 + y) (e ∙ ap (λ (x : ℕ). number 256 (reverse (drop x v))) q) (g ∙ ap (λ (x : ℕ). get_or v x 0) (omega arith))
-          ∙ sym (number_snoc 256 (reverse (drop (suc n) v)) (get_or v n 0)) ∙ ap (number 256) (sym (reverse-cons (get_or v n 0) (drop (suc n) v)))
-          ∙ ap (λ (r : List ℕ). number 256 (reverse r)) (sym (drop-cons v n 0 (omega arith))),
-      rw (or n q, next n q, pow-suc) (omega (arith, mul-le-mul_right 256 b)),
-    )
+le_number (a ∷ b ∷ c ∷ d ∷ e ∷ f ∷ g ∷ h ∷ []) l = omega arith
+le_number v l = absurd (omega arith)
 
 -- ---- a loop over two lists
 
@@ -87,186 +58,108 @@ module _ (xs ys : List ℕ) where
       let e : xs ≡ ys = sym (take_all i xs h) ∙ t ∙ take_all i ys k in
       sym (from_t (same xs ys) (rw e (same_refl ys)))
 
-  -- the union of all differences
-  pub alike_union : (i u : ℕ) → i < length xs → i < length ys → eqb u 0 ≡ same (take i xs) (take i ys)
-      → eqb (bit_or u (bit_xor (get_or xs i 0) (get_or ys i 0))) 0 ≡ same (take (i + 1) xs) (take (i + 1) ys)
-  alike_union i u h k e =
-      let x = get_or xs i 0 in
-      let y = get_or ys i 0 in
-      let z = bit_xor x y in
-      let n : i ≤ i + 1 = omega arith in
-      let l : i < i + 1 = omega arith in
-      both_ways (eqb (bit_or u z) 0) (same (take (i + 1) xs) (take (i + 1) ys))
-      (λ t.
-      let o : bit_or u z ≡ 0 = eqb→eq (bit_or u z) 0 t in
-      let p : u ≡ 0 = omega (arith, or_add_and u z, and_le_r u z) in
-      let q : z ≡ 0 = omega (arith, or_add_and u z, and_le_l u z) in
-      let v : x ≡ y = omega (arith, xor_add_and x y, and_le_l x y, and_le_r x y) in
-      let s : take i xs ≡ take i ys = same_sound (take i xs) (take i ys) (subst T e (to_t (eqb u 0) (eq-eqb u 0 p))) in
-      rw (alike_more i x y h k refl refl v s) (same_refl (take (i + 1) ys)))
-      (λ t.
-      let q : take (i + 1) xs ≡ take (i + 1) ys = same_sound (take (i + 1) xs) (take (i + 1) ys) t in
-      let s : take i xs ≡ take i ys = sym (take-take i (i + 1) xs n) ∙ ap (take i) q ∙ take-take i (i + 1) ys n in
-      let v : x ≡ y = sym (get_or-take (i + 1) xs i 0 l) ∙ ap (λ (m : List ℕ). get_or m i 0) q ∙ get_or-take (i + 1) ys i 0 l in
-      let p : u ≡ 0 = eqb→eq u 0 (subst T (sym e) (rw s (same_refl (take i ys)))) in
-      to_t (eqb (bit_or u z) 0) (eq-eqb (bit_or u z) 0 (ap₂ bit_or p (ap (bit_xor x) (sym v) ∙ xor_self x))))
+-- ---- levels
 
--- ---- 9 and 10 of an entry
+-- of other widths
+pub apart : {w x : ℕ} (S R : States) (v u : List ℕ) → (w ≡ x → ⊥) → false ≡ same (codes_at w S v) (codes_at x R u)
+apart {w} {x} S R v u n =
+    both_ways false (same (codes_at w S v) (codes_at x R u)) (λ t. absurd t)
+    (λ t. absurd (n (sym (codes_length w S v) ∙ ap length (same_sound (codes_at w S v) (codes_at x R u) t) ∙ codes_length x R u)))
+
+-- of equal bytes under equal sets
+pub alike : {w x : ℕ} {S R : States} {v u : List ℕ} → w ≡ x → S ≡ R → v ≡ u → true ≡ same (codes_at w S v) (codes_at x R u)
+alike {w} {x} {S} {R} {v} {u} e f g = sym (from_t (same (codes_at w S v) (codes_at x R u)) (rw (e, f, g) (same_refl (codes_at x R u))))
+
+-- ---- two entries
+
+-- an entry that is neither 9 nor 10, by what it is compared by
+pub record Sound (e : Encoding) (v : List ℕ) (h : Held) : Type 0 where
+  pub mark : has_bad_mark e v ≡ false
+  pub code : has_bad_code e v ≡ false
+  pub is : h ≡ held e v
+
+pub coded_event : (v : List ℕ) → given (held Event v) ≡ coded Event v
+unfolding coded tried has_bad_mark levels_in any
+coded_event v = refl
+
+pub coded_real : (v : List ℕ) → given (held Real v) ≡ coded Real v
+unfolding coded tried has_bad_mark levels_in any
+coded_real v = refl
 
 module _ (e : Encoding) (v : List ℕ) where
-  -- only bit vectors have marks and codes
-  pub bad_none : ((w : ℕ) (M : States) → e ≡ BitVector w M → ⊥) → 0 ≡ bad_number e v
-  unfolding bad_number has_bad_mark levels_in any
-  bad_none o = go e o
+  pub sound : {h : Held} → given h ≡ coded e v → Sound e v h
+  unfolding coded tried
+  sound {h} = go (has_bad_mark e v) refl (has_bad_code e v) refl
     where
-      go : (e : Encoding) → ((w : ℕ) (M : States) → e ≡ BitVector w M → ⊥) → 0 ≡ bad_number e v
-      go Event o = refl
-      go Real o = refl
-      go (BitVector w M) o = absurd (o w M refl)
+      go : (p : Bool) → has_bad_mark e v ≡ p → (q : Bool) → has_bad_code e v ≡ q → given h ≡ tried (9 ⇐ p ∷ 10 ⇐ q ∷ []) (given (held e v)) → Sound e v h
+      go true a q b z = cc
+      go false a true b z = cc
+      go false a false b z = record { mark = a; code = b; is = cc }
 
-module _ {e : Encoding} {w : ℕ} {M : States} (q : e ≡ BitVector w M) where
-  pub bad_mark : (v : List ℕ) → own_states M v ≡ own.Bad → 9 ≡ bad_number e v
-  unfolding bad_number
-  bad_mark v h = rw (q, bad_told w M v h)
-
-  module _ {v : List ℕ} {S : States} {levels : List ℕ} (o : Owned w M v S) (p : levels ≡ level_part (BitVector w M) v) where
-    codes_are : has_no_code (codes_at w S levels) ≡ has_bad_code (BitVector w M) v
-    codes_are = ap has_no_code (ap (codes_at w S) p ∙ o.codes)
-
-    pub bad_code : has_no_code (codes_at w S levels) ≡ true → 10 ≡ bad_number e v
-    unfolding bad_number
-    bad_code h = rw (q, o.sound, sym codes_are ∙ h)
-
-    pub bad_no_code : has_no_code (codes_at w S levels) ≡ false → 0 ≡ bad_number e v
-    unfolding bad_number
-    bad_no_code h = rw (q, o.sound, sym codes_are ∙ h)
-
--- ---- two valid entries
-
-pub valid_vector : {e : Encoding} {w : ℕ} {M : States} {v : List ℕ} → e ≡ BitVector w M → Valid e v → Valid (BitVector w M) v
-valid_vector q h = rw q at h
-
--- the own set, as it is found by the mark of the largest set
-pub valid_owned : {w : ℕ} {M : States} {v : List ℕ} {m : ℕ} {S : States} → Valid (BitVector w M) v → m ≡ mark_of M → S ≡ set_at (mark_in (set_at m) v) → Owned w M v S
-unfolding own_states has_bad_mark
-valid_owned {w} {M} {v} {m} {S} h d e =
-    let k = mark_in (set_at m) v in
-    owned h.whole (rw (h.mark, e, ← mark_by M v m k d refl))
-
-module _ {w : ℕ} {M N S R : States} {v u x y : List ℕ} (o : Owned w M v S) (q : Owned w N u R)
-    (a : x ≡ level_part (BitVector w M) v) (b : y ≡ level_part (BitVector w N) u) where
-  codes_l : codes_at w S x ≡ levels_in (BitVector w M) v
-  codes_l = ap (codes_at w S) a ∙ o.codes
-
-  codes_r : codes_at w R y ≡ levels_in (BitVector w N) u
-  codes_r = ap (codes_at w R) b ∙ q.codes
-
-  -- equal bytes under equal sets
-  pub bytes_alike : mark_of S ≡ mark_of R → same x y ≡ true → true ≡ same (text_in (BitVector w M) v) (text_in (BitVector w N) u)
-  bytes_alike m t =
-      let e : levels_in (BitVector w M) v ≡ levels_in (BitVector w N) u =
-      sym codes_l ∙ ap₂ (codes_at w) (mark_inj S R m) (same_sound x y (to_t (same x y) t)) ∙ codes_r in
-      sym (from_t (same (text_in (BitVector w M) v) (text_in (BitVector w N) u)) (rw e (same_refl (text_in (BitVector w N) u))))
-
-  pub same_length : mark_of S ≡ mark_of R → length x ≡ length y
-  same_length m = ap length a ∙ o.levels.long ∙ ap (len_of w) (mark_inj S R m) ∙ sym (ap length b ∙ q.levels.long)
-
-  -- letters differ where codes do
-  pub codes_alike : Valid (BitVector w M) v → Valid (BitVector w N) u → {r : Bool} → r ≡ same (codes_at w S x) (codes_at w R y)
-      → r ≡ same (text_in (BitVector w M) v) (text_in (BitVector w N) u)
-  codes_alike k l e =
-      let cs = levels_in (BitVector w M) v in
-      let ds = levels_in (BitVector w N) u in
-      e ∙ ap₂ same codes_l codes_r
-      ∙ same_by cs ds (text_of cs) (text_of ds) (ap text_of) (text_inj cs ds (all_below_lem cs k.code) (all_below_lem ds l.code))
-
--- ---- entries of unlike kind or width
-
-module _ {e : Encoding} (f : Encoding) (v u : List ℕ) where
-  pub unlike_event : e ≡ Event → (f ≡ Event → ⊥) → false ≡ same_value e v f u
-  unfolding same_value
-  unlike_event q o = rw q (go f o)
+  -- 9 or 10, before whatever is tried next
+  first_bad : {A : Type 0} {n : ℕ} → refused n ≡ coded e v → (tests : List Test) (r : Reply A) → refused n ≡ tried (9 ⇐ has_bad_mark e v ∷ 10 ⇐ has_bad_code e v ∷ tests) r
+  unfolding coded tried
+  first_bad {A} {n} h tests r = go (has_bad_mark e v) (has_bad_code e v) h
     where
-      go : (f : Encoding) → (f ≡ Event → ⊥) → false ≡ same_value Event v f u
-      go Event o = absurd (o refl)
-      go Real o = refl
-      go (BitVector w M) o = refl
+      go : (p q : Bool) → refused n ≡ tried (9 ⇐ p ∷ 10 ⇐ q ∷ []) (given (held e v)) → refused n ≡ tried (9 ⇐ p ∷ 10 ⇐ q ∷ tests) r
+      go true q z = cc
+      go false true z = cc
+      go false false z = cc
 
-  pub unlike_real : e ≡ Real → (f ≡ Real → ⊥) → false ≡ same_value e v f u
-  unfolding same_value
-  unlike_real q o = rw q (go f o)
-    where
-      go : (f : Encoding) → (f ≡ Real → ⊥) → false ≡ same_value Real v f u
-      go Event o = refl
-      go Real o = absurd (o refl)
-      go (BitVector w M) o = refl
+-- those of a bit vector are its levels'
+pub coded_refused : {e : Encoding} {w : ℕ} {M : States} (v : List ℕ) {n : ℕ} → e ≡ BitVector w M → refused n ≡ levels.coded w M v → refused n ≡ coded e v
+unfolding coded tried
+coded_refused {e} {w} {M} v {n} q = rw q (go (has_bad_mark (BitVector w M) v) (has_bad_code (BitVector w M) v))
+  where
+    go : (b c : Bool) → refused n ≡ tried (9 ⇐ b ∷ 10 ⇐ c ∷ []) (given (unpacked w M v)) → refused n ≡ tried (9 ⇐ b ∷ 10 ⇐ c ∷ []) (given (held (BitVector w M) v))
+    go true c z = cc
+    go false true z = cc
+    go false false z = cc
 
-  module _ {w : ℕ} {M : States} (q : e ≡ BitVector w M) where
-    pub unlike_vector : ((x : ℕ) (N : States) → f ≡ BitVector x N → ⊥) → false ≡ same_value e v f u
-    unfolding same_value
-    unlike_vector o = rw q (go f o)
-      where
-        go : (f : Encoding) → ((x : ℕ) (N : States) → f ≡ BitVector x N → ⊥) → false ≡ same_value (BitVector w M) v f u
-        go Event o = refl
-        go Real o = refl
-        go (BitVector x N) o = absurd (o x N refl)
+pub coded_levels : {e : Encoding} {w : ℕ} {M : States} (v : List ℕ) {u : Unpacked} → e ≡ BitVector w M → given u ≡ levels.coded w M v
+    → given (codes (codes_at u.width u.set u.part)) ≡ coded e v
+unfolding coded tried
+coded_levels {e} {w} {M} v q h = let s = coded_given w M v h in rw (q, s.mark, s.code, codes_are w M v s.is)
 
-    text_length : (w : ℕ) (M : States) (v : List ℕ) → length (text_in (BitVector w M) v) ≡ w
-    unfolding levels_in
-    text_length w M v = length-map (levels_in (BitVector w M) v) letter_of ∙ codes_length w (set_in (BitVector w M) v) (level_part (BitVector w M) v)
-
-    module _ {x : ℕ} {N : States} (p : f ≡ BitVector x N) where
-      pub unlike_width : (w ≡ x → ⊥) → false ≡ same_value e v f u
-      unfolding same_value
-      unlike_width n =
-          rw (q, p)
-          (both_ways false (same (text_in (BitVector w M) v) (text_in (BitVector x N) u)) (λ t. absurd t)
-          (λ t. absurd (n (sym (text_length w M v) ∙ ap length (same_sound (text_in (BitVector w M) v) (text_in (BitVector x N) u) t) ∙ text_length x N u))))
-
-      pub like_vector : w ≡ x → {r : Bool} → r ≡ same (text_in (BitVector w M) v) (text_in (BitVector w N) u) → r ≡ same_value e v f u
-      unfolding same_value
-      like_vector n h = rw (q, p, ← n) h
+-- letters differ where codes do
+same_as_held : (a : Encoding) (x : List ℕ) (b : Encoding) (y : List ℕ) → has_bad_code a x ≡ false → has_bad_code b y ≡ false
+    → same_held (held a x) (held b y) ≡ same_value a x b y
+unfolding same_held same_value same_real
+same_as_held Event x Event y p q = refl
+same_as_held Event x Real y p q = refl
+same_as_held Event x (BitVector w M) y p q = refl
+same_as_held Real x Event y p q = refl
+same_as_held Real x Real y p q = refl
+same_as_held Real x (BitVector w M) y p q = refl
+same_as_held (BitVector w M) x Event y p q = refl
+same_as_held (BitVector w M) x Real y p q = refl
+same_as_held (BitVector w M) x (BitVector z N) y p q =
+    let cs = levels_in (BitVector w M) x in
+    let ds = levels_in (BitVector z N) y in
+    same_by cs ds (text_of cs) (text_of ds) (ap text_of) (text_inj cs ds (all_below_lem cs p) (all_below_lem ds q))
 
 -- ---- a pair
 
--- an entry that is neither 9 nor 10
-pub valid : {e : Encoding} {v : List ℕ} → Whole e v → 0 ≡ bad_number e v → Valid e v
-unfolding bad_number
-valid {e} {v} w h = go (has_bad_mark e v) refl (has_bad_code e v) refl h
-  where
-    go : (a : Bool) → has_bad_mark e v ≡ a → (b : Bool) → has_bad_code e v ≡ b → ◌≡◌ {A = ℕ} 0 (cond a 9 (cond b 10 0)) → Valid e v
-    go true p b q h = absurd (omega arith)
-    go false p true q h = absurd (omega arith)
-    go false p false q h = record { whole = w; mark = p; code = q }
-
--- 9 or 10 of an entry, before whatever is tried next
-first_bad : (e : Encoding) (v : List ℕ) (n : ℕ) → 0 < n → n ≡ bad_number e v → (tests : List Test) (r : Reply Bool)
-    → refused n ≡ tried (9 ⇐ has_bad_mark e v ∷ 10 ⇐ has_bad_code e v ∷ tests) r
-unfolding bad_number tried
-first_bad e v n l h tests r = go (has_bad_mark e v) (has_bad_code e v) h
-  where
-    go : (a b : Bool) → n ≡ cond a 9 (cond b 10 0) → refused n ≡ tried (9 ⇐ a ∷ 10 ⇐ b ∷ tests) r
-    go true b h = ap refused h
-    go false true h = ap refused h
-    go false false h = absurd (omega arith)
-
-pub first_refused : (a b : Encoding) (x y : List ℕ) (i j : ℕ) (r : Refusal) → refusal_number r ≡ bad_number a x → refused (refusal_number r) ≡ pair_of a x i b y j
+pub first_refused : (a b : Encoding) (x y : List ℕ) (i j : ℕ) {n : ℕ} → refused n ≡ coded a x → refused n ≡ pair_of a x i b y j
 unfolding pair_of
-first_refused a b x y i j r h = first_bad a x (refusal_number r) (number_some r) h _ _
+first_refused a b x y i j h = first_bad a x h _ _
 
-module _ {a : Encoding} {x : List ℕ} (p : Valid a x) where
-  pub second_refused : (b : Encoding) (y : List ℕ) (i j : ℕ) (r : Refusal) → refusal_number r ≡ bad_number b y → refused (refusal_number r) ≡ pair_of a x i b y j
+module _ (a b : Encoding) (x y : List ℕ) (i j : ℕ) {h : Held} (s : given h ≡ coded a x) where
+  pub second_refused : {n : ℕ} → refused n ≡ coded b y → refused n ≡ pair_of a x i b y j
   unfolding pair_of tried
-  second_refused b y i j r h = rw (p.mark, p.code) (first_bad b y (refusal_number r) (number_some r) h [] (given (eqb i j && same_value a x b y)))
+  second_refused z = let p = sound a x s in rw (p.mark, p.code) (first_bad b y z [] (given (eqb i j && same_value a x b y)))
 
-  module _ {b : Encoding} {y : List ℕ} (q : Valid b y) {i j : ℕ} where
+  module _ {k : Held} (t : given k ≡ coded b y) where
     pub pair_apart : (i ≡ j → ⊥) → given false ≡ pair_of a x i b y j
     unfolding pair_of tried
-    pair_apart n = rw (p.mark, p.code, q.mark, q.code, ne_eqb i j n)
+    pair_apart n = let p = sound a x s in let q = sound b y t in rw (p.mark, p.code, q.mark, q.code, ne_eqb i j n)
 
-    pub pair_told : i ≡ j → {r : Bool} → r ≡ same_value a x b y → given r ≡ pair_of a x i b y j
+    pub pair_told : i ≡ j → {r : Bool} → r ≡ same_held h k → given r ≡ pair_of a x i b y j
     unfolding pair_of tried
-    pair_told n h = rw (p.mark, p.code, q.mark, q.code, eq-eqb i j n, h)
+    pair_told n e =
+        let p = sound a x s in
+        let q = sound b y t in
+        rw (p.mark, p.code, q.mark, q.code, eq-eqb i j n) (ap given (e ∙ ap₂ same_held p.is q.is ∙ same_as_held a x b y p.code q.code))
 
 -- ---- the walk over the pairs
 
@@ -275,17 +168,6 @@ unfoldable pub follow : Reply Bool → Reply Bool → Reply Bool
 follow (refused n) rest = refused n
 follow (given true) rest = rest
 follow (given false) rest = given false
-
--- after a pair that agrees, the rest; after another, its own reply
-pub goes_on : (later : Reply Bool) (r : EqualAnswer) → r ≡ answer.Equal → follow (equal_of r) later ≡ later
-unfolding follow
-goes_on later r e = ap (λ (z : EqualAnswer). follow (equal_of z) later) e
-
-pub ends : (later : Reply Bool) (r : EqualAnswer) → (r ≡ answer.Equal → ⊥) → follow (equal_of r) later ≡ equal_of r
-unfolding follow
-ends later answer.Equal o = absurd (o refl)
-ends later answer.Unequal o = refl
-ends later (answer.Refused n) o = refl
 
 walked_step : (p q : Indexed) (l m : List Indexed)
     → walked (p ∷ l) (q ∷ m) ≡ follow (pair_of p.encoding p.bytes p.index q.encoding q.bytes q.index) (walked l m)
@@ -329,12 +211,12 @@ module _ {d : Description} {l : Lent} {e : Description} {m : Lent} {k : ℕ} (w 
   has_second p = record { stands = w.second; below = p }
 
   -- the pair of entries k, as it was compared
-  pub step : k < d.count → k < e.count → (r : EqualAnswer) {x y : List ℕ} {i j : ℕ}
-      → x ≡ entry_at d.encoding l.byte_start l.bytes k → i ≡ get_or l.indices (l.index_start + k) 0
-      → y ≡ entry_at e.encoding m.byte_start m.bytes k → j ≡ get_or m.indices (m.index_start + k) 0
-      → equal_of r ≡ pair_of d.encoding x i e.encoding y j → compare_records d l e m ≡ follow (equal_of r) (walked (rest d l (k + 1)) (rest e m (k + 1)))
-  step p q r a u b v t =
-      let z : equal_of r ≡ pair_of d.encoding (entry_at d.encoding l.byte_start l.bytes k) (get_or l.indices (l.index_start + k) 0) e.encoding (entry_at e.encoding m.byte_start m.bytes k) (get_or m.indices (m.index_start + k) 0) = rw (← a, ← u, ← b, ← v) t in
+  pub step : k < d.count → k < e.count → {o : Reply Bool} {f g : Encoding} {x y : List ℕ} {i j : ℕ}
+      → f ≡ d.encoding → x ≡ entry_at d.encoding l.byte_start l.bytes k → i ≡ get_or l.indices (l.index_start + k) 0
+      → g ≡ e.encoding → y ≡ entry_at e.encoding m.byte_start m.bytes k → j ≡ get_or m.indices (m.index_start + k) 0
+      → o ≡ pair_of f x i g y j → compare_records d l e m ≡ follow o (walked (rest d l (k + 1)) (rest e m (k + 1)))
+  step p q {o} r a u s b v t =
+      let z : o ≡ pair_of d.encoding (entry_at d.encoding l.byte_start l.bytes k) (get_or l.indices (l.index_start + k) 0) e.encoding (entry_at e.encoding m.byte_start m.bytes k) (get_or m.indices (m.index_start + k) 0) = rw (← a, ← u, ← b, ← v, ← r, ← s) t in
       w.left
       ∙ ap₂ walked (rest_more (has_first p)) (rest_more (has_second q))
       ∙ walked_step (entry_number d l k) (entry_number e m k) (rest d l (k + 1)) (rest e m (k + 1))
@@ -351,3 +233,10 @@ module _ {d : Description} {l : Lent} {e : Description} {m : Lent} {k : ℕ} (w 
   pub both_end : d.count ≤ k → e.count ≤ k → given true ≡ compare_records d l e m
   unfolding walked
   both_end p q = sym (w.left ∙ ap₂ walked (rest_end w.first k p) (rest_end w.second k q))
+
+  -- the shorter record is walked to its end
+  pub ended : k ≡ min d.count e.count → given (eqb d.count e.count) ≡ compare_records d l e m
+  ended h =
+      by_eq d.count e.count
+      (λ q. ap given (eq-eqb _ _ q) ∙ both_end (omega arith) (omega arith))
+      (λ q. ap given (ne_eqb _ _ q) ∙ by_le d.count e.count (λ r. second_longer (omega arith) (omega arith)) (λ r. first_longer (omega arith) (omega arith)))
