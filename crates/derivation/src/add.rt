@@ -1,5 +1,5 @@
 // A derivation, and Add a piece.
-ghost use Rattle.std.specs.Prelude.{◌∷◌, ◌≡◌, ◌==◌, ◌≤◌, ◌<◌, true, false, length, map, take, position};
+ghost use Rattle.std.specs.Prelude.{◌∷◌, ◌≡◌, ◌==◌, ◌≤◌, ◌<◌, true, false, length, map, min, take, position};
 ghost use Rattle.std.specs.List.{list_any};
 ghost use Rattle.value.specs.Slice.{overlay, sum};
 ghost use Rattle.fst.specs.Refusal.{outcome};
@@ -76,7 +76,8 @@ impl DerivedBitVecSignal {
 
     // The packed pieces, all 64 for a count above.
     pub fn pieces(&self) -> &[u64]
-        ensures { result.now ≡ take self.now.piece_count self.now.bits }
+        ensures value { result.now ≡ take self.now.piece_count self.now.bits }
+        ensures long { length result.now ≡ min self.now.piece_count 64 }
     {
         let count = self.bits.len().min(self.piece_count as usize);
         &self.bits[..count]

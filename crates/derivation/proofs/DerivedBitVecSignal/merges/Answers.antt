@@ -17,7 +17,7 @@ returns-in-Left-len1-up c =
     c.adjoins.ensures
     ∙ ap (adjoin a.extract) c.from.ensures
     ∙ sym (merges_left c.pieces.result.now a.extract c.in-Left-len1-up.len_at_least)
-    ∙ ap (λ (l : List ℕ). merges Left a.extract (map extract_of l)) c.pieces.ensures
+    ∙ ap (λ (l : List ℕ). merges Left a.extract (map extract_of l)) c.pieces.ensures.value
     ∙ ap (λ (t : Side). merges t a.extract (pieces_of a.self.now)) (sym c.in-Left-len1-up.is-0)
 
 pub returns-in-Right-len1-up : goal.returns-in-Right-len1-up
@@ -26,5 +26,5 @@ returns-in-Right-len1-up c =
     c.adjoins-in-Right-len1-up.ensures
     ∙ ap (λ (p : Extract). adjoin p a.extract) c.from-in-Right-len1-up.ensures
     ∙ sym (merges_right c.pieces.result.now a.extract c.in-Right-len1-up.len_at_least)
-    ∙ ap (λ (l : List ℕ). merges Right a.extract (map extract_of l)) c.pieces.ensures
+    ∙ ap (λ (l : List ℕ). merges Right a.extract (map extract_of l)) c.pieces.ensures.value
     ∙ ap (λ (t : Side). merges t a.extract (pieces_of a.self.now)) (sym c.in-Right-len1-up.is-0)
