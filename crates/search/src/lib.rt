@@ -55,15 +55,10 @@ fn find_reach(indices: &[u32], end: usize, index: u32) -> usize
     ensures { result ≡ reach_of end 1 index indices.now end }
 {
     let mut reach = 1;
-    loop {
-        if end <= reach {
-            return reach;
-        }
-        if indices[end - reach - 1] != index {
-            return reach;
-        }
+    while reach < end && indices[end - reach - 1] == index {
         reach *= 8;
     }
+    reach
 }
 
 // Where the run of the index in front of an end begins.

@@ -6,11 +6,11 @@ use Rattle.search.proofs.find_reach.Goals as goal
 pub loop-reach-init : goal.loop-reach-init
 loop-reach-init c = sought_first _ _ _
 
-pub returns-then-end-reach : goal.returns-then-end-reach
-returns-then-end-reach c = sought_all c.loop-reach.invariant c.if-end-reach.true
-
-pub returns-then-indices-end : goal.returns-then-indices-end
-returns-then-indices-end c = sought_here c.loop-reach.invariant c.if-end-reach.false c.if-indices-end.true
-
 pub loop-reach-preserved : goal.loop-reach-preserved
-loop-reach-preserved c = sought_more c.loop-reach.invariant c.if-end-reach.false c.if-indices-end.false
+loop-reach-preserved c = sought_more c.loop-reach.invariant c.loop-reach-test.true c.if-indices-end.true
+
+pub returns-else-indices-end : goal.returns-else-indices-end
+returns-else-indices-end c = sought_here c.loop-reach.invariant c.loop-reach-test.true c.if-indices-end.false
+
+pub returns-after-loop-reach : goal.returns-after-loop-reach
+returns-after-loop-reach c = sought_all c.loop-reach.invariant c.loop-reach-test.false
