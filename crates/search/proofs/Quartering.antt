@@ -11,14 +11,14 @@ use lib.Dec.{eqb, leb, ltb}
 use lib.ListN.{length, get_or, take, drop, length-take, length-drop}
 use lib.Seq.{take_all}
 use Rattle.value.specs.Slice.{part}
-use Rattle.value.proofs.Slices.{part_length, part_at, part_part}
+use Rattle.value.proofs.Slices.{part_length, part_at}
 use Rattle.value.proofs.Tests.{by_le}
 use Rattle.fst.specs.Refusal.{refused, given, tried}
 use Rattle.fst.specs.Record.{maximum}
 use Rattle.std.specs.Prelude.{Option, Some, None, sum_by}
 use Rattle.std.proofs.lemmas.List.Recursion.{is_sum_by}
 use Rattle.offset.specs.Offset.{head_of}
-use Rattle.search.specs.Quartering.{not_above, ends_from, ends, quartered, rank, reach_of, start_of, run_up_to, search}
+use Rattle.search.specs.Quartering.{not_above, ends, quartered, rank, reach_of, start_of, run_up_to, search}
 
 -- ---- a count
 
@@ -105,6 +105,13 @@ rank_long s l h = go (length l) (omega arith)
         let same = enough n (length (left s l)) s (left s l) (omega (arith, left_length s l)) (omega arith) in
         rw (lt-leb (length l) 16 h, same)
 
+-- a turn of the loop
+pub rank_turn : (s : ℕ) (l : List ℕ) → 16 < length l → (r : ℕ) → r ≡ not_above s (ends l)
+    → let start = r * (length l / 4) in
+    let size = length l - 3 * (length l / 4) in
+    (start + size ≤ length l) × (rank s l ≡ start + rank s (part start size l))
+rank_turn s l h r e = rw e (omega (arith, three_at_most s l), rank_long s l h)
+
 quartered_within : (n s : ℕ) (l : List ℕ) → quartered n s l ≤ length l
 unfolding quartered
 quartered_within zero s l = not_above_within s l
@@ -117,46 +124,6 @@ quartered_within (suc n) s l = go (leb (length l) 16) (quartered_within n s (lef
 pub rank_within : (s : ℕ) (l : List ℕ) → rank s l ≤ length l
 unfolding rank
 rank_within s l = quartered_within (length l) s l
-
--- ---- a turn of the loop
-
-module _ (s : ℕ) (l : List ℕ) (place size : ℕ) (long : 16 < size) (inside : place + size ≤ length l) where
-  abbrev quarter : ℕ
-  quarter = size / 4
-
-  abbrev now : List ℕ
-  now = part place size l
-
-  size_is : length now ≡ size
-  size_is = part_length l place size inside
-
-  -- the end of a quarter
-  probed : (k : ℕ) → 1 ≤ k → k ≤ 3 → get_or now (0 + k * quarter - 1) 0 ≡ get_or l (place + k * quarter - 1) 0
-  probed k a b =
-      let small = mul-le-mul_right quarter b in
-      let some = mul-le-mul_right quarter a in
-      let at : 0 + k * quarter - 1 ≡ k * quarter - 1 = omega arith in
-      let same : place + (k * quarter - 1) ≡ place + k * quarter - 1 = omega (arith, some) in
-      rw at (part_at l place size (k * quarter - 1) 0 (omega (arith, small, some)) ∙ ap (λ (j : ℕ). get_or l j 0) same)
-
-  ends_are : ends now ≡ ends_from place quarter l
-  ends_are =
-      let one : 1 * quarter ≡ quarter = omega arith in
-      let first : get_or now (0 + quarter - 1) 0 ≡ get_or l (place + quarter - 1) 0 = rw one at (probed 1 (omega arith) (omega arith)) in
-      rw (size_is, first, probed 2 (omega arith) (omega arith), probed 3 (omega arith) (omega arith)) refl
-
-  -- what the loop goes on with
-  pub rank_turn : (r : ℕ) → r ≡ not_above s (ends_from place quarter l)
-      → (place + r * quarter + (size - 3 * quarter) ≤ length l)
-      × (place + r * quarter + rank s (part (place + r * quarter) (size - 3 * quarter) l) ≡ place + rank s now)
-  rank_turn r e =
-      let sum : not_above s (ends now) ≡ r = ap (not_above s) ends_are ∙ sym e in
-      let most : r * quarter ≤ 3 * quarter = rw (sum, size_is) at (three_at_most s now) in
-      let on : left s now ≡ part (place + r * quarter) (size - 3 * quarter) l =
-      rw (sum, size_is) (part_part l place size (r * quarter) (size - 3 * quarter) (omega (arith, most))) in
-      let same : rank s now ≡ r * quarter + rank s (part (place + r * quarter) (size - 3 * quarter) l) =
-      rank_long s now (omega (arith, size_is)) ∙ rw (on, sum, size_is) in
-      (omega (arith, most), omega (arith, same))
 
 -- ---- in how many indices a run is looked for
 

@@ -91,9 +91,9 @@ module _ (s : ℕ) (l : List ℕ) (o : Ordered l) (long : 16 < length l) where
   q = length l / 4
 
   end_is : (j : ℕ) → j < 3 → get_or (ends l) j 0 ≡ get_or l (suc j * q - 1) 0
-  end_is zero h = let same : 0 + q - 1 ≡ 1 * q - 1 = omega arith in ap (λ (k : ℕ). get_or l k 0) same
-  end_is (suc zero) h = let same : 0 + 2 * q - 1 ≡ 2 * q - 1 = omega arith in ap (λ (k : ℕ). get_or l k 0) same
-  end_is (suc (suc zero)) h = let same : 0 + 3 * q - 1 ≡ 3 * q - 1 = omega arith in ap (λ (k : ℕ). get_or l k 0) same
+  end_is zero h = let one : q ≡ 1 * q = omega arith in ap (λ (k : ℕ). get_or l (k - 1) 0) one
+  end_is (suc zero) h = refl
+  end_is (suc (suc zero)) h = refl
   end_is (suc (suc (suc j))) h = absurd (omega arith)
 
   ordered_ends : Ordered (ends l)

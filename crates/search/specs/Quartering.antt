@@ -13,13 +13,11 @@ unfoldable pub not_above : ℕ → List ℕ → ℕ
 not_above s [] = 0
 not_above s (i ∷ l) = cond (leb i s) (suc (not_above s l)) (not_above s l)
 
--- the last indices of three parts of one length, from a place on
-abbrev pub ends_from : ℕ → ℕ → List ℕ → List ℕ
-ends_from place n l = get_or l (place + n - 1) 0 ∷ get_or l (place + 2 * n - 1) 0 ∷ get_or l (place + 3 * n - 1) 0 ∷ []
-
--- of a list's first three quarters, each rounded down
+-- the last indices of a list's first three quarters, each rounded down
 abbrev pub ends : List ℕ → List ℕ
-ends l = ends_from 0 (length l / 4) l
+ends l =
+    let quarter = length l / 4 in
+    get_or l (quarter - 1) 0 ∷ get_or l (2 * quarter - 1) 0 ∷ get_or l (3 * quarter - 1) 0 ∷ []
 
 -- how many are not above, by at most n quarterings: up to 16 indices are counted; of more, as many quarters are passed as have an end that is
 -- not above, and so many indices are looked at as three quarters leave

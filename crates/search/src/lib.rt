@@ -1,10 +1,10 @@
 // The entries that hold at a time index, in a list that is known not to fall: Look up without its scan.
 #![tactic(auto)]
 
-ghost use Rattle.std.specs.Prelude.{◌≡◌, ◌≤◌, ◌+◌, ◌-◌, ◌*◌, min, length, get_or};
+ghost use Rattle.std.specs.Prelude.{◌≡◌, ◌≤◌, ◌<◌, ◌-◌, length, get_or};
 ghost use Rattle.fst.specs.Record.{maximum};
 ghost use Rattle.offset.specs.Offset.{offset_of};
-ghost use Rattle.search.specs.Quartering.{not_above, ends_from, rank, reach_of, start_of, search};
+ghost use Rattle.search.specs.Quartering.{not_above, ends, rank, reach_of, start_of, search};
 
 use fst::Refusal;
 use fst::record::MAXIMUM;
@@ -21,15 +21,15 @@ fn count(indices: &[u32], needle: u32) -> u32
         .sum()
 }
 
-// How many of three quarters from a place on end in an index that is not above the needle.
-fn passed(indices: &[u32], place: usize, quarter: usize, needle: u32) -> usize
-    requires le_quarter { 1 ≤ quarter }
-    requires quarter_in_bounds { place + 3 * quarter ≤ length indices.now }
-    ensures { result ≡ not_above needle (ends_from place quarter indices.now) }
+// How many of the first three quarters end in an index that is not above the needle.
+fn passed(indices: &[u32], needle: u32) -> usize
+    requires { 16 < length indices.now }
+    ensures { result ≡ not_above needle (ends indices.now) }
 {
-    let first = not_above(indices[place + quarter - 1], needle);
-    let second = not_above(indices[place + 2 * quarter - 1], needle);
-    let third = not_above(indices[place + 3 * quarter - 1], needle);
+    let quarter = indices.len() / 4;
+    let first = not_above(indices[quarter - 1], needle);
+    let second = not_above(indices[2 * quarter - 1], needle);
+    let third = not_above(indices[3 * quarter - 1], needle);
     first + second + third
 }
 
@@ -37,15 +37,16 @@ fn passed(indices: &[u32], place: usize, quarter: usize, needle: u32) -> usize
 fn rank(indices: &[u32], needle: u32) -> usize
     ensures { result ≡ rank needle indices.now }
 {
-    let mut place = 0;
-    let mut size = indices.len();
-    while 16 < size {
-        let quarter = size / 4;
-        place += passed(indices, place, quarter, needle) * quarter;
-        size -= 3 * quarter;
+    let mut rank = 0;
+    let mut rest = indices;
+    while 16 < rest.len() {
+        let quarter = rest.len() / 4;
+        let size = rest.len() - 3 * quarter;
+        let start = passed(rest, needle) * quarter;
+        rank += start;
+        rest = &rest[start..start + size];
     }
-    let end = place + size;
-    place + count(&indices[place..end], needle) as usize
+    rank + count(rest, needle) as usize
 }
 
 // In how many indices the run is looked for that ends at a place. Most runs are short, and found near.

@@ -3,7 +3,7 @@
 use mathlib.Core.Path.{◌≡◌, sym}
 use Prim.Native.Nat.{◌+◌, ◌≤◌}
 use native.Mathlib.Omega.{arith}
-use Rattle.search.specs.Quartering.{not_above, ends_from}
+use Rattle.search.specs.Quartering.{not_above, ends}
 use Rattle.search.proofs.Quartering.{not_above_within, passed_by}
 use Rattle.search.proofs.passed.Goals.{After-not_above-third}
 use Rattle.search.proofs.passed.Goals as goal
@@ -11,7 +11,7 @@ use Rattle.search.proofs.passed.Goals as goal
 counted : (c : After-not_above-third) →
     let a = c.args in
     c.not_above-first.result + c.not_above-second.result + c.not_above-third.result
-    ≡ not_above a.needle (ends_from a.place a.quarter a.indices.now)
+    ≡ not_above a.needle (ends a.indices.now)
 counted c =
     rw (c.not_above-first.ensures, c.not_above-second.ensures, c.not_above-third.ensures)
     (sym (passed_by _ _ _ _))
@@ -21,7 +21,7 @@ few : (c : After-not_above-third) →
     c.not_above-first.result + c.not_above-second.result + c.not_above-third.result ≤ 3
 few c =
     let a = c.args in
-    omega (arith, counted c, not_above_within a.needle (ends_from a.place a.quarter a.indices.now))
+    omega (arith, counted c, not_above_within a.needle (ends a.indices.now))
 
 pub returns : goal.returns
 returns c = counted (goal.at.returns c).After-not_above-third

@@ -1,82 +1,60 @@
--- `search::rank` meets its contract. The loop's invariant: of the `size` indices from `place` on, the rank of all is found.
+-- `search::rank` meets its contract. The loop's invariant: `rank` and the rank of what is left are the rank of all.
 -- Assumes nothing.
-use mathlib.Core.Path.{◌≡◌, sym, ap, ◌∙◌}
-use Prim.Native.Nat.{ℕ, ◌≤◌, ◌+◌, ◌-◌, ◌*◌, ◌/◌}
-use native.Mathlib.Nat.{zero-add, add-sub_cancel_left}
+use mathlib.Core.Path.{◌≡◌}
+use Prim.Native.Nat.{◌≤◌, ◌+◌, ◌-◌, ◌*◌, ◌/◌}
+use native.Mathlib.Nat.{add-sub_cancel_left}
 use native.Mathlib.Omega.{arith}
-use lib.ListN.{length, take, drop}
+use borrow.Author.Rules.{rules}
+use lib.ListN.{length, drop, length-take}
 use Rattle.value.specs.Slice.{part}
-use Rattle.value.proofs.Slices.{part_length, part_all}
-use Rattle.search.specs.Quartering.{not_above, rank}
+use Rattle.search.specs.Quartering.{rank}
 use Rattle.search.proofs.Quartering.{rank_turn, rank_short, rank_within}
-use Rattle.search.proofs.rank.Goals.{After-count, After-count-arg-1, After-passed}
+use Rattle.search.proofs.rank.Goals.{After-passed, After-count}
 use Rattle.search.proofs.rank.Goals as goal
-
-pub loop-size-init : goal.loop-size-init
-loop-size-init c = (omega arith, (rw (part_all c.args.indices.now, zero-add)))
 
 -- what the loop goes on with
 turn : (c : After-passed) →
-    let a = c.args in
-    let quarter = c.loop-size.size / 4 in
-    let place = c.loop-size.place + c.passed.result * quarter in
-    let size = c.loop-size.size - 3 * quarter in
-    (place + size ≤ length a.indices.now)
-    × (place + rank a.needle (part place size a.indices.now) ≡ c.loop-size.place + rank a.needle (part c.loop-size.place c.loop-size.size a.indices.now))
-turn c =
-    let a = c.args in
-    rank_turn a.needle a.indices.now c.loop-size.place c.loop-size.size c.loop-size-test.true c.loop-size.invariant.0 _ c.passed.ensures
+    let l = c.loop-rest.rest.now in
+    let start = c.passed.result * (length l / 4) in
+    let size = length l - 3 * (length l / 4) in
+    (start + size ≤ length l) × (rank c.args.needle l ≡ start + rank c.args.needle (part start size l))
+turn c = rank_turn c.args.needle c.loop-rest.rest.now c.loop-rest-test.true c.passed.result c.passed.ensures
 
-pub loop-size-preserved : goal.loop-size-preserved
-loop-size-preserved c =
-    let past = goal.at.loop-size-preserved c in
-    ((turn past.After-passed).0, (turn past.After-passed).1 ∙ c.loop-size.invariant.1)
+within : (c : After-passed) → c.loop-rest.rank + c.passed.result * (length c.loop-rest.rest.now / 4) ≤ length c.args.indices.now
+within c = omega (arith, turn c, c.loop-rest.invariant, rank_within c.args.needle c.args.indices.now)
 
--- what is left when the loop has ended
-left : (c : After-count-arg-1) →
-    let l = c.args.indices.now in
-    take (c.loop-size.place + c.loop-size.size - c.loop-size.place) (drop c.loop-size.place l) ≡ part c.loop-size.place c.loop-size.size l
+pub overflow_mul-start : goal.overflow_mul-start
+overflow_mul-start c = omega (arith, within (goal.at.overflow_mul-start c).After-passed)
+
+pub overflow_add-rank : goal.overflow_add-rank
+overflow_add-rank c = omega (arith, within (goal.at.overflow_add-rank c).After-passed)
+
+pub overflow_add-rest : goal.overflow_add-rest
+overflow_add-rest c = omega (arith, turn (goal.at.overflow_add-rest c).After-passed, c.loop-rest.invariant)
+
+pub offset_bounds-rest-start : goal.offset_bounds-rest-start
+offset_bounds-rest-start c = omega (arith, turn (goal.at.offset_bounds-rest-start c).After-passed, c.loop-rest.invariant)
+
+pub slice_bounds-rest-end : goal.slice_bounds-rest-end
+slice_bounds-rest-end c = let t = (turn c).0 in search rules
+
+pub loop-rest-preserved : goal.loop-rest-preserved
 unfolding part
-left c =
-    let l = c.args.indices.now in
-    ap (λ (n : ℕ). take n (drop c.loop-size.place l)) (add-sub_cancel_left c.loop-size.place c.loop-size.size)
+loop-rest-preserved c =
+    let l = c.loop-rest.rest.now in
+    let start = c.passed.result * (length l / 4) in
+    let size = length l - 3 * (length l / 4) in
+    let t = turn (goal.at.loop-rest-preserved c).After-passed in
+    rw (add-sub_cancel_left start size)
+    (omega (arith, length-take size (drop start l), c.loop-rest.invariant), omega (arith, t.1, c.loop-rest.invariant))
 
-few : (c : After-count-arg-1) →
-    length (part c.loop-size.place c.loop-size.size c.args.indices.now) ≤ 16
-few c =
-    let l = c.args.indices.now in
-    omega (arith, part_length l c.loop-size.place c.loop-size.size c.loop-size.invariant.0)
-
-pub count-requires : goal.count-requires
-count-requires c =
-    let past = goal.at.count-requires c in
-    rw (left past.After-count-arg-1) (few past.After-count-arg-1)
-
-found : (c : After-count)
-    → let list = part c.loop-size.place c.loop-size.size c.args.indices.now in
-    length list ≤ 16
-    → take (c.loop-size.place + c.loop-size.size - c.loop-size.place) (drop c.loop-size.place c.args.indices.now) ≡ list
-    → c.loop-size.place + c.count.result ≡ rank c.args.needle c.args.indices.now
-found c few left =
-    let counted = c.count.ensures ∙ ap (not_above c.args.needle) left ∙ sym (rank_short c.args.needle _ few) in
-    ap (λ (n : ℕ). c.loop-size.place + n) counted ∙ c.loop-size.invariant.1
+-- what is counted when the loop has ended
+counted : (c : After-count) → c.loop-rest.rank + c.count.result ≡ rank c.args.needle c.args.indices.now
+counted c = omega (arith, c.count.ensures, rank_short c.args.needle c.loop-rest.rest.now (omega arith), c.loop-rest.invariant)
 
 pub overflow_add-result : goal.overflow_add-result
 overflow_add-result c =
-    let past = goal.at.overflow_add-result c in
-    let a = c.args in
-    omega (arith, found past.After-count (few past.After-count-arg-1) (left past.After-count-arg-1), rank_within a.needle a.indices.now)
+    omega (arith, counted (goal.at.overflow_add-result c).After-count, rank_within c.args.needle c.args.indices.now)
 
 pub returns : goal.returns
-returns c =
-    let past = goal.at.returns c in
-    found past.After-count (few past.After-count-arg-1) (left past.After-count-arg-1)
-
-pub passed-requires : goal.passed-requires
-passed-requires c = record { le_quarter = omega arith; quarter_in_bounds = omega (arith, c.loop-size.invariant.0) }
-
-pub overflow_mul-place : goal.overflow_mul-place
-overflow_mul-place c = omega (arith, (turn (goal.at.overflow_mul-place c).After-passed).0)
-
-pub overflow_add-place : goal.overflow_add-place
-overflow_add-place c = omega (arith, (turn (goal.at.overflow_add-place c).After-passed).0)
+returns c = counted (goal.at.returns c).After-count
