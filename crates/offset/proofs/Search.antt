@@ -13,8 +13,7 @@ use lib.ListN.{length, get_or, drop, length-drop, drop_of_length-le}
 use lib.Seq.{get_or-drop, drop-cons, drop-drop}
 use Rattle.value.specs.Level.{place_in}
 use Rattle.value.proofs.Tests.{or_left, or_right, by_le}
-use Rattle.std.specs.Prelude.{Some, None, fold}
-use Rattle.std.specs.List.{zip}
+use Rattle.std.specs.Prelude.{Some, None}
 use Rattle.offset.specs.Offset.{falls, greatest, run_of, head_of}
 use Rattle.offset.specs.Search.{Reached, Last}
 
@@ -32,19 +31,36 @@ rising (x ∷ y ∷ l) f zero (suc j) h k =
 rising (x ∷ y ∷ l) f (suc i) (suc j) h k =
     rising (y ∷ l) (or_right (ltb y x) (falls (y ∷ l)) f) i j (le_of_suc-le-suc h) (le_of_suc-le-suc k)
 
--- a scan of the pairs of neighbours
-abbrev pub falls_at : Bool → ℕ × ℕ → Bool
-falls_at fell p = fell || ltb p.1 p.0
-
-falls_from : (fell : Bool) (x : ℕ) (l : List ℕ) → fold falls_at fell (zip (x ∷ l) l) ≡ (fell || falls (x ∷ l))
+-- a scan of the pairs, from a place on
+falls_suc : (l : List ℕ) (i : ℕ) → suc i < length l → falls (drop i l) ≡ (ltb (get_or l (suc i) 0) (get_or l i 0) || falls (drop (suc i) l))
 unfolding falls
-falls_from fell x [] = sym (or-false fell)
-falls_from fell x (y ∷ l) = falls_from (fell || ltb y x) y l ∙ or_assoc fell (ltb y x) (falls (y ∷ l))
+falls_suc [] i h = absurd (not-suc-le-zero h)
+falls_suc (x ∷ []) i h = absurd (omega arith)
+falls_suc (x ∷ y ∷ l) zero h = refl
+falls_suc (x ∷ y ∷ l) (suc i) h = falls_suc (y ∷ l) i (le_of_suc-le-suc h)
 
-pub falls_pairs : (l : List ℕ) → fold falls_at false (zip l (drop 1 l)) ≡ falls l
+pub falls_more : (fell : Bool) (l : List ℕ) (i : ℕ) → 0 < i → i < length l → falls l ≡ (fell || falls (drop (i - 1) l))
+    → falls l ≡ (fell || ltb (get_or l i 0) (get_or l (i - 1) 0) || falls (drop (i + 1 - 1) l))
+falls_more fell l zero h k e = absurd (omega arith)
+falls_more fell l (suc i) h k e =
+    let one : suc i - 1 ≡ i = omega arith in
+    let next : suc i + 1 - 1 ≡ suc i = omega arith in
+    let so_far : falls l ≡ (fell || falls (drop i l)) = rw one at e in
+    rw (one, next)
+    (so_far
+    ∙ ap (λ (b : Bool). fell || b) (falls_suc l i k)
+    ∙ sym (or_assoc fell (ltb (get_or l (suc i) 0) (get_or l i 0)) (falls (drop (suc i) l))))
+
+falls_end : (l : List ℕ) (i : ℕ) → length l ≤ i + 1 → falls (drop i l) ≡ false
 unfolding falls
-falls_pairs [] = refl
-falls_pairs (x ∷ l) = falls_from false x l
+falls_end [] zero h = refl
+falls_end [] (suc i) h = refl
+falls_end (x ∷ []) zero h = refl
+falls_end (x ∷ y ∷ l) zero h = absurd (omega arith)
+falls_end (x ∷ l) (suc i) h = falls_end l i (omega arith)
+
+pub falls_all : (fell : Bool) (l : List ℕ) (i : ℕ) → 0 < i → length l ≤ i → falls l ≡ (fell || falls (drop (i - 1) l)) → fell ≡ falls l
+falls_all fell l i h k e = sym (e ∙ ap (λ (b : Bool). fell || b) (falls_end l (i - 1) (omega arith)) ∙ or-false fell)
 
 -- the last place is one of the `size` from `place` on
 pub record Bracket (needle : ℕ) (l : List ℕ) (place size : ℕ) : Type 0 where

@@ -1,18 +1,15 @@
--- `offset::falls` meets its contract.
+-- `offset::falls` meets its contract. The loop's invariant: the list falls where it fell before `i` or falls from the place before it on.
 -- Assumes nothing.
-use Rattle.std.proofs.Common.{◌≡◌, ◌∙◌, ◌-◌, length, take, drop, arith}
-use Rattle.std.proofs.lemmas.Grind.{common_steps}
-use Rattle.std.proofs.lemmas.List.{nil_from_length}
-use Rattle.offset.specs.Offset.{falls}
-use Rattle.offset.proofs.Search.{falls_pairs}
+use mathlib.Core.Path.{refl}
+use native.Mathlib.Omega.{arith}
+use Rattle.offset.proofs.Search.{falls_more, falls_all}
 use Rattle.offset.proofs.falls.Goals as goal
 
-pub returns-in-empty : goal.returns-in-empty
-unfolding falls
-returns-in-empty c = rw (nil_from_length c.args.indices.now (omega arith))
+pub loop-i-init : goal.loop-i-init
+loop-i-init c = refl
 
-pub returns-in-len1-up : goal.returns-in-len1-up
-returns-in-len1-up c =
-    let l = c.args.indices.now in
-    let behind : take (length l - 1) (drop 1 l) ≡ drop 1 l = grind (arith, common_steps) in
-    c.any_below.ensures ∙ rw behind (falls_pairs l)
+pub loop-i-preserved : goal.loop-i-preserved
+loop-i-preserved c = falls_more c.loop-i.fell c.args.indices.now c.loop-i.i (omega arith) (omega arith) c.loop-i.invariant
+
+pub returns : goal.returns
+returns c = falls_all c.loop-i.fell c.args.indices.now c.loop-i.i (omega arith) (omega arith) c.loop-i.invariant
