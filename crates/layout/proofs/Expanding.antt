@@ -18,15 +18,19 @@ use Rattle.value.specs.Digits.{Below}
 use Rattle.value.proofs.Digits.{below_at, below_take, below_drop}
 use Rattle.value.proofs.Slices.{part_length, part_at, overlay_nil}
 use Rattle.value.proofs.Backward.{part_cons, take_part, drop_part, part_before, overlay_front, store_front, store_first}
-use Rattle.layout.specs.declared.expand.Widening.{Widening}
 use Rattle.layout.specs.Entry.{has_meta, entry_size, mark_byte, unmarked, level_bytes, widen_entry, widen_all}
-use Rattle.layout.specs.Expand.{mark_bits, level_bits, widening_of, levels_moved, moved_entry, moved_entries, Grows, Counted}
+use Rattle.layout.specs.Expand.{mark_bits, level_bits, widening_of, levels_moved, moved_entry, moved_entries, Move, Grows, to_size}
+use Rattle.layout.specs.declared.expand.Widening.TheInside.{Inside}
 use Rattle.layout.proofs.Sizes.{size_by, size_up, len_le, len_pos, mark_room, widen_moved}
 
 -- ---- one entry
 
-module _ (m : Widening) (grows : Grows m) where
-  pub moved_length : (v : List ℕ) → length v ≡ m.from_size → length (moved_entry m v) ≡ m.to_size
+-- the move that a `Widening` is, by its fields
+abbrev pub seen : Inside → Move
+seen w = record { from_size = w.from_size; len = w.len; zeros = w.zeros; mark_bits = w.mark_bits; level_bits = w.level_bits }
+
+module _ (m : Move) (grows : Grows m.from_size m.len m.zeros) where
+  pub moved_length : (v : List ℕ) → length v ≡ m.from_size → length (moved_entry m v) ≡ to_size m
   unfolding moved_entry levels_moved
   moved_length v l = rw (length-append, length-replicate, length-drop) (omega arith)
 
@@ -43,16 +47,16 @@ module _ (m : Widening) (grows : Grows m) where
       ∙ ap (λ (n : ℕ). part n (m.len - 1) d) (sym (add_assoc p i 1)))
 
   -- the level bytes, the first of them, the zeros, the mark, in this order
-  pub entry_moved : (d d₁ d₂ : List ℕ) (p q : ℕ) → p ≤ q → q + m.to_size ≤ length d
-      → d₁ ≡ overlay d (q + (m.to_size - m.len)) (part (p + (m.from_size - m.len)) m.len d)
-      → d₂ ≡ overlay (set d₁ (q + (m.to_size - m.len)) (bit_and (get_or d (p + (m.from_size - m.len)) 0) m.level_bits)) (q + 1) (replicate (m.to_size - 1 - m.len) 0)
+  pub entry_moved : (d d₁ d₂ : List ℕ) (p q : ℕ) → p ≤ q → q + to_size m ≤ length d
+      → d₁ ≡ overlay d (q + (m.zeros + 1)) (part (p + (m.from_size - m.len)) m.len d)
+      → d₂ ≡ overlay (set d₁ (q + (m.zeros + 1)) (bit_and (get_or d (p + (m.from_size - m.len)) 0) m.level_bits)) (q + 1) (replicate (m.zeros) 0)
       → set d₂ q (bit_and (get_or d p 0) m.mark_bits) ≡ overlay d q (moved_entry m (part p m.from_size d))
   unfolding moved_entry
   entry_moved d d₁ d₂ p q o r e₁ e₂ =
       let F : ℕ = m.from_size in
       let i : ℕ = p + (F - m.len) in
-      let j : ℕ = q + (m.to_size - m.len) in
-      let z : ℕ = m.to_size - 1 - m.len in
+      let j : ℕ = q + (m.zeros + 1) in
+      let z : ℕ = m.zeros in
       let x : ℕ = bit_and (get_or d i 0) m.level_bits in
       let y : ℕ = bit_and (get_or d p 0) m.mark_bits in
       let l : List ℕ = part (i + 1) (m.len - 1) d in
@@ -71,47 +75,32 @@ module _ (m : Widening) (grows : Grows m) where
       ∙ store_front d (replicate z 0 ++ (x ∷ l)) q (q + 1) y refl (omega arith)
       ∙ ap₂ (λ (u : ℕ) (v : List ℕ). overlay d q (u ∷ (replicate z 0 ++ v))) f (sym (levels_part d p (omega arith)))
 
-  -- by the numbers of level bytes and zeros
-  pub entry_counted : (d d₁ d₂ : List ℕ) (p q len zeros : ℕ) → Counted m len zeros → p ≤ q → q + m.to_size ≤ length d
-      → d₁ ≡ overlay d (q + (zeros + 1)) (part (p + (m.from_size - len)) len d)
-      → d₂ ≡ overlay (set d₁ (q + (zeros + 1)) (bit_and (get_or d (p + (m.from_size - len)) 0) m.level_bits)) (q + 1) (replicate zeros 0)
-      → set d₂ q (bit_and (get_or d p 0) m.mark_bits) ≡ overlay d q (moved_entry m (part p m.from_size d))
-  entry_counted d d₁ d₂ p q len zeros c o r e₁ e₂ =
-      let F : ℕ = m.from_size in
-      let L : ℕ → ℕ = λ n. bit_and (get_or d (p + (F - n)) 0) m.level_bits in
-      let a : q + (zeros + 1) ≡ q + (m.to_size - m.len) = omega (arith, c.levels, c.between) in
-      let z : zeros ≡ m.to_size - 1 - m.len = omega (arith, c.levels, c.between) in
-      entry_moved d d₁ d₂ p q o r
-      (e₁ ∙ ap₂ (λ (i n : ℕ). overlay d i (part (p + (F - n)) n d)) a c.levels)
-      (e₂ ∙ ap₂ (λ (i k : ℕ). overlay (set d₁ i (L len)) (q + 1) (replicate k 0)) a z
-      ∙ ap (λ (n : ℕ). overlay (set d₁ (q + (m.to_size - m.len)) (L n)) (q + 1) (replicate (m.to_size - 1 - m.len) 0)) c.levels)
-
 -- ---- entries from the last to the first
 
 -- n entries of which all but the first k are laid out anew
-abbrev pub expanded : Widening → List ℕ → ℕ → ℕ → ℕ → List ℕ
+abbrev pub expanded : Move → List ℕ → ℕ → ℕ → ℕ → List ℕ
 expanded m d start n k =
-    overlay d (start + k * m.to_size) (moved_entries m (n - k) (part (start + k * m.from_size) ((n - k) * m.from_size) d))
+    overlay d (start + k * to_size m) (moved_entries m (n - k) (part (start + k * m.from_size) ((n - k) * m.from_size) d))
 
-module _ (m : Widening) (grows : Grows m) (d : List ℕ) (start n : ℕ) (room : start + n * m.to_size ≤ length d) where
+module _ (m : Move) (grows : Grows m.from_size m.len m.zeros) (d : List ℕ) (start n : ℕ) (room : start + n * to_size m ≤ length d) where
   pub none_expanded : expanded m d start n n ≡ d
   unfolding moved_entries
-  none_expanded = rw sub_self (overlay_nil d (start + n * m.to_size))
+  none_expanded = rw sub_self (overlay_nil d (start + n * to_size m))
 
   -- the places of entry k within the slice
-  pub old_place_lem : (k : ℕ) → k < n → start + k * m.from_size ≤ start + k * m.to_size
+  pub old_place_lem : (k : ℕ) → k < n → start + k * m.from_size ≤ start + k * to_size m
   old_place_lem k h = omega (arith, mul-le-mul_left k grows.wider)
 
-  pub new_place : (k : ℕ) → k < n → start + k * m.to_size + m.to_size ≤ length d
-  new_place k h = omega (arith, suc-mul k m.to_size, mul-le-mul_right m.to_size h)
+  pub new_place : (k : ℕ) → k < n → start + k * to_size m + to_size m ≤ length d
+  new_place k h = omega (arith, suc-mul k (to_size m), mul-le-mul_right (to_size m) h)
 
   pub more_expanded : (k : ℕ) → k < n
-      → overlay (expanded m d start n (k + 1)) (start + k * m.to_size) (moved_entry m (part (start + k * m.from_size) m.from_size (expanded m d start n (k + 1))))
+      → overlay (expanded m d start n (k + 1)) (start + k * to_size m) (moved_entry m (part (start + k * m.from_size) m.from_size (expanded m d start n (k + 1))))
       ≡ expanded m d start n k
   unfolding moved_entries
   more_expanded k h =
       let F : ℕ = m.from_size in
-      let T : ℕ = m.to_size in
+      let T : ℕ = to_size m in
       let p : ℕ = start + k * F in
       let j : ℕ = n - (k + 1) in
       let e : n - k ≡ suc j = omega arith in
@@ -149,15 +138,20 @@ byte_levels Four v h l = rw (and_mask (get_or v 0 0) 6)
 byte_levels Nine v h l = rw (and_mask (get_or v 0 0) 6)
 
 module _ (w : ℕ) (pos : 0 < w) (from to : States) (up : mark_of from ≤ mark_of to) (grown : entry_size w from ≡ entry_size w to → ⊥) where
-  pub widening_grows : Grows (widening_of w from to)
+  pub widening_grows :
+      let m = widening_of w from to in
+      Grows m.from_size m.len m.zeros
   unfolding widening_of
   widening_grows =
       record {
         some = len_pos w pos from;
         held = len_le w from;
-        wider = size_up w from to up;
-        marked = omega (arith, mark_room w from to up grown);
+        wider = omega (arith, size_up w from to up, mark_room w from to up grown);
       }
+
+  pub widening_size : to_size (widening_of w from to) ≡ entry_size w to
+  unfolding widening_of
+  widening_size = omega (arith, mark_room w from to up grown)
 
   levels_widen : (v : List ℕ) → length v ≡ entry_size w from → Below 256 v → levels_moved (widening_of w from to) v ≡ level_bytes w from v
   unfolding levels_moved level_bytes widening_of

@@ -17,19 +17,12 @@ pub struct LenAndMeta {
 pub fn get_len_and_meta(states: States, bits: u32) -> LenAndMeta
     ensures { (result.len ≡ len_of bits states) × (result.has_meta ≡ has_meta bits states) }
 {
-    let len = states.bytes_required(bits);
-    match states {
-        States::Two => LenAndMeta {
-            len,
-            has_meta: false,
-        },
-        States::Four => LenAndMeta {
-            len,
-            has_meta: bits % 4 == 0,
-        },
-        States::Nine => LenAndMeta {
-            len,
-            has_meta: bits % 2 == 0,
+    LenAndMeta {
+        len: states.bytes_required(bits),
+        has_meta: match states {
+            States::Two => false,
+            States::Four => bits % 4 == 0,
+            States::Nine => bits % 2 == 0,
         },
     }
 }

@@ -1,27 +1,14 @@
 // Earlier entries laid out anew when the largest set rises: `expand_entries` of wellen's src/fst.rs, in place.
-ghost use Rattle.std.specs.Prelude.{◌≡◌, ◌*◌, length};
+ghost use Rattle.std.specs.Prelude.{◌≡◌, ◌≢◌, ◌+◌, ◌*◌, ◌≤◌, length};
+ghost use Rattle.value.specs.Level.{mark_of};
 ghost use Rattle.value.specs.Slice.{part, overlay};
 ghost use Rattle.layout.specs.Entry.{entry_size, widen_all};
-ghost use Rattle.layout.specs.Expand.{mark_bits, level_bits, widening_of, moved_entry, moved_entries, Movable, AllMovable, Counted, Widenable};
+ghost use Rattle.layout.specs.Expand.{mark_bits, level_bits, to_size, widening_of, moved_entry, moved_entries, Widenable};
 
 use crate::bytes::{move_up, zero};
 use crate::entry::{entry_size, get_len_and_meta};
+use std::marker::Model;
 use value::States;
-
-const META_MASK: u8 = 192;
-
-const LEVEL_MASK: u8 = 63;
-
-// What the sets and the width say of each entry's move: its sizes, its level bytes, and the bits of a mark in its first byte and of
-// levels in its first level byte.
-#[derive(Clone, Copy)]
-pub struct Widening {
-    pub from_size: usize,
-    pub to_size: usize,
-    pub len: usize,
-    pub mark_bits: u8,
-    pub level_bits: u8,
-}
 
 // Under Two no mark is stored.
 fn mark_bits(states: States) -> u8
@@ -29,8 +16,7 @@ fn mark_bits(states: States) -> u8
 {
     match states {
         States::Two => 0,
-        States::Four => META_MASK,
-        States::Nine => META_MASK,
+        States::Four | States::Nine => 0xc0,
     }
 }
 
@@ -39,132 +25,114 @@ fn level_bits(states: States, has_meta: bool) -> u8
     ensures { result ≡ level_bits has_meta states }
 {
     if has_meta {
-        return 255;
-    }
-    match states {
-        States::Two => 255,
-        States::Four => LEVEL_MASK,
-        States::Nine => LEVEL_MASK,
-    }
-}
-
-fn get_widening(from: States, to: States, bits: u32) -> Widening
-    ensures { result ≡ widening_of bits from to }
-{
-    let old = get_len_and_meta(from, bits);
-    let from_size = entry_size(from, bits);
-    let to_size = entry_size(to, bits);
-    let mark = mark_bits(from);
-    let level = level_bits(from, old.has_meta);
-    Widening {
-        from_size,
-        to_size,
-        len: old.len,
-        mark_bits: mark,
-        level_bits: level,
-    }
-}
-
-// Lays the entry at p out at q: where they overlap, what is written has been read. `len` and `zeros` are what the sizes say.
-fn expand_entry(widening: Widening, data: &mut [u8], p: usize, q: usize, len: usize, zeros: usize)
-    requires { Movable widening p q (length «data».old) × Counted widening len zeros }
-    ensures { «data».new ≡ overlay «data».old q (moved_entry widening (part p widening.from_size «data».old)) }
-{
-    let first = p + (widening.from_size - len);
-    let at = q + (zeros + 1);
-    let mark = data[p] & widening.mark_bits;
-    let level = data[first] & widening.level_bits;
-    move_up(data, first, at, len);
-    data[at] = level;
-    zero(data, q + 1, zeros);
-    data[q] = mark;
-}
-
-// From the last entry to the first: no entry is written over before it is moved.
-fn expand_each(
-    widening: Widening,
-    data: &mut [u8],
-    start: usize,
-    entries: usize,
-    len: usize,
-    zeros: usize,
-)
-    requires { AllMovable widening start entries (length «data».old) × Counted widening len zeros }
-    ensures { «data».new ≡ overlay «data».old start (moved_entries widening entries (part start (entries * widening.from_size) «data».old)) }
-{
-    let from_size = widening.from_size;
-    let to_size = len + zeros + 1;
-    let mut done = 0;
-    while done < entries {
-        done += 1;
-        let k = entries - done;
-        expand_entry(
-            widening,
-            data,
-            start + k * from_size,
-            start + k * to_size,
-            len,
-            zeros,
-        );
-    }
-}
-
-// As many zeros as level bytes: Two to Four and Four to Nine at widths that fill bytes. Literal lengths are compiled apart.
-fn expand_doubled(widening: Widening, data: &mut [u8], start: usize, entries: usize, len: usize)
-    requires { AllMovable widening start entries (length «data».old) × Counted widening len len }
-    ensures { «data».new ≡ overlay «data».old start (moved_entries widening entries (part start (entries * widening.from_size) «data».old)) }
-{
-    match len {
-        8 => expand_each(widening, data, start, entries, 8, 8),
-        16 => expand_each(widening, data, start, entries, 16, 16),
-        32 => expand_each(widening, data, start, entries, 32, 32),
-        64 => expand_each(widening, data, start, entries, 64, 64),
-        _ => expand_each(widening, data, start, entries, len, len),
-    }
-}
-
-// Other lengths. Of these Two to Nine at widths of 64, 128 and 256 have literal ones.
-fn expand_others(
-    widening: Widening,
-    data: &mut [u8],
-    start: usize,
-    entries: usize,
-    len: usize,
-    zeros: usize,
-)
-    requires { AllMovable widening start entries (length «data».old) × Counted widening len zeros }
-    ensures { «data».new ≡ overlay «data».old start (moved_entries widening entries (part start (entries * widening.from_size) «data».old)) }
-{
-    if zeros / 3 != len {
-        return expand_each(widening, data, start, entries, len, zeros);
-    }
-    match zeros {
-        24 => expand_each(widening, data, start, entries, 8, 24),
-        48 => expand_each(widening, data, start, entries, 16, 48),
-        96 => expand_each(widening, data, start, entries, 32, 96),
-        _ => expand_each(widening, data, start, entries, len, zeros),
-    }
-}
-
-fn expand_by_sizes(widening: Widening, data: &mut [u8], start: usize, entries: usize)
-    requires { AllMovable widening start entries (length «data».old) }
-    ensures { «data».new ≡ overlay «data».old start (moved_entries widening entries (part start (entries * widening.from_size) «data».old)) }
-{
-    let len = widening.len;
-    let zeros = widening.to_size - 1 - len;
-    if zeros == len {
-        expand_doubled(widening, data, start, entries, len)
+        255
     } else {
-        expand_others(widening, data, start, entries, len, zeros)
+        255 - mark_bits(states)
     }
 }
 
-fn expand_all(from: States, to: States, data: &mut [u8], start: usize, entries: usize, bits: u32)
-    requires { Widenable from to start entries bits (length «data».old) × (entry_size bits from ≡ entry_size bits to → ⊥) }
-    ensures { «data».new ≡ overlay «data».old start (widen_all bits from to entries (part start (entries * entry_size bits from) «data».old)) }
-{
-    let widening = get_widening(from, to, bits);
-    expand_by_sizes(widening, data, start, entries)
+// What the sets and the width say of each entry's move where its size grows: its size, its level bytes, the zeros between the mark and them,
+// and the bits of a mark in its first byte and of levels in its first level byte.
+#[derive(Drop)]
+struct Widening {
+    from_size: usize,
+    len: usize,
+    zeros: usize,
+    mark_bits: u8,
+    level_bits: u8,
+}
+
+impl Model for Widening {
+    ghost use Rattle.layout.specs.Expand.{Move, Grows};
+
+    ghost Value = { Move };
+
+    ghost view = { λ w. record { from_size = w.from_size; len = w.len; zeros = w.zeros; mark_bits = w.mark_bits; level_bits = w.level_bits } };
+
+    ghost invariant = { λ w. Grows w.from_size w.len w.zeros };
+}
+
+impl Widening {
+    fn new(from: States, to: States, bits: u32) -> Widening
+        requires { (1 ≤ bits) × (mark_of from ≤ mark_of to) × (entry_size bits from ≢ entry_size bits to) }
+        ensures { result ≡ widening_of bits from to }
+    {
+        let old = get_len_and_meta(from, bits);
+        Widening {
+            from_size: entry_size(from, bits),
+            len: old.len,
+            zeros: entry_size(to, bits) - 1 - old.len,
+            mark_bits: mark_bits(from),
+            level_bits: level_bits(from, old.has_meta),
+        }
+    }
+
+    // Lays the entry at p out at q: where they overlap, what is written has been read.
+    #[inline(always)]
+    fn expand_entry(&self, data: &mut [u8], p: usize, q: usize)
+        requires { (p ≤ q) × (q + to_size self.now ≤ length «data».old) }
+        ensures { «data».new ≡ overlay «data».old q (moved_entry self.now (part p self.now.from_size «data».old)) }
+    {
+        let first = p + (self.from_size - self.len);
+        let at = q + (self.zeros + 1);
+        let mark = data[p] & self.mark_bits;
+        let level = data[first] & self.level_bits;
+        move_up(data, first, at, self.len);
+        data[at] = level;
+        zero(data, q + 1, self.zeros);
+        data[q] = mark;
+    }
+
+    // From the last entry to the first: no entry is written over before it is moved.
+    #[inline(always)]
+    fn expand_each(&self, data: &mut [u8], start: usize, entries: usize)
+        requires { start + entries * to_size self.now ≤ length «data».old }
+        ensures { «data».new ≡ overlay «data».old start (moved_entries self.now entries (part start (entries * self.now.from_size) «data».old)) }
+    {
+        for k in (0..entries).rev() {
+            let p = start + k * self.from_size;
+            let q = start + k * (self.len + self.zeros + 1);
+            self.expand_entry(data, p, q);
+        }
+    }
+
+    // With the lengths as literals, for which the loop is compiled apart.
+    #[inline(always)]
+    fn expand_literal<const LEN: usize, const ZEROS: usize>(
+        &self,
+        data: &mut [u8],
+        start: usize,
+        entries: usize,
+    )
+        requires { (start + entries * to_size self.now ≤ length «data».old) × (self.now.len ≡ LEN) × (self.now.zeros ≡ ZEROS) }
+        ensures { «data».new ≡ overlay «data».old start (moved_entries self.now entries (part start (entries * self.now.from_size) «data».old)) }
+    {
+        let literal = Widening {
+            from_size: self.from_size,
+            len: LEN,
+            zeros: ZEROS,
+            mark_bits: self.mark_bits,
+            level_bits: self.level_bits,
+        };
+        literal.expand_each(data, start, entries);
+    }
+
+    // The lengths of Two to Four and Four to Nine at widths that fill bytes, and of Two to Nine at widths of 64, 128 and 256.
+    fn expand_all(&self, data: &mut [u8], start: usize, entries: usize)
+        requires { start + entries * to_size self.now ≤ length «data».old }
+        ensures { «data».new ≡ overlay «data».old start (moved_entries self.now entries (part start (entries * self.now.from_size) «data».old)) }
+    {
+        match (self.len, self.zeros) {
+            (8, 8) => self.expand_literal::<8, 8>(data, start, entries),
+            (16, 16) => self.expand_literal::<16, 16>(data, start, entries),
+            (32, 32) => self.expand_literal::<32, 32>(data, start, entries),
+            (64, 64) => self.expand_literal::<64, 64>(data, start, entries),
+            (8, 24) => self.expand_literal::<8, 24>(data, start, entries),
+            (16, 48) => self.expand_literal::<16, 48>(data, start, entries),
+            (32, 96) => self.expand_literal::<32, 96>(data, start, entries),
+            _ => self.expand_each(data, start, entries),
+        }
+    }
 }
 
 // Where the size stays nothing moves.
@@ -182,5 +150,5 @@ pub fn expand_entries(
     if entry_size(from, bits) == entry_size(to, bits) {
         return;
     }
-    expand_all(from, to, data, start, entries, bits);
+    Widening::new(from, to, bits).expand_all(data, start, entries);
 }
