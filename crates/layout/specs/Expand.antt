@@ -4,6 +4,7 @@ use Rattle.std.specs.Prelude.{ℕ, zero, suc, ◌+◌, ◌-◌, ◌*◌, ◌≤�
 use Rattle.std.specs.Int.Bits.{bit_and}
 use Rattle.value.specs.declared.States.{States}
 use Rattle.value.specs.declared.States.TheVariants.{Two, Four, Nine}
+use Rattle.value.specs.Slice.{part, overlay}
 use Rattle.value.specs.Level.{mark_of, len_of}
 use Rattle.layout.specs.Entry.{has_meta, entry_size}
 
@@ -52,6 +53,10 @@ moved_entry m v = bit_and (get_or v 0 0) m.mark_bits ∷ (replicate m.zeros 0 ++
 unfoldable pub moved_entries : Move → ℕ → List ℕ → List ℕ
 moved_entries m zero bytes = []
 moved_entries m (suc n) bytes = moved_entry m (take m.from_size bytes) ++ moved_entries m n (drop m.from_size bytes)
+
+-- n entries from a start, each moved
+abbrev pub all_moved : Move → ℕ → ℕ → List ℕ → List ℕ
+all_moved m start n bytes = overlay bytes start (moved_entries m n (part start (n * m.from_size) bytes))
 
 -- an entry has level bytes, and is not longer than in its new place
 pub record Grows (from_size len zeros : ℕ) : Type 0 where
