@@ -14,12 +14,11 @@ use Rattle.value.proofs.Slices.{part_length, part_at, overlay_part, overlay_snoc
 use Rattle.fst.specs.declared.Encoding.{Encoding}
 use Rattle.fst.specs.declared.Encoding.TheVariants.{BitVector}
 use Rattle.fst.specs.declared.Description.{Description}
-use Rattle.fst.specs.declared.Added.{Added}
 use Rattle.std.specs.Prelude.{None, Some}
 use Rattle.fst.specs.Refusal.{tried, Outcome}
 use Rattle.fst.specs.Record.{Lent, Kept, Recorder, kept_in, width_stands, is_bad, described}
-use Rattle.fst.specs.Change.{Change, is_other_kind, is_other_length, is_foreign, is_below_last, with_change, lacks_room, refusals, in_hand, stored, add_change, left_by}
-use Rattle.fst.specs.Adding.{Admitted, last_in}
+use Rattle.fst.specs.Change.{Change, is_other_kind, is_other_length, is_foreign, is_below_last, with_change, lacks_room, refusals, in_hand, stored, add_change}
+use Rattle.fst.specs.Adding.{Admitted, Adds, added, last_in, left_with}
 use Rattle.fst.proofs.Records.{Standing}
 
 -- ---- a width
@@ -36,10 +35,6 @@ unfolding width_stands
 width_any w M N h = h
 
 -- ---- a refusal, and an acceptance
-
--- an answer beside slices
-pub beside : {bytes indices : List ℕ} {r s : Added} → r ≡ s → left_by r bytes indices ≡ left_by s bytes indices
-beside {bytes} {indices} e = ap (λ (r : Added). left_by r bytes indices) e
 
 -- refused with a number, and everything as it was
 abbrev pub refused_with : Description → Lent → ℕ → Outcome (Recorder Description)
@@ -93,19 +88,27 @@ module _ {d : Description} {l : Lent} {i : ℕ} {c : Change} (a : Admitted d l i
   unfolding add_change refusals tried
   gives_7 h = rw (a.sound, a.kind, a.long, a.known, a.rises, e, h)
 
+  pub left_change : left_with d l k ≡ add_change d l i c
+  unfolding left_with add_change refusals tried
+  left_change = rw (a.sound, a.kind, a.long, a.known, a.rises, e)
+
   pub accepted : {r : Recorder Description} → stored l k ≡ r → lacks_room k l ≡ false → accepted_with r ≡ add_change d l i c
   unfolding add_change refusals tried
   accepted s h = rw (a.sound, a.kind, a.long, a.known, a.rises, e, h, s)
 
+pub left_added : {d : Description} {l : Lent} {i : ℕ} {c : Change} {new : List ℕ} {again : Bool} → Adds d l i c new again → left_with d l (added d l i new again) ≡ add_change d l i c
+left_added a = left_change a.admitted a.is
+
 -- ---- the last index kept
 
-pub last_none : (n : ℕ) (l : List ℕ) → n ≡ 0 → None ≡ last_in n l
+pub last_none : (n : ℕ) (l : List ℕ) → (1 ≤ n → ⊥) → None ≡ last_in n l
 unfolding last_in
-last_none n l e = rw e
+last_none zero l h = refl
+last_none (suc n) l h = absurd (h (omega arith))
 
-pub last_some : (n : ℕ) (l : List ℕ) (start : ℕ) → (n ≡ 0 → ⊥) → Some (get_or l (start + (n - 1)) 0) ≡ last_in n (part start n l)
+pub last_some : (n : ℕ) (l : List ℕ) (start : ℕ) → 1 ≤ n → Some (get_or l (start + (n - 1)) 0) ≡ last_in n (part start n l)
 unfolding last_in
-last_some zero l start h = absurd (h refl)
+last_some zero l start h = absurd (omega arith)
 last_some (suc m) l start h =
     let e : start + (suc m - 1) ≡ start + m = omega arith in
     ap Some (ap (λ (k : ℕ). get_or l k 0) e ∙ sym (part_at l start (suc m) m 0 (let h : m < suc m = omega arith in h)))

@@ -2,7 +2,7 @@
 -- Assumes nothing.
 use mathlib.Core.Path.{◌≡◌, refl, sym, ap, ◌∙◌}
 use mathlib.Core.Bool.{Bool, true, false, not, ◌&&◌}
-use mathlib.Core.List.{List, [], ◌∷◌, ◌++◌, reverse, append-nil}
+use mathlib.Core.List.{List, [], reverse, append-nil}
 use Prim.Native.Nat.{ℕ, ◌+◌, ◌-◌, ◌*◌, ◌≤◌, ◌<◌}
 use native.Mathlib.Nat.{suc-mul}
 use native.Mathlib.Numerals.{add-one}
@@ -13,15 +13,18 @@ use lib.ListN.{length, set}
 use Rattle.value.specs.Digits.{digits}
 use Rattle.value.specs.Slice.{part, overlay}
 use Rattle.value.proofs.Tests.{by_eq}
-use Rattle.value.proofs.Slices.{overlay_nil, overlay_part}
+use Rattle.value.proofs.Slices.{overlay_part}
 use Rattle.fst.specs.declared.Encoding.TheVariants.{Event, Real}
 use Rattle.fst.specs.declared.Description.{Description}
-use Rattle.fst.specs.Record.{Lent, Kept, Recorder, maximum, size_of, used_size, kept_in, fits_bytes, fits, described}
-use Rattle.fst.specs.Change.{Change, text, real, is_other_kind, is_other_length, is_foreign, appended, changed, with_change, lacks_room, in_hand, stored, add_change}
-use Rattle.entries.specs.Repeats.{repeats}
-use Rattle.fst.specs.Adding.{Admitted}
-use Rattle.fst.proofs.Records.{fits_room, Standing, standing, indices_used}
-use Rattle.fst.proofs.Adding.{refused_with, accepted_with, Suited, gives_3, gives_4, gives_7, accepted, indices_kept, stored_same, count_more, stored_behind}
+use Rattle.fst.specs.Record.{Lent, Recorder, maximum, size_of, used_size, kept_in, fits_bytes, fits, described}
+use Rattle.fst.specs.Change.{text, real, is_other_kind, is_other_length, is_foreign, appended, changed, lacks_room, in_hand, stored, add_change}
+use Rattle.fst.specs.Adding.{Admitted, Adds, added, left_with}
+use Rattle.fst.specs.Refusal.{tried}
+use Rattle.entries.specs.Repeatable.{repeats_plain}
+use Rattle.value.proofs.Digits.{digits_length}
+use Rattle.std.proofs.lemmas.List.{length-reverse}
+use Rattle.fst.proofs.Records.{fits_room, Standing, indices_used}
+use Rattle.fst.proofs.Adding.{refused_with, accepted_with, Suited, gives_3, gives_4, stored_same, count_more, stored_behind}
 
 -- is there no room for one entry more
 abbrev pub is_full : Description → Lent → Bool
@@ -85,15 +88,7 @@ roomier {d} {l} size e h =
     let z : (d.count + 1) * size ≡ d.count * size + size = ap (λ (n : ℕ). n * size) (add-one d.count) ∙ suc-mul d.count size in
     record { bytes = omega arith; index = omega (arith, f.indices) }
 
--- ---- a change that is dropped, and one that is kept as some bytes behind the others, with its index
-
-abbrev pub behind : Description → Lent → ℕ → List ℕ → Kept
-behind d l i new =
-    record {
-      encoding = d.encoding;
-      bytes = part l.byte_start (used_size d) l.bytes ++ new;
-      indices = indices_kept l d.count ++ (i ∷ []);
-    }
+-- ---- an entry behind the others, or none
 
 -- what is left then, of entries of a size
 abbrev pub left_more : Description → Lent → ℕ → ℕ → List ℕ → Recorder Description
@@ -104,23 +99,24 @@ left_more d l size i new =
       indices = set l.indices (l.index_start + d.count) i;
     }
 
-module _ {d : Description} {l : Lent} {i : ℕ} {c : Change} (a : Admitted d l i c) where
-  pub dropped : with_change (kept_in d l) i c ≡ kept_in d l → accepted_with (in_hand d l) ≡ add_change d l i c
-  dropped e = accepted a e (same_stored (standing a.sound)) (same_room (standing a.sound))
+module _ {d : Description} {l : Lent} (s : Standing d l) (i : ℕ) (new : List ℕ) where
+  pub append_same : {again : Bool} → again ≡ true → accepted_with (in_hand d l) ≡ left_with d l (added d l i new again)
+  unfolding left_with tried
+  append_same e = rw (e, same_room s, same_stored s)
 
-  module _ (new : List ℕ) (kept : with_change (kept_in d l) i c ≡ behind d l i new) where
-    room_told : lacks_room (behind d l i new) l ≡ is_full d l
-    room_told = ap (λ (n : ℕ). not (fits d.encoding n l)) (count_more l d.encoding d.count i (standing a.sound).room.indices)
+  room_told : lacks_room (added d l i new false) l ≡ is_full d l
+  room_told = ap (λ (n : ℕ). not (fits d.encoding n l)) (count_more l d.encoding d.count i s.room.indices)
 
-    pub kept_full : is_full d l ≡ true → refused_with d l 7 ≡ add_change d l i c
-    kept_full h = gives_7 a kept (room_told ∙ h)
+  pub append_full : {again : Bool} → again ≡ false → is_full d l ≡ true → refused_with d l 7 ≡ left_with d l (added d l i new again)
+  unfolding left_with tried
+  append_full e h = rw (e, room_told, h)
 
-    pub kept_more : (size : ℕ) → size_of d.encoding ≡ size → is_full d l ≡ false → accepted_with (left_more d l size i new) ≡ add_change d l i c
-    kept_more size e h =
-        ap (λ (k : ℕ). accepted_with (left_more d l k i new)) (sym e)
-        ∙ accepted a kept
-        (stored_behind l d.encoding d.count (used_size d) i new (standing a.sound).room.bytes (roomier size e h).index)
-        (room_told ∙ h)
+  pub append_more : {again : Bool} → again ≡ false → (size : ℕ) → size_of d.encoding ≡ size → is_full d l ≡ false
+      → accepted_with (left_more d l size i new) ≡ left_with d l (added d l i new again)
+  unfolding left_with tried
+  append_more a size e h =
+      ap (λ (k : ℕ). accepted_with (left_more d l k i new)) (sym e)
+      ∙ rw (a, room_told, h, stored_behind l d.encoding d.count (used_size d) i new s.room.bytes (roomier size e h).index)
 
 -- ---- an event
 
@@ -138,19 +134,9 @@ module _ {d : Description} {l : Lent} (s : Standing d l) (event : d.encoding ≡
   event_suited short = record { standing = s; kind = event_kind; long = rw (event, le-ltb 1 (length v) short); known = rw event }
 
   -- every change is kept, with no bytes
-  pub event_kept : with_change (kept_in d l) i (text v) ≡ behind d l i []
+  pub event_adds : Admitted d l i (text v) → Adds d l i (text v) [] false
   unfolding kept_in changed
-  event_kept = rw (event, append-nil)
-
-  pub event_more : Admitted d l i (text v) → is_full d l ≡ false
-      → accepted_with (record { description = described d.encoding (d.count + 1); bytes = l.bytes; indices = set l.indices (l.index_start + d.count) i })
-      ≡ add_change d l i (text v)
-  event_more a h =
-      ap
-      (λ (b : List ℕ).
-      accepted_with (record { description = described d.encoding (d.count + 1); bytes = b; indices = set l.indices (l.index_start + d.count) i }))
-      (sym (overlay_nil l.bytes (l.byte_start + d.count * 0)))
-      ∙ kept_more a [] event_kept 0 (ap size_of event) h
+  event_adds a = record { admitted = a; sized = sym (ap size_of event); is = rw (event, append-nil) }
 
 -- ---- a real
 
@@ -162,21 +148,15 @@ real_gives_3 s e i v = gives_3 s i (text v) (rw e)
 abbrev pub real_bytes : ℕ → List ℕ
 real_bytes x = reverse (digits 256 8 x)
 
+pub real_length : (x : ℕ) → length (real_bytes x) ≡ 8
+real_length x = length-reverse (digits 256 8 x) ∙ digits_length 256 8 x
+
 module _ {d : Description} {l : Lent} (s : Standing d l) (isReal : d.encoding ≡ Real) (i x : ℕ) where
   pub real_suited : Suited d l (real x)
   unfolding is_other_kind is_other_length is_foreign
   real_suited = record { standing = s; kind = rw isReal; long = rw isReal; known = rw isReal }
 
-  pub real_room : l.byte_start + d.count * 8 ≤ length l.bytes
-  real_room = rw isReal at s.room.bytes
-
-  abbrev repeated : Bool
-  repeated = repeats 8 d.count (part l.byte_start (d.count * 8) l.bytes) (real_bytes x)
-
-  pub real_kept : false ≡ repeated → with_change (kept_in d l) i (real x) ≡ behind d l i (real_bytes x)
+  pub real_adds : Admitted d l i (real x) → Adds d l i (real x) (real_bytes x) (repeats_plain (real_bytes x) l.byte_start d.count l.bytes)
   unfolding kept_in changed appended
-  real_kept e = rw (isReal, indices_used s, ← e)
-
-  pub real_same : true ≡ repeated → with_change (kept_in d l) i (real x) ≡ kept_in d l
-  unfolding kept_in changed appended
-  real_same e = rw (isReal, indices_used s, ← e)
+  real_adds a =
+      record { admitted = a; sized = real_length x ∙ sym (ap size_of isReal); is = rw (isReal, indices_used s, real_length x) }

@@ -19,8 +19,6 @@ use Rattle.value.proofs.Levels as levels
 use Rattle.value.proofs.Classes.{foreign_told, least_told}
 use Rattle.value.proofs.Slices.{part_length}
 use Rattle.wavemem.specs.Packed.{Codes}
-use Rattle.wavemem.specs.Scan.{ToldFor}
-use Rattle.wavemem.specs.declared.short.Scanned.{Scanned}
 use Rattle.fst.specs.declared.Encoding.{Encoding}
 use Rattle.fst.specs.declared.Encoding.TheVariants.{BitVector}
 use Rattle.fst.specs.declared.Description.{Description}
@@ -29,14 +27,12 @@ use Rattle.layout.specs.Writable.{Writable, entry_from}
 use Rattle.layout.specs.Expand.{Widenable}
 use Rattle.fst.specs.Record.{Lent, Kept, Recorder, size_of, kept_in, width_stands, fits, described}
 use Rattle.fst.specs.Change.{text, is_other_kind, is_other_length, is_foreign, appended, changed, with_change, lacks_room, add_change}
-use Rattle.fst.specs.Adding.{Admitted, AdmittedString, ShortEntry}
+use Rattle.fst.specs.Adding.{Admitted, AdmittedString, Adds}
 use Rattle.entries.specs.Repeatable.{Repeatable, repeats_plain, repeats_widened}
 use Rattle.layout.proofs.Sizes.{widen_all_same, widen_all_length}
-use Rattle.layout.proofs.Numbers.{one_word}
 use Rattle.layout.proofs.Entries.{sized}
-use Rattle.entries.specs.Repeats.{repeats}
 use Rattle.fst.proofs.Records.{Fits, fits_room, Standing, standing, indices_used}
-use Rattle.fst.proofs.AddingPlain.{behind, Roomier}
+use Rattle.fst.proofs.AddingPlain.{Roomier}
 use Rattle.fst.proofs.Adding.{width_known, width_any, refused_with, accepted_with, Suited, gives_4, gives_5, gives_7, accepted, indices_kept, stored_same, count_more, stored_more}
 
 -- ---- numbers 4 to 6
@@ -233,11 +229,6 @@ module _ {d : Description} {l : Lent} {i : ℕ} {s : List ℕ} {M own : States} 
         let p = same_repeatable in
         record { under = p.under; codes = p.codes; wide = p.wide; short = p.short; fits = omega arith }
 
-    -- the levels of a short entry are told by a scan
-    pub levels_told : (size : ℕ) (r : Scanned) → size ≡ entry_size (length s) M → r.states ≡ own → ToldFor s size r → ShortEntry M own s size r.levels
-    levels_told size r e a t =
-        record { sized = e; is = λ h. rw a at (t.levels) h (one_word entry_writable (omega arith)).short }
-
     pub size_here : {size : ℕ} → size ≡ entry_size (length s) M → size_of d.encoding ≡ size
     size_here e = ap size_of v.vector ∙ sym e
 
@@ -251,21 +242,19 @@ module _ {d : Description} {l : Lent} {i : ℕ} {s : List ℕ} {M own : States} 
         let p = same_repeatable in
         record { under = p.under; codes = p.codes; wide = p.wide; short = p.short; fits = omega (arith, e) }
 
-    -- the bytes as they are, and whether their last entry is the string's
+    -- the bytes as they are
     abbrev kept_bytes : List ℕ
     kept_bytes = part l.byte_start (d.count * entry_size (length s) M) l.bytes
 
     stay : widen_all (length s) M M d.count kept_bytes ≡ kept_bytes
     stay = widen_all_same (length s) M M refl d.count kept_bytes (part_length l.bytes l.byte_start _ room_here)
 
-    module _ {new : List ℕ} (entry : new ≡ entry_from M own s) where
-      repeated : {r : Bool} → r ≡ repeats_plain new l.byte_start d.count l.bytes → r ≡ repeats (entry_size (length s) M) d.count kept_bytes (entry_from M own s)
-      repeated h = let z = entry_long entry ∙ ap size_of v.vector in rw z at h ∙ rw entry
-
-      pub append_kept : false ≡ repeats_plain new l.byte_start d.count l.bytes → with_change (kept_in d l) i (text s) ≡ behind d l i new
-      unfolding kept_in changed appended
-      append_kept h = let e = repeated h in rw (v.vector, indices_used string_standing, ← v.least, ← joined, stay, ← e, entry)
-
-      pub append_same : true ≡ repeats_plain new l.byte_start d.count l.bytes → with_change (kept_in d l) i (text s) ≡ kept_in d l
-      unfolding kept_in changed appended
-      append_same h = let e = repeated h in rw (v.vector, indices_used string_standing, ← v.least, ← joined, stay, ← e)
+    pub text_adds : {new : List ℕ} → new ≡ entry_from M own s → Adds d l i (text s) new (repeats_plain new l.byte_start d.count l.bytes)
+    unfolding kept_in changed appended
+    text_adds e =
+        let z = entry_long e in
+        record {
+          admitted = v.admitted;
+          sized = z;
+          is = rw (z, e, v.vector, indices_used string_standing, ← v.least, ← joined, stay);
+        }

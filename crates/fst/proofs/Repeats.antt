@@ -19,7 +19,8 @@ use Rattle.entries.specs.Repeats.{repeats}
 use Rattle.fst.specs.Adding.{Admitted}
 use Rattle.layout.proofs.Sizes.{widen_all_same}
 use Rattle.fst.proofs.Records.{Standing, standing, bytes_used, indices_used}
-use Rattle.fst.proofs.AddingPlain.{same_room, dropped}
+use Rattle.fst.proofs.Adding.{accepted}
+use Rattle.fst.proofs.AddingPlain.{same_room, same_stored}
 
 -- a change whose bytes equal those of the last of n entries, and that raises no set
 abbrev pub IsRepeat : Encoding → ℕ → List ℕ → Change → Type 0
@@ -61,7 +62,9 @@ module _ (d : Description) (l : Lent) (i : ℕ) (c : Change) (again : IsRepeat d
 
   -- it is accepted, and everything stays as it was
   pub repeat_accepted : Admitted d l i c → add_change d l i c ≡ record { refused = 0; left = in_hand d l }
-  repeat_accepted a = sym (dropped a (repeat_kept (standing a.sound)))
+  repeat_accepted a =
+      let s = standing a.sound in
+      sym (accepted a (repeat_kept s) (same_stored s) (same_room s))
 
   -- whatever else is wrong with the call
   pub never_7 : (add_change d l i c).refused ≡ 7 → ⊥

@@ -1,6 +1,6 @@
 -- Document 01, "Add a change".
 -- Assumes nothing.
-use Rattle.std.specs.Prelude.{ℕ, zero, suc, Bool, true, false, cond, not, List, [], ◌∷◌, ◌++◌, reverse, eqb, ltb, length, get_or}
+use Rattle.std.specs.Prelude.{ℕ, zero, suc, Bool, true, false, cond, not, List, [], ◌∷◌, ◌++◌, reverse, eqb, ltb, length, get_or, Result, Ok, Err}
 use Rattle.value.specs.Digits.{digits}
 use Rattle.value.specs.Slice.{overlay}
 use Rattle.value.specs.Level.{fold_all, codes_of, has_no_code, least_of, join}
@@ -8,6 +8,7 @@ use Rattle.fst.specs.declared.Encoding.{Encoding}
 use Rattle.fst.specs.declared.Encoding.TheVariants.{Event, Real, BitVector}
 use Rattle.fst.specs.declared.Description.{Description}
 use Rattle.fst.specs.declared.Added.{Added}
+use Rattle.fst.specs.declared.Refusal.{Refusal}
 use Rattle.fst.specs.Refusal.{number_of, Test, ◌⇐◌, given, tried, Outcome, outcome}
 use Rattle.layout.specs.Entry.{entry_of, widen_all}
 use Rattle.entries.specs.Repeats.{repeats}
@@ -101,6 +102,11 @@ stored l k =
 
 unfoldable pub add_change : Description → Lent → ℕ → Change → Outcome (Recorder Description)
 add_change d l i c = outcome (in_hand d l) (tried (refusals d l i c) (given (stored l (with_change (kept_in d l) i c))))
+
+-- the answer of a call that makes the next description, or refuses: then the description is as it was
+abbrev pub answered : Description → Result Description Refusal → Added
+answered d (Ok next) = record { verdict = Ok tt; next = next }
+answered d (Err r) = record { verdict = Err r; next = d }
 
 -- what a call leaves, by its answer and the slices as they are then
 abbrev pub left_by : Added → List ℕ → List ℕ → Outcome (Recorder Description)

@@ -7,6 +7,8 @@ use Rattle.value.specs.Slice.{part}
 use Rattle.fst.specs.declared.Encoding.{Encoding}
 use Rattle.fst.specs.declared.Encoding.TheVariants.{Event, Real, BitVector}
 use Rattle.fst.specs.declared.Description.{Description}
+use Rattle.fst.specs.declared.record.Slices.{Slices}
+use Rattle.fst.specs.declared.record.SlicesMut.{SlicesMut}
 use Rattle.fst.specs.Refusal.{Reply, given, ◌⇐◌, tried}
 use Rattle.layout.specs.Entry.{entry_size}
 
@@ -26,6 +28,12 @@ pub record Lent : Type 0 where
 
 abbrev pub lent : List ℕ → ℕ → List ℕ → ℕ → Lent
 lent bytes byte_start indices index_start = record { bytes = bytes; byte_start = byte_start; indices = indices; index_start = index_start }
+
+abbrev pub lent_in : Slices → Lent
+lent_in s = lent s.bytes.now s.byte_start s.indices.now s.index_start
+
+abbrev pub lent_mut : SlicesMut → Lent
+lent_mut s = lent s.bytes.now s.byte_start s.indices.now s.index_start
 
 -- a record by itself: its encoding and its used part. Its count is the number of its time indices.
 pub record Kept : Type 0 where

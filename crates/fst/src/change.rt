@@ -2,13 +2,11 @@
 ghost use Rattle.std.specs.Prelude.{◌≡◌, cond, false, ◌+◌, ◌≤◌, length};
 ghost use Rattle.value.specs.Slice.{part};
 ghost use Rattle.fst.specs.declared.Encoding.TheVariants as encoding;
-ghost use Rattle.value.specs.Level.{mark_of};
-ghost use Rattle.layout.specs.Entry.{entry_size};
-ghost use Rattle.fst.specs.Record.{maximum, is_bad, lent};
-ghost use Rattle.fst.specs.Change.{text, is_below_last, add_change, left_by};
-ghost use Rattle.fst.specs.Adding.{last_in, AdmittedString, ShortEntry};
+ghost use Rattle.fst.specs.Record.{maximum, size_of, is_bad, lent, lent_in, lent_mut};
+ghost use Rattle.fst.specs.Change.{text, is_below_last, add_change, left_by, answered};
+ghost use Rattle.fst.specs.Adding.{last_in, added, left_with, Admits, AdmittedString};
 
-use crate::record::{exceeds, is_bad, is_bad_vector, lacks_room};
+use crate::record::{Slices, SlicesMut, exceeds, is_bad, is_bad_vector, lacks_room};
 use crate::{Added, Description, Encoding, Refusal};
 use entries::{repeats_entry, repeats_last};
 use layout::entry::{entry_size, write_entry};
@@ -16,297 +14,277 @@ use layout::expand::expand_entries;
 use layout::number::NewEntry;
 use value::States;
 use wavemem::scan::scan;
+use wavemem::short::Scanned;
 
-// The size of a string's entry, and the number of its levels where that is at most eight bytes.
-#[derive(Clone, Copy)]
-struct ShortLevels {
-    size: usize,
-    levels: u64,
+// What a change adds to a record: bytes, which may repeat the last of some entries that are as long.
+pub trait Entry {
+    ghost use Rattle.std.specs.Prelude.{◌≡◌, ◌+◌, ◌*◌, ◌≤◌, ℕ, Bool, List, length};
+    ghost use Rattle.value.specs.Slice.{overlay};
+
+    ghost stored: { Self → List ℕ };
+
+    ghost again: { Self → ℕ → ℕ → List ℕ → Bool };
+
+    fn len(&self) -> usize
+        ensures { result ≡ length (stored self.now) };
+
+    fn repeats(&self, bytes: &[u8], byte_start: usize, count: u32) -> bool
+        requires { byte_start + count * length (stored self.now) ≤ length bytes.now }
+        ensures { result ≡ again self.now byte_start count bytes.now };
+
+    fn write(&self, out: &mut [u8], at: usize)
+        requires { at + length (stored self.now) ≤ length out.old }
+        ensures { out.new ≡ overlay out.old at (stored self.now) };
 }
 
-pub fn accepted(next: Description) -> Added
-    ensures { result ≡ record { verdict = Ok tt; next = next } }
-{
-    Added {
-        verdict: Ok(()),
-        next,
+impl Entry for NewEntry<'_> {
+    ghost use Rattle.entries.specs.Repeatable.{repeats_plain};
+
+    ghost stored = { λ e. e };
+
+    ghost again = { repeats_plain };
+
+    #[inline(always)]
+    fn len(&self) -> usize {
+        self.len()
+    }
+
+    #[inline(always)]
+    fn repeats(&self, bytes: &[u8], byte_start: usize, count: u32) -> bool {
+        repeats_entry(self, bytes, byte_start, count)
+    }
+
+    #[inline(always)]
+    fn write(&self, out: &mut [u8], at: usize) {
+        self.write(out, at)
     }
 }
 
-pub fn refused(description: Description, refusal: Refusal) -> Added
-    ensures { result ≡ record { verdict = Err refusal; next = description } }
-{
-    Added {
-        verdict: Err(refusal),
-        next: description,
+// What a string adds to a record whose calls numbers 2 to 6 let through.
+#[derive(Drop)]
+enum Addition<'a> {
+    Event,
+    Entry(NewEntry<'a>),
+    Raised { max_states: States, states: States },
+}
+
+// An event's entry: no bytes, and every change is kept.
+#[derive(Drop)]
+struct Event;
+
+impl Entry for Event {
+    ghost use Rattle.std.specs.Prelude.{[], false};
+
+    ghost stored = { λ _. [] };
+
+    ghost again = { λ _ _ _ _. false };
+
+    fn len(&self) -> usize {
+        0
     }
-}
 
-fn last_index(indices: &[u32], index_start: usize, count: u32) -> Option<u32>
-    requires { index_start + count ≤ length indices.now }
-    ensures { result ≡ last_in count (part index_start count indices.now) }
-{
-    if 0 < count {
-        let last = indices[index_start + (count as usize - 1)];
-        return Some(last);
+    fn repeats(&self, bytes: &[u8], byte_start: usize, count: u32) -> bool {
+        false
     }
-    None
+
+    fn write(&self, out: &mut [u8], at: usize) {}
 }
 
-pub fn is_below_last(index: u32, indices: &[u32], index_start: usize, count: u32) -> bool
-    requires { index_start + count ≤ length indices.now }
-    ensures { result ≡ is_below_last index count (part index_start count indices.now) }
-{
-    let kept = last_index(indices, index_start, count);
-    let Some(last) = kept else {
-        return false;
-    };
-    index < last
-}
+impl Slices<'_> {
+    fn last_index(self, count: u32) -> Option<u32>
+        requires { self.index_start + count ≤ length self.indices.now }
+        ensures { result ≡ last_in count (part self.entry.index_start count self.entry.indices.now) }
+    {
+        let before = count.checked_sub(1)?;
+        Some(self.indices[self.index_start + before as usize])
+    }
 
-fn next_count(count: u32, repeat: bool) -> u32
-    requires { count ≤ maximum }
-    ensures { result ≡ cond repeat count (count + 1) }
-{
-    if repeat { count } else { count + 1 }
+    pub fn is_below_last(self, index: u32, count: u32) -> bool
+        requires { self.index_start + count ≤ length self.indices.now }
+        ensures { result ≡ is_below_last index count (part self.entry.index_start count self.entry.indices.now) }
+    {
+        let Some(last) = self.last_index(count) else {
+            return false;
+        };
+        index < last
+    }
 }
 
 impl Description {
-    // Number 7, and what is stored, of a string of any set. The room is that of the record with the change. The description is set anew: one that
-    // is only passed on would go through memory in every arm of Add a change.
-    fn raise_levels(
+    // After a refusal the description is as it was.
+    pub fn answer(self, made: Result<Description, Refusal>) -> Added
+        ensures { result ≡ answered self made }
+    {
+        match made {
+            Ok(next) => Added {
+                verdict: Ok(()),
+                next,
+            },
+            Err(refusal) => Added {
+                verdict: Err(refusal),
+                next: self,
+            },
+        }
+    }
+
+    // Number 7, and what is stored, of a change that moves no entry: it is behind the others, unless it repeats the last.
+    #[inline(always)]
+    pub fn append<E: Entry>(
         mut self,
+        slices: SlicesMut<'_>,
+        index: u32,
+        entry: &E,
+    ) -> Result<Description, Refusal>
+        requires { (is_bad self (lent_mut slices) ≡ false) × (length (E.stored entry.now) ≡ size_of self.encoding) }
+        ensures { left_by (answered self result) slices.exit.0.now slices.exit.1.0.now ≡ left_with self (lent_mut slices.entry) (added self (lent_mut slices.entry) index (E.stored entry.now) (E.again entry.now slices.entry.byte_start self.count slices.entry.bytes.now)) }
+    {
+        let seen = slices.shared();
+        if entry.repeats(seen.bytes, seen.byte_start, self.count) {
+            return Ok(self);
+        }
+        let size = entry.len();
+        if lacks_room(self, size, seen) {
+            return Err(Refusal::NoRoom);
+        }
+        let before = self.count as usize;
+        self.count += 1;
+        let SlicesMut {
+            bytes,
+            indices,
+            byte_start,
+            index_start,
+        } = slices;
+        entry.write(bytes, byte_start + before * size);
+        indices[index_start + before] = index;
+        Ok(self)
+    }
+
+    // Number 7, and what is stored, of a string of any set. The room is that of the record with the change.
+    fn raise(
+        mut self,
+        slices: SlicesMut<'_>,
+        index: u32,
         max_states: States,
         states: States,
-        bytes: &mut [u8],
-        byte_start: usize,
-        indices: &mut [u32],
-        index_start: usize,
-        index: u32,
         value: &[u8],
-    ) -> Added
-        requires { AdmittedString self (lent bytes.old byte_start indices.old index_start) index max_states states value.now }
-        ensures { left_by result bytes.new indices.new ≡ add_change self (lent bytes.old byte_start indices.old index_start) index (text value.now) }
+    ) -> Result<Description, Refusal>
+        requires { AdmittedString self (lent_mut slices) index max_states states value.now }
+        ensures { left_by (answered self result) slices.exit.0.now slices.exit.1.0.now ≡ add_change self (lent_mut slices.entry) index (text value.now) }
     {
+        let seen = slices.shared();
         let width = value.len() as u32;
         let count = self.count;
         let joint = States::join(max_states, states);
-        let repeat = repeats_last(max_states, joint, states, value, bytes, byte_start, count);
+        let repeat = repeats_last(
+            max_states,
+            joint,
+            states,
+            value,
+            seen.bytes,
+            seen.byte_start,
+            count,
+        );
         let encoding = Encoding::BitVector {
             width,
             max_states: joint,
         };
         let total = next_count(count, repeat);
-        let before = self;
         self = Description::new(encoding, total);
-        if exceeds(self, bytes, byte_start, indices, index_start) {
-            return refused(before, Refusal::NoRoom);
+        if exceeds(self, seen) {
+            return Err(Refusal::NoRoom);
         }
+        let SlicesMut {
+            bytes,
+            indices,
+            byte_start,
+            index_start,
+        } = slices;
         let entries = count as usize;
         expand_entries(max_states, joint, bytes, byte_start, entries, width);
         if repeat {
-            return accepted(self);
+            return Ok(self);
         }
         let at = byte_start + entries * entry_size(joint, width);
         write_entry(joint, states, value, bytes, at);
         indices[index_start + entries] = index;
-        accepted(self)
+        Ok(self)
     }
 
-    // A string that raises no set leaves the entries as they are, and needs no room where it is a repeat.
-    fn append_levels(
-        mut self,
-        max_states: States,
-        states: States,
-        short: ShortLevels,
-        bytes: &mut [u8],
-        byte_start: usize,
-        indices: &mut [u32],
-        index_start: usize,
-        index: u32,
-        value: &[u8],
-    ) -> Added
-        requires { AdmittedString self (lent bytes.old byte_start indices.old index_start) index max_states states value.now × (mark_of states ≤ mark_of max_states) × ShortEntry max_states states value.now short.size short.levels }
-        ensures { left_by result bytes.new indices.new ≡ add_change self (lent bytes.old byte_start indices.old index_start) index (text value.now) }
-    {
-        let count = self.count;
-        let size = short.size;
-        let entry = NewEntry::with_levels(max_states, states, value, size, Some(short.levels));
-        if repeats_entry(&entry, bytes, byte_start, count) {
-            return accepted(self);
-        }
-        if lacks_room(self, size, bytes, byte_start, indices, index_start) {
-            return refused(self, Refusal::NoRoom);
-        }
-        self.count += 1;
-        let entries = count as usize;
-        let at = byte_start + entries * size;
-        entry.write(bytes, at);
-        indices[index_start + entries] = index;
-        accepted(self)
-    }
-
-    fn add_levels(
+    // Numbers 2, and 4 to 6, of a string for a bit vector. One that raises no set leaves the entries as they are.
+    #[inline(always)]
+    fn admit_levels<'a>(
         self,
-        max_states: States,
-        states: States,
-        short: ShortLevels,
-        bytes: &mut [u8],
-        byte_start: usize,
-        indices: &mut [u32],
-        index_start: usize,
+        slices: Slices<'_>,
         index: u32,
-        value: &[u8],
-    ) -> Added
-        requires { AdmittedString self (lent bytes.old byte_start indices.old index_start) index max_states states value.now × (mark_of states ≤ mark_of max_states → ShortEntry max_states states value.now short.size short.levels) }
-        ensures { left_by result bytes.new indices.new ≡ add_change self (lent bytes.old byte_start indices.old index_start) index (text value.now) }
-    {
-        if max_states.mark() < states.mark() {
-            return self.raise_levels(
-                max_states,
-                states,
-                bytes,
-                byte_start,
-                indices,
-                index_start,
-                index,
-                value,
-            );
-        }
-        self.append_levels(
-            max_states,
-            states,
-            short,
-            bytes,
-            byte_start,
-            indices,
-            index_start,
-            index,
-            value,
-        )
-    }
-
-    // Numbers 4 to 6 of a string for a bit vector.
-    fn add_text(
-        self,
         width: u32,
         max_states: States,
-        size: usize,
-        bytes: &mut [u8],
-        byte_start: usize,
-        indices: &mut [u32],
-        index_start: usize,
-        index: u32,
-        value: &[u8],
-    ) -> Added
-        requires { (is_bad self (lent bytes.old byte_start indices.old index_start) ≡ false) × (self.encoding ≡ encoding.BitVector width max_states) × (size ≡ entry_size width max_states) }
-        ensures { left_by result bytes.new indices.new ≡ add_change self (lent bytes.old byte_start indices.old index_start) index (text value.now) }
-    {
-        if value.len() != width as usize {
-            return refused(self, Refusal::WrongLength);
-        }
-        let Some(scanned) = scan(value, size) else {
-            return refused(self, Refusal::ForeignCharacter);
-        };
-        if is_below_last(index, indices, index_start, self.count) {
-            return refused(self, Refusal::IndexBelowLast);
-        }
-        let short = ShortLevels {
-            size,
-            levels: scanned.levels,
-        };
-        self.add_levels(
-            max_states,
-            scanned.states,
-            short,
-            bytes,
-            byte_start,
-            indices,
-            index_start,
-            index,
-            value,
-        )
-    }
-
-    // Number 2, and the size of the entries.
-    fn add_string(
-        self,
-        width: u32,
-        max_states: States,
-        bytes: &mut [u8],
-        byte_start: usize,
-        indices: &mut [u32],
-        index_start: usize,
-        index: u32,
-        value: &[u8],
-    ) -> Added
+        value: &'a [u8],
+    ) -> Result<Addition<'a>, Refusal>
         requires { self.encoding ≡ encoding.BitVector width max_states }
-        ensures { left_by result bytes.new indices.new ≡ add_change self (lent bytes.old byte_start indices.old index_start) index (text value.now) }
+        ensures { Admits self (lent_in slices.entry) index value.now result }
     {
         let size = entry_size(max_states, width);
-        if is_bad_vector(self, width, size, bytes, byte_start, indices, index_start) {
-            return refused(self, Refusal::BadRecord);
+        if is_bad_vector(self, width, size, slices) {
+            return Err(Refusal::BadRecord);
         }
-        self.add_text(
-            width,
-            max_states,
-            size,
-            bytes,
-            byte_start,
-            indices,
-            index_start,
-            index,
-            value,
-        )
+        if value.len() != width as usize {
+            return Err(Refusal::WrongLength);
+        }
+        let Some(Scanned { states, levels }) = scan(value, size) else {
+            return Err(Refusal::ForeignCharacter);
+        };
+        if slices.is_below_last(index, self.count) {
+            return Err(Refusal::IndexBelowLast);
+        }
+        if max_states.mark() < states.mark() {
+            return Ok(Addition::Raised { max_states, states });
+        }
+        let entry = NewEntry::with_levels(max_states, states, value, size, Some(levels));
+        Ok(Addition::Entry(entry))
     }
 
-    // Numbers 4 to 7 of a string for an event: every change is kept.
-    fn keep_event(
-        mut self,
-        bytes: &[u8],
-        byte_start: usize,
-        indices: &mut [u32],
-        index_start: usize,
-        index: u32,
-        value: &[u8],
-    ) -> Added
-        requires { (is_bad self (lent bytes.now byte_start indices.old index_start) ≡ false) × (self.encoding ≡ encoding.Event) }
-        ensures { left_by result bytes.now indices.new ≡ add_change self (lent bytes.now byte_start indices.old index_start) index (text value.now) }
-    {
-        if 1 < value.len() {
-            return refused(self, Refusal::WrongLength);
-        }
-        if is_below_last(index, indices, index_start, self.count) {
-            return refused(self, Refusal::IndexBelowLast);
-        }
-        let before = self;
-        self.count += 1;
-        if exceeds(self, bytes, byte_start, indices, index_start) {
-            return refused(before, Refusal::NoRoom);
-        }
-        indices[index_start + before.count as usize] = index;
-        accepted(self)
-    }
-
-    fn add_event(
+    // Numbers 2, 4 and 6 of a string for an event.
+    fn admit_event<'a>(
         self,
-        bytes: &[u8],
-        byte_start: usize,
-        indices: &mut [u32],
-        index_start: usize,
+        slices: Slices<'_>,
         index: u32,
-        value: &[u8],
-    ) -> Added
+        value: &'a [u8],
+    ) -> Result<Addition<'a>, Refusal>
         requires { self.encoding ≡ encoding.Event }
-        ensures { left_by result bytes.now indices.new ≡ add_change self (lent bytes.now byte_start indices.old index_start) index (text value.now) }
+        ensures { Admits self (lent_in slices.entry) index value.now result }
     {
-        if is_bad(self, bytes, byte_start, indices, index_start) {
-            return refused(self, Refusal::BadRecord);
+        if is_bad(self, slices) {
+            return Err(Refusal::BadRecord);
         }
-        self.keep_event(bytes, byte_start, indices, index_start, index, value)
+        if 1 < value.len() {
+            return Err(Refusal::WrongLength);
+        }
+        if slices.is_below_last(index, self.count) {
+            return Err(Refusal::IndexBelowLast);
+        }
+        Ok(Addition::Event)
     }
 
-    // Number 2 is tried in each arm, so that a bit vector's size is worked out once.
+    // Numbers 2 to 6. Number 2 is tried in each arm, so that a bit vector's size is worked out once.
+    #[inline(always)]
+    fn admit<'a>(
+        self,
+        slices: Slices<'_>,
+        index: u32,
+        value: &'a [u8],
+    ) -> Result<Addition<'a>, Refusal>
+        ensures { Admits self (lent_in slices.entry) index value.now result }
+    {
+        match self.encoding {
+            Encoding::Event => self.admit_event(slices, index, value),
+            Encoding::Real if is_bad(self, slices) => Err(Refusal::BadRecord),
+            Encoding::Real => Err(Refusal::WrongKind),
+            Encoding::BitVector { width, max_states } => {
+                self.admit_levels(slices, index, width, max_states, value)
+            }
+        }
+    }
+
     pub fn add_change(
         mut self,
         bytes: &mut [u8],
@@ -318,32 +296,27 @@ impl Description {
     ) -> Added
         ensures { left_by result bytes.new indices.new ≡ add_change self (lent bytes.old byte_start indices.old index_start) index (text value.now) }
     {
-        let encoding = self.encoding;
-        match encoding {
-            Encoding::Event => self.add_event(
-                bytes,
-                byte_start,
-                indices,
-                index_start,
-                index,
-                value,
-            ),
-            Encoding::Real => {
-                if is_bad(self, bytes, byte_start, indices, index_start) {
-                    return refused(self, Refusal::BadRecord);
-                }
-                refused(self, Refusal::WrongKind)
+        let slices = SlicesMut {
+            bytes,
+            indices,
+            byte_start,
+            index_start,
+        };
+        let made = match self.admit(slices.shared(), index, value) {
+            Ok(Addition::Event) => self.append(slices, index, &Event),
+            Ok(Addition::Entry(entry)) => self.append(slices, index, &entry),
+            Ok(Addition::Raised { max_states, states }) => {
+                self.raise(slices, index, max_states, states, value)
             }
-            Encoding::BitVector { width, max_states } => self.add_string(
-                width,
-                max_states,
-                bytes,
-                byte_start,
-                indices,
-                index_start,
-                index,
-                value,
-            ),
-        }
+            Err(refusal) => Err(refusal),
+        };
+        self.answer(made)
     }
+}
+
+fn next_count(count: u32, repeat: bool) -> u32
+    requires { count ≤ maximum }
+    ensures { result ≡ cond repeat count (count + 1) }
+{
+    if repeat { count } else { count + 1 }
 }

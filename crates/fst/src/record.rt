@@ -1,7 +1,7 @@
 // Fresh records, and what a description asks of the slices that it is lent with.
 ghost use Rattle.std.specs.Prelude.{◌≡◌, ◌&&◌, not, true, false, ◌+◌, ◌*◌, ◌≤◌, leb, length};
 ghost use Rattle.fst.specs.Refusal.{made_of};
-ghost use Rattle.fst.specs.Record.{maximum, max_width, size_of, width_stands, fits, is_bad_bytes, is_bad, lent, fresh, fresh_real};
+ghost use Rattle.fst.specs.Record.{maximum, max_width, size_of, width_stands, fits, is_bad_bytes, is_bad, lent_in, lent_mut, fresh, fresh_real};
 ghost use Rattle.fst.specs.Adding.{SizedVector};
 
 use crate::{Description, Encoding, Refusal};
@@ -11,6 +11,38 @@ use value::States;
 pub const MAXIMUM: u32 = 1048576;
 
 pub const MAX_WIDTH: u32 = 4096;
+
+// Two lent slices, and where a record starts in each.
+#[derive(Clone, Copy)]
+pub struct Slices<'a> {
+    pub bytes: &'a [u8],
+    pub byte_start: usize,
+    pub indices: &'a [u32],
+    pub index_start: usize,
+}
+
+// Such slices, to be written.
+#[derive(Drop)]
+pub struct SlicesMut<'a> {
+    pub bytes: &'a mut [u8],
+    pub indices: &'a mut [u32],
+    pub byte_start: usize,
+    pub index_start: usize,
+}
+
+impl SlicesMut<'_> {
+    #[inline(always)]
+    pub fn shared(&self) -> Slices<'_>
+        ensures { lent_in result ≡ lent_mut self.now }
+    {
+        Slices {
+            bytes: self.bytes,
+            byte_start: self.byte_start,
+            indices: self.indices,
+            index_start: self.index_start,
+        }
+    }
+}
 
 #[tactic(auto, using(crate::proofs::Rooms::fresh_wide, crate::proofs::Rooms::fresh_event, crate::proofs::Rooms::fresh_vector))]
 pub fn fresh(width: u32) -> Result<Description, Refusal>
@@ -90,75 +122,51 @@ fn lacks_indices(count: u32, indices: &[u32], index_start: usize) -> bool
 }
 
 // Number 2: the same, or more indices than are lent.
-pub fn is_bad(
-    description: Description,
-    bytes: &[u8],
-    byte_start: usize,
-    indices: &[u32],
-    index_start: usize,
-) -> bool
-    ensures { result ≡ is_bad description (lent bytes.now byte_start indices.now index_start) }
+pub fn is_bad(description: Description, slices: Slices<'_>) -> bool
+    ensures { result ≡ is_bad description (lent_in slices.entry) }
 {
-    if is_bad_bytes(description, bytes, byte_start) {
+    if is_bad_bytes(description, slices.bytes, slices.byte_start) {
         return true;
     }
-    lacks_indices(description.count, indices, index_start)
+    lacks_indices(description.count, slices.indices, slices.index_start)
 }
 
 // Number 2 of a bit vector, whose size is worked out once for all that follows.
-pub fn is_bad_vector(
-    description: Description,
-    width: u32,
-    size: usize,
-    bytes: &[u8],
-    byte_start: usize,
-    indices: &[u32],
-    index_start: usize,
-) -> bool
+pub fn is_bad_vector(description: Description, width: u32, size: usize, slices: Slices<'_>) -> bool
     requires { SizedVector description width size }
-    ensures { result ≡ is_bad description (lent bytes.now byte_start indices.now index_start) }
+    ensures { result ≡ is_bad description (lent_in slices.entry) }
 {
     let count = description.count;
-    if is_bad_levels(width, size, count, bytes.len(), byte_start) {
+    if is_bad_levels(width, size, count, slices.bytes.len(), slices.byte_start) {
         return true;
     }
-    lacks_indices(count, indices, index_start)
+    lacks_indices(count, slices.indices, slices.index_start)
 }
 
 // Whether so many entries exceed the maximum or a slice.
-pub fn exceeds(
-    description: Description,
-    bytes: &[u8],
-    byte_start: usize,
-    indices: &[u32],
-    index_start: usize,
-) -> bool
+pub fn exceeds(description: Description, slices: Slices<'_>) -> bool
     requires { width_stands description.encoding ≡ true }
-    ensures { result ≡ not (fits description.encoding description.count (lent bytes.now byte_start indices.now index_start)) }
+    ensures { result ≡ not (fits description.encoding description.count (lent_in slices.entry)) }
 {
-    if is_bad_bytes(description, bytes, byte_start) {
-        return true;
-    }
-    lacks_indices(description.count, indices, index_start)
+    is_bad(description, slices)
 }
 
 // Whether one entry more has no room, where the record is not bad and its entries have a size.
-pub fn lacks_room(
-    description: Description,
-    size: usize,
-    bytes: &[u8],
-    byte_start: usize,
-    indices: &[u32],
-    index_start: usize,
-) -> bool
-    requires { (is_bad description (lent bytes.now byte_start indices.now index_start) ≡ false) × (size ≡ size_of description.encoding) }
-    ensures { result ≡ not (fits description.encoding (description.count + 1) (lent bytes.now byte_start indices.now index_start)) }
+pub fn lacks_room(description: Description, size: usize, slices: Slices<'_>) -> bool
+    requires { (is_bad description (lent_in slices) ≡ false) × (size ≡ size_of description.encoding) }
+    ensures { result ≡ not (fits description.encoding (description.count + 1) (lent_in slices.entry)) }
 {
     let count = description.count;
     if count == MAXIMUM {
         return true;
     }
     let entries = count as usize;
+    let Slices {
+        bytes,
+        byte_start,
+        indices,
+        index_start,
+    } = slices;
     if bytes.len() - (byte_start + entries * size) < size {
         return true;
     }

@@ -1,13 +1,13 @@
 -- `fst::record::is_bad` meets its contract.
 -- Assumes nothing.
 use mathlib.Core.Path.{sym, ◌∙◌}
-use Rattle.fst.specs.Record.{Lent, lent}
+use Rattle.fst.specs.Record.{Lent, lent_in}
 use Rattle.fst.proofs.Rooms.{bad_bytes, by_indices}
 use Rattle.fst.proofs.record.is_bad.Goals.{Start}
 use Rattle.fst.proofs.record.is_bad.Goals as goal
 
 abbrev here : Start → Lent
-here x = lent x.args.bytes.now x.args.byte_start x.args.indices.now x.args.index_start
+here x = lent_in x.args.slices
 
 pub returns-then-is_bad_bytes : goal.returns-then-is_bad_bytes
 returns-then-is_bad_bytes c =

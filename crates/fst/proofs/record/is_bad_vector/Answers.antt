@@ -2,21 +2,21 @@
 -- Assumes nothing.
 use mathlib.Core.Path.{◌≡◌, sym, ◌∙◌}
 use native.Mathlib.Omega.{arith}
-use Rattle.fst.specs.Record.{Lent, lent, is_bad_bytes}
+use Rattle.fst.specs.Record.{Lent, lent_in, is_bad_bytes}
 use Rattle.fst.proofs.Rooms.{bad_vector, bad_bytes, by_indices}
 use Rattle.layout.proofs.Sizes.{size_small}
 use Rattle.fst.proofs.record.is_bad_vector.Goals.{After-is_bad_levels, Start}
 use Rattle.fst.proofs.record.is_bad_vector.Goals as goal
 
 abbrev here : Start → Lent
-here x = lent x.args.bytes.now x.args.byte_start x.args.indices.now x.args.index_start
+here x = lent_in x.args.slices
 
 -- number 2 of the bytes
 module _ (c : After-is_bad_levels) where
-  bytes : c.is_bad_levels.result ≡ is_bad_bytes c.args.description c.args.byte_start c.args.bytes.now
+  bytes : c.is_bad_levels.result ≡ is_bad_bytes c.args.description c.args.slices.byte_start c.args.slices.bytes.now
   bytes =
       let v = c.requires in
-      bad_vector c.args.description c.args.byte_start c.args.bytes.now c.args.width c.args.size v.largest _ v.vector v.sized
+      bad_vector c.args.description c.args.slices.byte_start c.args.slices.bytes.now c.args.width c.args.size v.largest _ v.vector v.sized
       c.is_bad_levels.ensures
 
 pub is_bad_levels-requires : goal.is_bad_levels-requires

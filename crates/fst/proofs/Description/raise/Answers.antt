@@ -1,6 +1,6 @@
--- `fst::Description::raise_levels` meets its contract.
+-- `fst::Description::raise` meets its contract.
 -- Assumes nothing.
-use mathlib.Core.Path.{◌≡◌, refl, sym, ap, ap₂, ◌∙◌}
+use mathlib.Core.Path.{◌≡◌, refl, sym, ap, ap₂, subst, ◌∙◌}
 use mathlib.Core.Bool.{false, cond, not}
 use mathlib.Core.List.{List}
 use Prim.Native.Nat.{ℕ, ◌+◌, ◌*◌, ◌≤◌, ◌<◌}
@@ -8,24 +8,24 @@ use native.Mathlib.Omega.{arith}
 use lib.ListN.{length, set}
 use Rattle.fst.specs.declared.Description.{Description}
 use Rattle.fst.specs.declared.Encoding.TheVariants.{BitVector}
-use Rattle.fst.specs.Record.{Lent, lent, width_stands, fits}
-use Rattle.entries.specs.Repeatable.{repeats_widened}
+use Rattle.fst.specs.Record.{Lent, lent_mut, width_stands, fits}
+use Rattle.entries.specs.Repeatable.{Repeatable, repeats_widened}
 use Rattle.value.specs.declared.States.{States}
 use Rattle.value.specs.Slice.{overlay}
 use Rattle.value.specs.Level.{join}
 use Rattle.layout.specs.Entry.{entry_size}
 use Rattle.layout.specs.Writable.{entry_from}
-use Rattle.fst.proofs.Adding.{beside, accepted_with}
+use Rattle.fst.proofs.Adding.{accepted_with}
 use Rattle.fst.proofs.AddingPlain.{Roomier}
 use Rattle.fst.proofs.AddingStrings.{string_standing, repeatable, width_then, widenable, wider_room, writable, levels_full, levels_stay, levels_grow}
-use Rattle.fst.proofs.Description.raise_levels.Goals.{After-entry_size, After-exceeds, Start}
-use Rattle.fst.proofs.Description.raise_levels.Goals as goal
+use Rattle.fst.proofs.Description.raise.Goals.{After-entry_size, After-exceeds, Start}
+use Rattle.fst.proofs.Description.raise.Goals as goal
 
 -- an index's place counts no more bytes than a slice has
-few_indices : (x : Start) → length x.args.indices.now * 4 < 18446744073709551616
+few_indices : (x : Start) → length x.args.slices.indices.now * 4 < 18446744073709551616
 few_indices x = omega arith
 
-few_bytes : (x : Start) → length x.args.bytes.now < 18446744073709551616
+few_bytes : (x : Start) → length x.args.slices.bytes.now < 18446744073709551616
 few_bytes x = omega arith
 
 -- an acceptance by its parts
@@ -36,7 +36,7 @@ left_by indices p q = ap₂ (λ (d : Description) (b : List ℕ). accepted_with 
 -- what is known once the room is tried
 module _ (z : After-exceeds) where
   abbrev here : Lent
-  here = lent z.args.bytes.now z.args.byte_start z.args.indices.now z.args.index_start
+  here = lent_mut z.args.slices
 
   abbrev joint : States
   joint = z.join-joint.result
@@ -44,14 +44,16 @@ module _ (z : After-exceeds) where
   joined : joint ≡ join z.args.max_states z.args.states
   joined = z.join-joint.ensures
 
-  told : z.repeats_last-repeat.result ≡ repeats_widened z.args.max_states joint z.args.states z.args.value.now z.args.byte_start z.args.self.count z.args.bytes.now
-  told = z.repeats_last-repeat.ensures
+  told : z.repeats_last-repeat.result ≡ repeats_widened z.args.max_states joint z.args.states z.args.value.now z.args.slices.byte_start z.args.self.count z.args.slices.bytes.now
+  told =
+      z.repeats_last-repeat.ensures
+      ∙ ap (λ (l : Lent). repeats_widened z.args.max_states joint z.args.states z.args.value.now l.byte_start z.args.self.count l.bytes) z.shared-seen.ensures
 
   counted : z.next_count-total.result ≡ cond z.repeats_last-repeat.result z.args.self.count (z.args.self.count + 1)
   counted = z.next_count-total.ensures
 
   exceeded : z.exceeds.result ≡ not (fits (BitVector (length z.args.value.now) joint) z.next_count-total.result here)
-  exceeded = z.exceeds.ensures ∙ ap (λ (d : Description). not (fits d.encoding d.count here)) z.new-self.ensures
+  exceeded = z.exceeds.ensures ∙ ap₂ (λ (d : Description) (l : Lent). not (fits d.encoding d.count l)) z.new-self.ensures z.shared-seen.ensures
 
   -- room for one entry more
   places : z.exceeds.result ≡ false → z.repeats_last-repeat.result ≡ false → Roomier z.args.self here (entry_size (length z.args.value.now) joint)
@@ -59,8 +61,8 @@ module _ (z : After-exceeds) where
 
 -- the new entry's place
 place : (c : After-entry_size) (joint : States) → c.entry_size.result ≡ entry_size (length c.args.value.now) joint
-    → Roomier c.args.self (lent c.args.bytes.now c.args.byte_start c.args.indices.now c.args.index_start) (entry_size (length c.args.value.now) joint)
-    → c.args.byte_start + c.args.self.count * c.entry_size.result + c.entry_size.result ≤ length c.args.bytes.now
+    → Roomier c.args.self (lent_mut c.args.slices) (entry_size (length c.args.value.now) joint)
+    → c.args.slices.byte_start + c.args.self.count * c.entry_size.result + c.entry_size.result ≤ length c.args.slices.bytes.now
 place c joint e room = rw e room.bytes
 
 pub overflow_cast-width : goal.overflow_cast-width
@@ -69,7 +71,9 @@ overflow_cast-width c =
     omega arith
 
 pub repeats_last-repeat-requires : goal.repeats_last-repeat-requires
-repeats_last-repeat-requires c = repeatable c.requires c.join-joint.ensures
+repeats_last-repeat-requires c =
+    subst (λ (l : Lent). Repeatable c.args.max_states c.join-joint.result c.args.states c.args.value.now (length l.bytes) l.byte_start c.args.self.count) (sym c.shared-seen.ensures)
+    (repeatable c.requires c.join-joint.ensures)
 
 pub next_count-total-requires : goal.next_count-total-requires
 next_count-total-requires c = (string_standing c.requires).room.count
@@ -82,8 +86,7 @@ exceeds-requires c =
 pub returns-then-exceeds : goal.returns-then-exceeds
 returns-then-exceeds c =
     let past = goal.at.returns-then-exceeds c in
-    beside c.refused.ensures
-    ∙ levels_full c.requires (joined past.After-exceeds) (told past.After-exceeds) (counted past.After-exceeds) (sym (exceeded past.After-exceeds) ∙ c.if-exceeds.true)
+    levels_full c.requires (joined past.After-exceeds) (told past.After-exceeds) (counted past.After-exceeds) (sym (exceeded past.After-exceeds) ∙ c.if-exceeds.true)
 
 pub expand_entries-requires : goal.expand_entries-requires
 expand_entries-requires c =
@@ -93,8 +96,7 @@ expand_entries-requires c =
 pub returns-then-repeat : goal.returns-then-repeat
 returns-then-repeat c =
     let past = goal.at.returns-then-repeat c in
-    beside c.accepted.ensures
-    ∙ left_by c.args.indices.now c.new-self.ensures c.expand_entries.ensures
+    left_by c.args.slices.indices.now c.new-self.ensures c.expand_entries.ensures
     ∙ levels_stay c.requires (joined past.After-exceeds) (told past.After-exceeds) (counted past.After-exceeds) (sym (exceeded past.After-exceeds) ∙ c.if-exceeds.false) c.if-repeat.true
 
 pub overflow_mul-at : goal.overflow_mul-at
@@ -112,7 +114,7 @@ write_entry-requires c =
     let past = goal.at.write_entry-requires c in
     let a = c.args in
     writable c.requires (joined past.After-exceeds) (told past.After-exceeds) (counted past.After-exceeds) (sym (exceeded past.After-exceeds) ∙ c.if-exceeds.false) c.if-repeat.false c.expand_entries.auto.data
-    (ap (λ (k : ℕ). a.byte_start + a.self.count * k) c.entry_size.ensures)
+    (ap (λ (k : ℕ). a.slices.byte_start + a.self.count * k) c.entry_size.ensures)
 
 pub overflow_add-indices : goal.overflow_add-indices
 overflow_add-indices c =
@@ -130,11 +132,10 @@ bounds-indices-index_start c = (places (goal.at.bounds-indices-index_start c).Af
 pub returns : goal.returns
 returns c =
     let past = goal.at.returns c in
-    beside c.accepted-2.ensures
-    ∙ left_by (set c.args.indices.now (c.args.index_start + c.args.self.count) c.args.index) c.new-self.ensures
+    left_by (set c.args.slices.indices.now (c.args.slices.index_start + c.args.self.count) c.args.index) c.new-self.ensures
     (c.write_entry.ensures.out_after
     ∙ ap₂
     (λ (b : List ℕ) (k : ℕ).
-    overlay b (c.args.byte_start + c.args.self.count * k) (entry_from (joint past.After-exceeds) c.args.states c.args.value.now))
+    overlay b (c.args.slices.byte_start + c.args.self.count * k) (entry_from (joint past.After-exceeds) c.args.states c.args.value.now))
     c.expand_entries.ensures c.entry_size.ensures)
     ∙ levels_grow c.requires (joined past.After-exceeds) (told past.After-exceeds) (counted past.After-exceeds) (sym (exceeded past.After-exceeds) ∙ c.if-exceeds.false) c.if-repeat.false

@@ -1,0 +1,77 @@
+-- `fst::Description::admit_levels` meets its contract.
+-- Assumes nothing.
+use mathlib.Core.Path.{◌≡◌, sym, ap, ◌∙◌}
+use mathlib.Core.Bool.{false}
+use Prim.Native.Nat.{ℕ, ◌≤◌}
+use native.Mathlib.Omega.{arith}
+use lib.ListN.{length}
+use Rattle.layout.specs.Entry.{entry_size}
+use Rattle.fst.specs.Record.{lent_in, width_stands}
+use Rattle.fst.specs.Change.{text}
+use Rattle.fst.specs.Adding.{AdmittedString}
+use Rattle.value.specs.Level.{mark_of}
+use Rattle.layout.proofs.Numbers.{one_word}
+use Rattle.fst.proofs.Records.{Standing, standing}
+use Rattle.fst.proofs.Adding.{Suited, width_known, gives_2, gives_6, below, admits}
+use Rattle.fst.proofs.AddingStrings.{string_gives_4, string_gives_5, string_suited, string_levels, new_writable, text_adds}
+use Rattle.fst.proofs.Description.admit_levels.Goals.{After-is_below_last}
+use Rattle.fst.proofs.Description.admit_levels.Goals as goal
+
+-- what is known once the string is read
+module _ (b : After-is_below_last) where
+  stands : Standing b.args.self (lent_in b.args.slices)
+  stands = standing (sym b.if-is_bad_vector.ensures)
+
+  suited : Suited b.args.self (lent_in b.args.slices) (text b.args.value.now)
+  suited = string_suited stands b.requires b.args.index _ b.if-value-width.false b.in-Some.ensures.least
+
+  levels : false ≡ below b.args.self (lent_in b.args.slices) b.args.index
+      → AdmittedString b.args.self (lent_in b.args.slices) b.args.index b.args.max_states b.in-Some.field-0.states b.args.value.now
+  levels h = string_levels stands b.requires b.args.index _ b.if-value-width.false b.in-Some.ensures.least (admits suited _ h)
+
+  sized : b.entry_size-size.result ≡ entry_size (length b.args.value.now) b.args.max_states
+  sized = b.entry_size-size.ensures ∙ ap (λ (k : ℕ). entry_size k b.args.max_states) (sym b.if-value-width.false)
+
+pub is_bad_vector-requires : goal.is_bad_vector-requires
+is_bad_vector-requires c = record { largest = c.args.max_states; vector = c.requires; sized = c.entry_size-size.ensures }
+
+pub returns-then-is_bad_vector : goal.returns-then-is_bad_vector
+returns-then-is_bad_vector c = gives_2 _ _ _ _ (sym c.if-is_bad_vector.ensures)
+
+pub returns-then-value-width : goal.returns-then-value-width
+returns-then-value-width c =
+    string_gives_4 (standing (sym c.if-is_bad_vector.ensures)) c.requires _ _ c.if-value-width.true
+
+pub scan-requires : goal.scan-requires
+scan-requires c =
+    let w = width_known c.args.max_states (ap width_stands (sym c.requires) ∙ (standing (sym c.if-is_bad_vector.ensures)).width) in
+    omega (arith, c.if-value-width.false, w.1)
+
+pub returns-in_default : goal.returns-in_default
+returns-in_default c =
+    string_gives_5 (standing (sym c.if-is_bad_vector.ensures)) c.requires _ _ c.if-value-width.false c.in_default.ensures
+
+pub is_below_last-requires : goal.is_below_last-requires
+is_below_last-requires c = (standing (sym c.if-is_bad_vector.ensures)).room.indices
+
+pub returns-then-is_below_last : goal.returns-then-is_below_last
+returns-then-is_below_last c = gives_6 (suited (goal.at.returns-then-is_below_last c).After-is_below_last) _ c.if-is_below_last.ensures
+
+pub returns-then-mark : goal.returns-then-mark
+returns-then-mark c = levels (goal.at.returns-then-mark c).After-is_below_last c.if-is_below_last.ensures
+
+pub with_levels-entry-requires : goal.with_levels-entry-requires
+with_levels-entry-requires c =
+    let b = (goal.at.with_levels-entry-requires c).After-is_below_last in
+    let v = levels b c.if-is_below_last.ensures in
+    let low : mark_of c.in-Some.field-0.states ≤ mark_of c.args.max_states = omega (arith, c.if-mark.false, c.mark-2.ensures, c.mark.ensures) in (
+      new_writable v low (sized b),
+      sized b,
+      λ h. c.in-Some.ensures.levels h (one_word (new_writable v low (sized b)) (omega (arith, sized b))).short,
+    )
+
+pub returns : goal.returns
+returns c =
+    let b = (goal.at.returns c).After-is_below_last in
+    let low : mark_of c.in-Some.field-0.states ≤ mark_of c.args.max_states = omega (arith, c.if-mark.false, c.mark-2.ensures, c.mark.ensures) in
+    text_adds (levels b c.if-is_below_last.ensures) low c.with_levels-entry.ensures
