@@ -4,7 +4,7 @@ use mathlib.Core.Path.{◌≡◌, refl, sym, ap, ◌∙◌, subst}
 use mathlib.Core.Bool.{Bool, true, false, cond}
 use mathlib.Core.List.{List, [], ◌∷◌}
 use Prim.Native.Nat.{ℕ, zero, suc, ◌+◌, ◌-◌, ◌*◌, ◌/◌, ◌%◌, ◌^◌, ◌≤◌, ◌<◌}
-use native.Mathlib.Nat.{pow-suc, zero-mul, zero-add, one-mul, mul_comm, pow-le-pow_right, le_refl, mod-lt, div-eq_of_lt, lt_of_lt_of_le}
+use native.Mathlib.Nat.{pow-suc, zero-mul, zero-add, one-mul, mul_comm, pow-le-pow_right, mod-lt, div-eq_of_lt, lt_of_lt_of_le}
 use native.Mathlib.Omega.{arith}
 use borrow.Author.Tests.{lt-ltb, le-ltb, lt-leb, le-leb}
 use mir.Syntax.{w64}
@@ -117,62 +117,53 @@ module _ (count n : ℕ) where
   abbrev ds : List ℕ
   ds = digits 16 count n
 
-  -- the first of the digits left
-  pub digit_at : (left : ℕ) → 1 ≤ left → left ≤ count → bit_and (n / 2 ^ (4 * (left - 1))) 15 ≡ get_or ds (count - left) 0
-  digit_at left p h =
-      and_mask (n / 2 ^ (4 * (left - 1))) 4
-      ∙ ap (λ (x : ℕ). n / x % 16) (ap (λ (k : ℕ). 2 ^ k) (mul_comm 4 (left - 1)) ∙ sym (pow_pow 2 4 (left - 1)))
-      ∙ sym (digits_at 16 count n (count - left) (left - 1) (omega arith))
+  -- the digit behind i others
+  pub digit_at : (i : ℕ) → i < count → bit_and (n / 2 ^ (4 * (count - 1 - i))) 15 ≡ get_or ds i 0
+  digit_at i h =
+      let j = count - 1 - i in
+      and_mask (n / 2 ^ (4 * j)) 4
+      ∙ ap (λ (x : ℕ). n / x % 16) (ap (λ (k : ℕ). 2 ^ k) (mul_comm 4 j) ∙ sym (pow_pow 2 4 j))
+      ∙ sym (digits_at 16 count n i j (omega arith))
 
   -- a digit above 9
   pub digit_high : (i : ℕ) → i < count → 9 < get_or ds i 0 → refused 18 ≡ decimal_by count n
   unfolding tried
   digit_high i l h = let e : any (leb 10) ds ≡ true = any_at (leb 10) ds i 0 (rw digits_length l) (le-leb 10 (get_or ds i 0) h) in rw e
 
--- the number of the digits read, none of which is above 9
-pub record Read (count n left working : ℕ) : Type 0 where
-  pub within : left ≤ count
-  pub clear : Clear (leb 10) (digits 16 count n) (count - left)
-  pub is : working ≡ number 10 (take (count - left) (digits 16 count n))
+-- the number of the first i digits, none of which is above 9
+pub record Read (count n i working : ℕ) : Type 0 where
+  pub clear : Clear (leb 10) (digits 16 count n) i
+  pub is : working ≡ number 10 (take i (digits 16 count n))
 
 module _ {count n : ℕ} where
-  pub read_none : Read count n count 0
+  pub read_none : Read count n 0 0
   unfolding number
-  read_none =
-      let z : count - count ≡ 0 = omega arith in
-      record { within = le_refl count; clear = rw z clear_none; is = rw z }
+  read_none = record { clear = clear_none; is = refl }
 
-  module _ {left working digit : ℕ} (h : Read count n left working) (p : 1 ≤ left) (e : digit ≡ get_or (digits 16 count n) (count - left) 0) (k : digit ≤ 9) where
-    pub read_more : Read count n (left - 1) (10 * working + digit)
+  module _ {i working digit : ℕ} (h : Read count n i working) (p : i < count) (e : digit ≡ get_or (digits 16 count n) i 0) (k : digit ≤ 9) where
+    pub read_more : Read count n (i + 1) (10 * working + digit)
     read_more =
         let ds = digits 16 count n in
-        let i = count - left in
-        let w = h.within in
-        let z : count - (left - 1) ≡ i + 1 = omega arith in
-        let l : i < length ds = rw digits_length (omega arith) in
+        let l : i < length ds = rw digits_length p in
         record {
-          within = omega arith;
-          clear = rw z (clear_more 0 l (lt-leb 10 (get_or ds i 0) (omega (arith, e))) h.clear);
-          is = rw (z, e, h.is) (ap (λ (y : ℕ). y + get_or ds i 0) (mul_comm 10 (number 10 (take i ds))) ∙ sym (number_more 10 ds i 0 l));
+          clear = clear_more 0 l (lt-leb 10 (get_or ds i 0) (omega (arith, e))) h.clear;
+          is = rw (e, h.is) (ap (λ (y : ℕ). y + get_or ds i 0) (mul_comm 10 (number 10 (take i ds))) ∙ sym (number_more 10 ds i 0 l));
         }
 
     -- 16 digits write a number of 64 bits
     pub read_fits : count ≤ 16 → 10 * working + digit < 2 ^ 64
     read_fits c =
         let ds = digits 16 count n in
-        let i = count - left in
-        let w = h.within in
         let l : length (take i ds) ≡ i = length-take-le i ds (rw digits_length (omega arith)) in
         let m : working < 10 ^ i = rw h.is (rw l at (number_lt 10 (take i ds) (none_from 10 (take i ds) h.clear.none))) in
         let small : i ≤ 15 = omega arith in
         let q : 10 ^ i ≤ 10 ^ 15 = pow-le-pow_right {n = 10} (omega arith) small in
         omega arith
 
-  pub read_all : {working : ℕ} → Read count n 0 working → given working ≡ decimal_by count n
+  pub read_all : {i working : ℕ} → Read count n i working → count ≤ i → given working ≡ decimal_by count n
   unfolding tried
-  read_all h =
+  read_all {i} h z =
       let ds = digits 16 count n in
-      let z : count - 0 ≡ count = omega arith in
-      let l : length ds ≤ count = rw digits_length (le_refl count) in
-      let c : any (leb 10) ds ≡ false = clear_all (rw z l) h.clear in
-      rw (c, h.is, z, take_all count ds l)
+      let l : length ds ≤ i = rw digits_length z in
+      let c : any (leb 10) ds ≡ false = clear_all l h.clear in
+      rw (c, h.is, take_all i ds l)

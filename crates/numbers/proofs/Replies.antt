@@ -5,8 +5,8 @@ use mathlib.Core.Bool.{Bool, true, false, cond, ◌||◌, true≢false}
 use mathlib.Core.List.{List, [], ◌∷◌, ◌++◌}
 use Prim.Native.Nat.{ℕ, suc, ◌/◌, ◌%◌, ◌^◌, ◌≤◌, ◌<◌}
 use native.Mathlib.Omega.{arith}
-use borrow.Author.Tests.{lt-ltb, le-ltb, ltb-false, lt-leb, le-leb, eq-eqb, ne_eqb}
-use lib.Dec.{ltb}
+use borrow.Author.Tests.{lt-ltb, le-ltb, ltb-false, lt-leb, eq-eqb, ne_eqb}
+use lib.Dec.{ltb, eqb}
 use lib.ListN.{length}
 use Rattle.value.specs.declared.States.{States}
 use Rattle.value.specs.Digits.{number}
@@ -20,20 +20,18 @@ use Rattle.fst.specs.declared.Description.{Description}
 use Rattle.fst.specs.declared.Refusal.{Refusal}
 use Rattle.fst.specs.declared.Refusal.TheVariants.{WrongWidth, NotBinary}
 use Rattle.fst.specs.Refusal.{Reply, refused, given, Test, ◌⇐◌, tried, refusal_number}
-use Rattle.fst.specs.Record.{width_of, width_stands, has_no_text, is_bad_bytes}
+use Rattle.fst.specs.Record.{width_of, width_stands, has_no_text}
 use Rattle.fst.proofs.Adding.{width_known}
 use Rattle.fst.proofs.Rooms.{stands}
 use Rattle.fst.proofs.Refusals.{Passed, passes, Result, through, stopped, result, tried_append, tried_refused}
-use Rattle.signal.specs.Decode.{entry_at, set_in, level_part, levels_in, has_bad_mark}
+use Rattle.signal.specs.Decode.{entry_at, set_in, level_part, levels_in, has_bad_mark, codes_at}
+use Rattle.signal.specs.Parts.{Unpacked, unpacked, marked}
 use Rattle.signal.specs.Read.{unreadable}
-use Rattle.signal.proofs.Reading.{HasEntry}
-use Rattle.numbers.specs.Number.{unsigned, signed, decimal, signed_of, digits_of, has_part_digit, is_wrong_width, has_other, has_high_digit, read_number, flat_number}
-use Rattle.numbers.specs.declared.FlatNumber.{FlatNumber}
-use Rattle.numbers.specs.declared.Binary.{Binary}
-use Rattle.numbers.specs.declared.Binary.TheVariants as binary
-use Rattle.numbers.specs.Parts.{refused_levels, binary_of, binary_in, signed_by, signed_from, decimal_by, decimal_from, reply_in, Sized, Quick, bits_of_levels}
+use Rattle.signal.proofs.Reading.{HasEntry, marked_given, codes_are}
+use Rattle.numbers.specs.Number.{unsigned, signed, decimal, signed_of, digits_of, has_part_digit, is_wrong_width, has_other, has_high_digit, read_number}
+use Rattle.numbers.specs.Parts.{refused_levels, binary_of, binary_in, signed_by, signed_from, decimal_by, decimal_from}
 use Rattle.numbers.proofs.Forms.{signed_unsigned}
-use Rattle.numbers.proofs.Words.{Known, known_lt, known_bits}
+use Rattle.numbers.proofs.Words.{Known, known_lt}
 
 -- ---- levels
 
@@ -73,33 +71,32 @@ module _ (w : ℕ) (levels : List ℕ) where
 -- ---- an entry
 
 module _ (e : Encoding) (v : List ℕ) where
-  pub entry_bad : has_bad_mark e v ≡ true → refused 9 ≡ binary_in e v
-  unfolding tried
-  entry_bad h = rw h
-
   pub entry_else : has_bad_mark e v ≡ false → binary_of (width_of e) (levels_in e v) ≡ binary_in e v
   unfolding tried
   entry_else h = rw h
 
+module _ (w : ℕ) (M : States) (v : List ℕ) where
+  pub vector_bad : {n : ℕ} → refused n ≡ marked w M v → refused n ≡ binary_in (BitVector w M) v
+  unfolding tried
+  vector_bad {n} = go (has_bad_mark (BitVector w M) v)
+    where
+      go : (b : Bool) → refused n ≡ tried (9 ⇐ b ∷ []) (given (unpacked w M v)) → refused n ≡ tried (9 ⇐ b ∷ []) (binary_of w (levels_in (BitVector w M) v))
+      go true h = cc
+      go false h = cc
+
+  pub vector_told : {u : Unpacked} → given u ≡ marked w M v → binary_of u.width (codes_at u.width u.set u.part) ≡ binary_in (BitVector w M) v
+  vector_told h =
+      let g = marked_given w M v h in
+      ap₂ binary_of (ap (λ (u : Unpacked). u.width) g.1) (codes_are w M v g.1) ∙ entry_else (BitVector w M) v g.0
+
 -- ---- an entry of a record: the unsigned number
-
-module _ (d : Description) (bytes : List ℕ) (start k : ℕ) where
-  pub read_bad : is_bad_bytes d start bytes ≡ true → refused 2 ≡ read_number unsigned d bytes start k
-  unfolding read_number tried
-  read_bad h = rw h
-
-  module _ (h : is_bad_bytes d start bytes ≡ false) where
-    pub read_none : has_no_text d.encoding ≡ true → refused 3 ≡ read_number unsigned d bytes start k
-    unfolding read_number tried
-    read_none t = rw (h, t)
-
-    pub read_past : (w : ℕ) (M : States) → d.encoding ≡ BitVector w M → d.count ≤ k → refused 8 ≡ read_number unsigned d bytes start k
-    unfolding read_number tried has_no_text
-    read_past w M e p = rw (h, e, le-leb d.count k p)
 
 or_false : (b : Bool) → b || false ≡ b
 or_false true = refl
 or_false false = refl
+
+given_inj : {m n : ℕ} → given m ≡ given n → m ≡ n
+given_inj e = cc
 
 -- tests behind others, of which one can't hold
 module _ {A : Type 0} (xs : List Test) (w : ℕ) (o : Bool) (a : A) where
@@ -244,56 +241,19 @@ module _ (d : Description) (bytes : List ℕ) (start k : ℕ) where
           ap (tried (16 ⇐ has_part_digit w ∷ [])) by_digits
           ∙ sym (tried_append (16 ⇐ has_part_digit w ∷ []) (17 ⇐ false ∷ 18 ⇐ has_high_digit decimal levels ∷ []) (given (number 10 (digits_of levels))))
 
-  -- the answer holds the reply
-  pub answered : (a : FlatNumber) → a ≡ flat_number (read_number unsigned d bytes start k) → reply_in a ≡ read_number unsigned d bytes start k
-  answered a q = ap reply_in q ∙ go unsigned_is
+  -- by an unsigned answer
+  pub sized : {n : ℕ} → given n ≡ read_number unsigned d bytes start k → (1 ≤ w) × (w ≤ 64) × (n < 2 ^ w)
+  sized {n} q = go unsigned_is
     where
-      go : Unsigned → reply_in (flat_number (read_number unsigned d bytes start k)) ≡ read_number unsigned d bytes start k
-      go (number_is n e t f) = ap (λ (r : Reply ℕ). reply_in (flat_number r)) e ∙ sym e
-      go (refusal_is n e f) =
-          ap (λ (r : Reply ℕ). reply_in (flat_number r)) e
-          ∙ ap (λ (b : Bool). cond b (given 0) (refused (suc n))) (ne_eqb (suc n) 0 (λ z. absurd (omega arith)))
-          ∙ sym e
+      go : Unsigned → (1 ≤ w) × (w ≤ 64) × (n < 2 ^ w)
+      go (number_is m e t f) = let i : n ≡ m = given_inj (q ∙ e) in (t.some, t.few, rw i (rw t.long at (known_lt t.known)))
+      go (refusal_is m e f) = let z : given n ≡ refused (suc m) = q ∙ e in cc
 
-  pub sized : (a : FlatNumber) → a ≡ flat_number (read_number unsigned d bytes start k) → Sized w a
-  sized a q = go unsigned_is
-    where
-      go : Unsigned → Sized w a
-      go (number_is n e t f) =
-          let v : a ≡ flat_number (given n) = q ∙ ap flat_number e in
-          rw v (record { some = λ z. t.some; few = λ z. t.few; small = λ z. rw t.long at (known_lt t.known) })
-      go (refusal_is n e f) =
-          let v : a ≡ flat_number (refused (suc n)) = q ∙ ap flat_number e in
-          rw v (record { some = λ z. absurd (omega arith); few = λ z. absurd (omega arith); small = λ z. absurd (omega arith) })
+  pub signed_told : {r : Reply ℕ} → r ≡ read_number unsigned d bytes start k → signed_from w r ≡ read_number signed d bytes start k
+  signed_told q = ap (signed_from w) q ∙ signed_from_lem
 
--- ---- the other forms by an unsigned answer
-
-module _ (a : FlatNumber) where
-  refused_in : (a.number ≡ 0 → ⊥) → reply_in a ≡ refused a.number
-  refused_in h = ap (λ (b : Bool). cond b (given a.value) (refused a.number)) (ne_eqb a.number 0 h)
-
-  given_in : a.number ≡ 0 → reply_in a ≡ given a.value
-  given_in h = ap (λ (b : Bool). cond b (given a.value) (refused a.number)) (eq-eqb a.number 0 h)
-
-  module _ (w : ℕ) where
-    pub signed_refused : (a.number ≡ 0 → ⊥) → refused a.number ≡ signed_from w (reply_in a)
-    signed_refused h = sym (ap (signed_from w) (refused_in h))
-
-    pub signed_given : a.number ≡ 0 → given (signed_by w a.value) ≡ signed_from w (reply_in a)
-    signed_given h = sym (ap (signed_from w) (given_in h))
-
-    -- another refusal than 17
-    pub decimal_refused : (a.number ≡ 0 → ⊥) → (a.number ≡ 17 → ⊥) → refused a.number ≡ decimal_from w (reply_in a)
-    decimal_refused h k =
-        sym
-        (ap (decimal_from w) (refused_in h)
-        ∙ ap (λ (b : Bool). cond b (tried (16 ⇐ has_part_digit w ∷ []) (refused a.number)) (refused a.number)) (ne_eqb a.number 17 k))
-
-    pub decimal_other : a.number ≡ 17 → tried (16 ⇐ has_part_digit w ∷ []) (refused 17) ≡ decimal_from w (reply_in a)
-    decimal_other h = sym (ap (decimal_from w) (refused_in (λ z. absurd (omega arith))) ∙ ap (λ (n : ℕ). decimal_from w (refused n)) h)
-
-    pub decimal_given : a.number ≡ 0 → tried (16 ⇐ has_part_digit w ∷ []) (decimal_by (w / 4) a.value) ≡ decimal_from w (reply_in a)
-    decimal_given h = sym (ap (decimal_from w) (given_in h))
+  pub decimal_told : {r : Reply ℕ} → r ≡ read_number unsigned d bytes start k → decimal_from w r ≡ read_number decimal d bytes start k
+  decimal_told q = ap (decimal_from w) q ∙ decimal_from_lem
 
 -- ---- 16 of a width that is no multiple of 4
 
@@ -306,11 +266,18 @@ module _ (w : ℕ) (r : Reply ℕ) where
   unfolding tried
   whole_digits h = rw (eq-eqb (w % 4) 0 h)
 
--- ---- a number that is told where nothing is refused
+module _ (w : ℕ) where
+  pub part_else : {n : ℕ} → (n ≡ 17 → ⊥) → refused n ≡ decimal_from w (refused n)
+  part_else {n} h = ap (λ (b : Bool). cond b (tried (16 ⇐ has_part_digit w ∷ []) (refused n)) (refused n)) (sym (ne_eqb n 17 h))
 
-pub quick_none : {r : Reply ℕ} → Quick binary.Other r
-quick_none = record { is = λ n e. let z : ◌≡◌ {A = ℕ} 0 1 = cc in absurd (omega arith) }
+  pub whole_refused : {n : ℕ} → w % 4 ≡ 0 → refused n ≡ decimal_from w (refused n)
+  unfolding tried
+  whole_refused {n} h = rw (eq-eqb (w % 4) 0 h) (go (eqb n 17))
+    where
+      go : (b : Bool) → ◌≡◌ {A = Reply ℕ} (refused n) (cond b (refused n) (refused n))
+      go true = refl
+      go false = refl
 
-pub quick_entry : (e : Encoding) (v : List ℕ) {b : Binary} → has_bad_mark e v ≡ false → width_of e ≤ 64 → b ≡ bits_of_levels (levels_in e v) → Quick b (binary_in e v)
-quick_entry e v m h q =
-    record { is = λ n f. sym (binary_known (width_of e) (levels_in e v) h (known_bits (levels_in e v) (sym q ∙ f)) ∙ entry_else e v m) }
+pub not_other : (r : Refusal) → (r ≡ NotBinary → ⊥) → refusal_number r ≡ 17 → ⊥
+not_other NotBinary o h = o refl
+not_other r o h = absurd (omega arith)

@@ -25,8 +25,7 @@ use Rattle.value.proofs.Tests.{both, both_same, all_below, at_below, from_t, or_
 use Rattle.wavemem.proofs.Lanes.{itself, kept, in_lanes}
 use Rattle.signal.specs.Decode.{codes_at}
 use Rattle.signal.proofs.CodesOfBytes.{per_byte, codes_split}
-use Rattle.numbers.specs.declared.Binary.{Binary}
-use Rattle.numbers.specs.declared.Binary.TheVariants as binary
+use Rattle.std.specs.Prelude.{Option, Some, None}
 use Rattle.numbers.specs.Number.{has_other}
 use Rattle.numbers.specs.Parts.{bits_of_levels, Few}
 
@@ -43,30 +42,30 @@ known_below {ds} h e = record { clear = below_none 2 ds h; is = e }
 pub known_lt : {ds : List ℕ} {n : ℕ} → Known ds n → n < 2 ^ length ds
 known_lt {ds} k = rw k.is (number_lt 2 ds (none_from 2 ds k.clear))
 
-pub bits_known : {ds : List ℕ} {n : ℕ} → Known ds n → binary.Number n ≡ bits_of_levels ds
+pub bits_known : {ds : List ℕ} {n : ℕ} → Known ds n → Some n ≡ bits_of_levels ds
 unfolding bits_of_levels
 bits_known k = rw (k.clear, k.is)
 
 module _ (ds : List ℕ) where
-  pub bits_other : has_other ds ≡ true → binary.Other ≡ bits_of_levels ds
+  pub bits_other : has_other ds ≡ true → None ≡ bits_of_levels ds
   unfolding bits_of_levels
   bits_other e = rw e
 
-  pub known_bits : {n : ℕ} → bits_of_levels ds ≡ binary.Number n → Known ds n
+  pub known_bits : {n : ℕ} → bits_of_levels ds ≡ Some n → Known ds n
   unfolding bits_of_levels
   known_bits {n} = go (has_other ds) refl
     where
-      go : (b : Bool) → has_other ds ≡ b → cond b binary.Other (binary.Number (number 2 ds)) ≡ binary.Number n → Known ds n
-      go true h e = let z : ◌≡◌ {A = ℕ} 0 1 = cc in absurd (omega arith)
+      go : (b : Bool) → has_other ds ≡ b → cond b None (Some (number 2 ds)) ≡ Some n → Known ds n
+      go true h e = cc
       go false h e = record { clear = h; is = cc }
 
-  pub other_bits : bits_of_levels ds ≡ binary.Other → has_other ds ≡ true
+  pub other_bits : bits_of_levels ds ≡ None → has_other ds ≡ true
   unfolding bits_of_levels
   other_bits = go (has_other ds)
     where
-      go : (b : Bool) → cond b binary.Other (binary.Number (number 2 ds)) ≡ binary.Other → b ≡ true
+      go : (b : Bool) → cond b None (Some (number 2 ds)) ≡ None → b ≡ true
       go true e = refl
-      go false e = let z : ◌≡◌ {A = ℕ} 0 1 = cc in absurd (omega arith)
+      go false e = cc
 
 -- levels 0 in front change nothing
 zeros_number : (a : ℕ) (ds : List ℕ) → number 2 (replicate a 0 ++ ds) ≡ number 2 ds
@@ -125,7 +124,7 @@ module _ (L : ℕ) (computed : T (all_below (λ (d : ℕ). both (ltb 0 (rest L d
 
 -- what a test for other levels tells
 module _ {a : ℕ} (ds : List ℕ) (e : ltb 0 a ≡ has_other ds) where
-  pub some_other : (a ≡ 0 → ⊥) → binary.Other ≡ bits_of_levels ds
+  pub some_other : (a ≡ 0 → ⊥) → None ≡ bits_of_levels ds
   some_other h = let p : 0 < a = omega arith in bits_other ds (sym e ∙ lt-ltb 0 a p)
 
   pub none_other : a ≡ 0 → Below 2 ds
@@ -140,7 +139,7 @@ pub other_nine : (x : ℕ) → x < 2 ^ 64 → ltb 0 (bit_and x 17216961135462248
 unfolding number
 other_nine x h = any_other 4 tt 16 x h (omega arith)
 
-pub bits_two : (x : ℕ) → x < 2 ^ 64 → binary.Number x ≡ bits_of_levels (digits 2 64 x)
+pub bits_two : (x : ℕ) → x < 2 ^ 64 → Some x ≡ bits_of_levels (digits 2 64 x)
 bits_two x h =
     bits_known (known_below (digits_below 2 (omega arith) 64 x) (sym (number_digits 2 (omega arith) 64 x ∙ mod-eq_of_lt h)))
 
@@ -193,7 +192,7 @@ abbrev pub codes_so_far : States → List ℕ → ℕ → ℕ → List ℕ
 codes_so_far S levels i k = digits (2 ^ bits_of S) i (number 256 (take k levels))
 
 -- what the first word tells of them
-pub first_told : (S : States) (levels : List ℕ) {i k x : ℕ} {b : Binary} → i ≤ per_word S → k ≡ len_of i S → x ≡ number 256 (take (len_of i S) levels) % 2 ^ (i * bits_of S)
+pub first_told : (S : States) (levels : List ℕ) {i k x : ℕ} {b : Option ℕ} → i ≤ per_word S → k ≡ len_of i S → x ≡ number 256 (take (len_of i S) levels) % 2 ^ (i * bits_of S)
     → b ≡ bits_of_levels (digits (2 ^ bits_of S) (per_word S) x) → bits_of_levels (codes_so_far S levels i k) ≡ b
 first_told S levels {i} h e f g =
     ap (λ (k : ℕ). bits_of_levels (codes_so_far S levels i k)) e
@@ -202,7 +201,7 @@ first_told S levels {i} h e f g =
     ∙ sym g
 
 -- levels that are no more than one word holds
-pub one_word : {w : ℕ} {S : States} {levels : List ℕ} → Few w S levels → w * bits_of S ≤ 64 → {b : Binary}
+pub one_word : {w : ℕ} {S : States} {levels : List ℕ} → Few w S levels → w * bits_of S ≤ 64 → {b : Option ℕ}
     → b ≡ bits_of_levels (digits (2 ^ bits_of S) (per_word S) (number 256 levels % 2 ^ (w * bits_of S))) → b ≡ bits_of_levels (codes_at w S levels)
 one_word {w} {S} {levels} h r e = e ∙ first_bits S w (number 256 levels) (go S r)
   where

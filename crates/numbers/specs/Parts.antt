@@ -1,6 +1,6 @@
 -- Inner: the steps by which an entry is read as a number.
 -- Assumes nothing.
-use Rattle.std.specs.Prelude.{ℕ, suc, ◌-◌, ◌^◌, ◌/◌, ◌≤◌, ◌<◌, ◌≡◌, cond, List, [], ◌∷◌, eqb, leb, ltb, ℤ, pos, negsuc, length}
+use Rattle.std.specs.Prelude.{ℕ, suc, ◌-◌, ◌^◌, ◌/◌, ◌≤◌, ◌≡◌, cond, List, [], ◌∷◌, eqb, leb, ltb, ℤ, pos, negsuc, length, Option, None, Some}
 use Rattle.value.specs.declared.States.{States}
 use Rattle.value.specs.Digits.{number, digits}
 use Rattle.value.specs.Slice.{any}
@@ -10,15 +10,13 @@ use Rattle.fst.specs.declared.Refusal.{Refusal}
 use Rattle.fst.specs.Refusal.{Reply, refused, given, ◌⇐◌, tried, refusal_number}
 use Rattle.fst.specs.Record.{width_of}
 use Rattle.signal.specs.Decode.{levels_in, has_bad_mark}
-use Rattle.numbers.specs.declared.Binary.{Binary}
-use Rattle.numbers.specs.declared.Binary.TheVariants as binary
-use Rattle.numbers.specs.declared.FlatNumber.{FlatNumber}
 use Rattle.numbers.specs.Number.{has_part_digit, has_other}
 
 -- ---- levels as bits
 
-unfoldable pub bits_of_levels : List ℕ → Binary
-bits_of_levels levels = cond (has_other levels) binary.Other (binary.Number (number 2 levels))
+-- none where one is other than 0 and 1
+unfoldable pub bits_of_levels : List ℕ → Option ℕ
+bits_of_levels levels = cond (has_other levels) None (Some (number 2 levels))
 
 -- bytes that hold w levels of a set, as few as 64 bits hold
 pub record Few (w : ℕ) (S : States) (levels : List ℕ) : Type 0 where
@@ -57,18 +55,3 @@ decimal_by count n =
 abbrev pub decimal_from : ℕ → Reply ℕ → Reply ℕ
 decimal_from w (refused n) = cond (eqb n 17) (tried (16 ⇐ has_part_digit w ∷ []) (refused n)) (refused n)
 decimal_from w (given n) = tried (16 ⇐ has_part_digit w ∷ []) (decimal_by (w / 4) n)
-
--- ---- an unsigned answer
-
-abbrev pub reply_in : FlatNumber → Reply ℕ
-reply_in a = cond (eqb a.number 0) (given a.value) (refused a.number)
-
--- it has a number of w bits, or a refusal
-pub record Sized (w : ℕ) (a : FlatNumber) : Type 0 where
-  pub some : a.number ≡ 0 → 1 ≤ w
-  pub few : a.number ≡ 0 → w ≤ 64
-  pub small : a.number ≡ 0 → a.value < 2 ^ w
-
--- a number that is told is the reply's
-pub record Quick (b : Binary) (r : Reply ℕ) : Type 0 where
-  pub is : (n : ℕ) → b ≡ binary.Number n → r ≡ given n

@@ -5,7 +5,6 @@ ghost use Rattle.value.specs.Level.{bits_of, len_of};
 ghost use Rattle.signal.specs.Decode.{codes_at};
 ghost use Rattle.numbers.specs.Parts.{Few, bits_of_levels};
 
-use crate::Binary;
 use layout::number::number_at;
 use value::States;
 use wavemem::word;
@@ -42,22 +41,22 @@ fn squeeze_nine(x: u64) -> u64
 }
 
 // The levels of a word as bits.
-fn bits_of_word(states: States, x: u64) -> Binary
+fn bits_of_word(states: States, x: u64) -> Option<u64>
     ensures { result ≡ bits_of_levels (digits (2 ^ bits_of states) (64 / bits_of states) x) }
 {
     match states {
-        States::Two => Binary::Number(x),
+        States::Two => Some(x),
         States::Four => {
             if x & 0xaaaa_aaaa_aaaa_aaaa != 0 {
-                return Binary::Other;
+                return None;
             }
-            Binary::Number(squeeze_four(x))
+            Some(squeeze_four(x))
         }
         States::Nine => {
             if x & 0xeeee_eeee_eeee_eeee != 0 {
-                return Binary::Other;
+                return None;
             }
-            Binary::Number(squeeze_nine(x))
+            Some(squeeze_nine(x))
         }
     }
 }
@@ -86,7 +85,8 @@ fn first_word(states: States, count: u32, levels: &[u8]) -> u64
 }
 
 // Levels as bits: the first ones, and then a word at a time.
-pub fn bits_of(states: States, width: u32, levels: &[u8]) -> Binary
+#[inline(never)]
+fn bits_of(states: States, width: u32, levels: &[u8]) -> Option<u64>
     requires { Few width states levels.now }
     ensures { result ≡ bits_of_levels (codes_at width states levels.now) }
 {
@@ -94,24 +94,20 @@ pub fn bits_of(states: States, width: u32, levels: &[u8]) -> Binary
     let mut i = (width - 1) % per_word + 1;
     let mut k = states.bytes_required(i);
     let first = first_word(states, i, levels);
-    let Binary::Number(bits) = bits_of_word(states, first) else {
-        return Binary::Other;
-    };
-    let mut working = bits;
+    let mut working = bits_of_word(states, first)?;
     while i < width {
         let to = k + 8;
-        let Binary::Number(more) = bits_of_word(states, word(&levels[k..to])) else {
-            return Binary::Other;
-        };
+        let more = bits_of_word(states, word(&levels[k..to]))?;
         working = (working << per_word) | more;
         i += per_word;
         k = to;
     }
-    Binary::Number(working)
+    Some(working)
 }
 
-// `bits_of`, in one step where one word holds the levels. It has one caller, so that it is compiled into that.
-pub fn bits_in(states: States, width: u32, levels: &[u8]) -> Binary
+// `bits_of`, in one step where one word holds the levels.
+#[inline(always)]
+pub fn bits_in(states: States, width: u32, levels: &[u8]) -> Option<u64>
     requires { Few width states levels.now }
     ensures { result ≡ bits_of_levels (codes_at width states levels.now) }
 {

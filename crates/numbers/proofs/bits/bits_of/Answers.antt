@@ -75,15 +75,16 @@ first_word-first-requires c =
     let h = word_holds c.args.states (per past.After-bits-per_word) (c.args.width - 1) in
     (h.0, word_room c.args.states _ h.1, rw (← c.bytes_required-k.ensures) (begun past.After-bytes_required-k (per past.After-bits-per_word)).within)
 
-pub returns-in_default : goal.returns-in_default
-returns-in_default c =
-    let past = goal.at.returns-in_default c in
-    bits_other _ (other_begun (begun past.After-bytes_required-k (per past.After-bits-per_word)) (below_all 256 c.args.levels.now (λ i. omega (arith, c.type_inv.levels i))) (other_bits _ (told past.After-bits_of_word (per past.After-bits-per_word) ∙ c.in_default.is)))
+pub returns-in_err-working : goal.returns-in_err-working
+returns-in_err-working c =
+    let past = goal.at.returns-in_err-working c in
+    rw c.from_residual.ensures
+    (bits_other _ (other_begun (begun past.After-bytes_required-k (per past.After-bits-per_word)) (below_all 256 c.args.levels.now (λ i. omega (arith, c.type_inv.levels i))) (other_bits _ (told past.After-bits_of_word (per past.After-bits-per_word) ∙ c.in_err-working.was))))
 
 pub loop-i-init : goal.loop-i-init
 loop-i-init c =
     let past = goal.at.loop-i-init c in
-    (begun past.After-bytes_required-k (per past.After-bits-per_word), known_bits _ (told past.After-bits_of_word (per past.After-bits-per_word) ∙ c.in-Number.is))
+    (begun past.After-bytes_required-k (per past.After-bits-per_word), known_bits _ (told past.After-bits_of_word (per past.After-bits-per_word) ∙ c.in_ok-working.was))
 
 pub overflow_add-to : goal.overflow_add-to
 overflow_add-to c =
@@ -102,11 +103,12 @@ word-requires c =
     let v = c.args.levels.now in
     length-take-le (k + 8 - k) (drop k v) (rw length-drop (omega (arith, (turn (goal.at.word-requires c).In-loop-i).bytes))) ∙ omega arith
 
-pub returns-in_default-bits_of_word : goal.returns-in_default-bits_of_word
-returns-in_default-bits_of_word c =
-    let past = goal.at.returns-in_default-bits_of_word c in
-    bits_other _
-    (other_more (turn past.In-loop-i) (below_all 256 c.args.levels.now (λ i. omega (arith, c.type_inv.levels i))) c.requires.few (other_bits _ (ap (λ (x : ℕ). bits_of_levels (digits (2 ^ bits_of c.args.states) (per_word c.args.states) x)) (sym (word_is past.After-word)) ∙ sym c.bits_of_word-in-loop-i.ensures ∙ c.in_default-bits_of_word.is)))
+pub returns-in_err-more : goal.returns-in_err-more
+returns-in_err-more c =
+    let past = goal.at.returns-in_err-more c in
+    rw c.from_residual-in_err-more.ensures
+    (bits_other _
+    (other_more (turn past.In-loop-i) (below_all 256 c.args.levels.now (λ i. omega (arith, c.type_inv.levels i))) c.requires.few (other_bits _ (ap (λ (x : ℕ). bits_of_levels (digits (2 ^ bits_of c.args.states) (per_word c.args.states) x)) (sym (word_is past.After-word)) ∙ sym c.bits_of_word-in-loop-i.ensures ∙ c.in_err-more.was))))
 
 pub overflow_cast-working : goal.overflow_cast-working
 overflow_cast-working c = omega (arith, per (goal.at.overflow_cast-working c).After-bits-per_word, per_small c.args.states)
@@ -131,7 +133,7 @@ loop-i-preserved c =
     let past = goal.at.loop-i-preserved c in
     let h = turn past.In-loop-i in
     rw (per past.After-bits-per_word)
-    (h.next, known_more h (below_all 256 c.args.levels.now (λ i. omega (arith, c.type_inv.levels i))) c.requires.few c.loop-i.invariant.1 (word_is past.After-word) (known_bits _ (sym c.bits_of_word-in-loop-i.ensures ∙ c.in-Number-bits_of_word.is)))
+    (h.next, known_more h (below_all 256 c.args.levels.now (λ i. omega (arith, c.type_inv.levels i))) c.requires.few c.loop-i.invariant.1 (word_is past.After-word) (known_bits _ (sym c.bits_of_word-in-loop-i.ensures ∙ c.in_ok-more.was)))
 
 pub returns : goal.returns
 returns c =

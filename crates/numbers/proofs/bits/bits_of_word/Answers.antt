@@ -1,18 +1,18 @@
 -- `numbers::bits::bits_of_word` meets its contract.
 -- Assumes nothing.
 use mathlib.Core.Path.{◌≡◌}
+use Rattle.std.specs.Prelude.{Option, ℕ}
 use Prim.Native.Nat.{◌/◌, ◌^◌}
 use native.Mathlib.Omega.{arith}
 use Rattle.value.specs.declared.States.{States}
 use Rattle.value.specs.Digits.{digits}
 use Rattle.value.specs.Level.{bits_of}
-use Rattle.numbers.specs.declared.Binary.{Binary}
 use Rattle.numbers.specs.Parts.{bits_of_levels}
 use Rattle.numbers.proofs.Words.{bits_known, known_below, some_other, none_other, other_four, other_nine, bits_two}
 use Rattle.numbers.proofs.bits.bits_of_word.Goals as goal
 
 -- under the set of an arm
-under : {b : Binary} {S T : States} (x : _) → S ≡ T → b ≡ bits_of_levels (digits (2 ^ bits_of T) (64 / bits_of T) x) → b ≡ bits_of_levels (digits (2 ^ bits_of S) (64 / bits_of S) x)
+under : {b : Option ℕ} {S T : States} (x : _) → S ≡ T → b ≡ bits_of_levels (digits (2 ^ bits_of T) (64 / bits_of T) x) → b ≡ bits_of_levels (digits (2 ^ bits_of S) (64 / bits_of S) x)
 under x e h = rw e h
 
 pub returns-then-x-ne0 : goal.returns-then-x-ne0

@@ -1,27 +1,18 @@
 -- `numbers::read::binary_of` meets its contract.
 -- Assumes nothing.
-use mathlib.Core.Path.{sym, ap, ◌∙◌}
-use Rattle.numbers.specs.Number.{flat_number}
-use Rattle.numbers.proofs.Words.{known_bits, other_bits}
+use mathlib.Core.Path.{sym, ◌∙◌}
 use Rattle.numbers.proofs.Replies.{binary_wide, binary_other, binary_known}
+use Rattle.numbers.proofs.Words.{known_bits, other_bits}
 use Rattle.numbers.proofs.read.binary_of.Goals as goal
 
-pub returns-then-width-gt64 : goal.returns-then-width-gt64
-returns-then-width-gt64 c = c.refused_levels.ensures ∙ ap flat_number (binary_wide _ _ c.if-width-gt64.true)
+pub returns-then-levels-gt64 : goal.returns-then-levels-gt64
+returns-then-levels-gt64 c = c.refused_levels.ensures ∙ binary_wide _ _ c.if-levels-gt64.true
 
-pub bits_of-requires : goal.bits_of-requires
-bits_of-requires c = let p = c.requires in record { some = p.1; few = c.if-width-gt64.false; long = p.0.long }
+pub bits_in-requires : goal.bits_in-requires
+bits_in-requires c = record { some = c.requires; few = c.if-levels-gt64.false; long = c.args.levels.now.held.long }
 
-pub returns-in-Number : goal.returns-in-Number
-returns-in-Number c =
-    ap flat_number (binary_known _ _ c.if-width-gt64.false (known_bits _ (sym c.bits_of.ensures ∙ c.in-Number.is)))
+pub returns-in-Some : goal.returns-in-Some
+returns-in-Some c = binary_known _ _ c.if-levels-gt64.false (known_bits _ (sym c.bits_in.ensures ∙ c.in-Some.is))
 
-pub returns-in-Other : goal.returns-in-Other
-returns-in-Other c =
-    c.refused_levels-in-Other.ensures ∙ ap flat_number (binary_other _ _ c.if-width-gt64.false (other_bits _ (sym c.bits_of.ensures ∙ c.in-Other.is)))
-
-pub refused_levels-requires : goal.refused_levels-requires
-refused_levels-requires c = c.requires.0
-
-pub refused_levels-requires-in-Other : goal.refused_levels-requires-in-Other
-refused_levels-requires-in-Other c = c.requires.0
+pub returns-in-None : goal.returns-in-None
+returns-in-None c = c.refused_levels-in-None.ensures ∙ binary_other _ _ c.if-levels-gt64.false (other_bits _ (sym c.bits_in.ensures ∙ c.in-None.is))

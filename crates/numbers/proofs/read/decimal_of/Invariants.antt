@@ -3,8 +3,5 @@
 use Rattle.numbers.proofs.Forms.{Read}
 use Rattle.numbers.proofs.read.decimal_of.Given as goal
 
-abbrev pub invariant-loop-left : goal.invariant-loop-left
-invariant-loop-left l = Read l.count l.number l.left l.working
-
-abbrev pub decreases-loop-left : goal.decreases-loop-left
-decreases-loop-left l = l.left
+abbrev pub invariant-loop-i : goal.invariant-loop-i
+invariant-loop-i l = Read l.count l.number l.i l.working
