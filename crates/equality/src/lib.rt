@@ -12,7 +12,7 @@ ghost use Rattle.signal.specs.Parts.{Whole};
 ghost use Rattle.equality.specs.Compare.{lent_by, compare_records, equal_of};
 ghost use Rattle.equality.specs.Pairs.{held_in, held_of, coded, same_held, pair_of};
 
-use fst::record::is_bad;
+use fst::record::{Slices, is_bad};
 use fst::{Encoding, Refusal};
 use layout::bytes::read_block;
 use signal::decode::Vector;
@@ -41,13 +41,13 @@ impl Lent<'_> {
         ensures { result ≡ is_bad self.now.record.description (lent_by self.now) }
     {
         let record = self.record;
-        is_bad(
-            record.description,
-            record.bytes,
-            record.byte_start,
-            self.indices,
-            self.index_start,
-        )
+        let slices = Slices {
+            bytes: record.bytes,
+            byte_start: record.byte_start,
+            indices: self.indices,
+            index_start: self.index_start,
+        };
+        is_bad(record.description, slices)
     }
 
     // An entry of a record that is not 2.
