@@ -1,27 +1,26 @@
 -- What a turn of a walk over a wide string makes: codes by bits, an array that is filled from the front, and the bytes of levels.
 -- Assumes nothing.
 use mathlib.Core.Path.{◌≡◌, refl, sym, ap, ap₂, ◌∙◌}
-use mathlib.Core.Bool.{Bool, true, false, ◌&&◌}
 use mathlib.Core.List.{List, [], ◌∷◌, ◌++◌, append_assoc}
 use Prim.Native.Nat.{ℕ, suc, ◌+◌, ◌-◌, ◌*◌, ◌/◌, ◌%◌, ◌^◌, ◌≤◌, ◌<◌}
-use native.Mathlib.Nat.{mod-eq_of_lt, zero-add}
+use native.Mathlib.Nat.{zero-add}
 use native.Mathlib.Omega.{arith}
 use native.Mathlib.Numerals.{add-one}
-use lib.Dec.{eqb}
-use lib.Bits.{mask_lt, and_mask, bit_and, bit_or, bit_xor, or_shifted, or_zero_r}
+use lib.Bits.{bit_and, bit_or, bit_xor, or_shifted, or_zero_r}
 use lib.Pow.{shl_exact}
-use lib.ListN.{length, get_or, take, drop, set, replicate}
+use lib.ListN.{length, get_or, take, set, replicate}
 use lib.Seq.{length-take-le, take-suc, take_all}
+use Rattle.std.specs.Int.{to_be_bytes}
+use mir.Syntax.{w16}
 use Rattle.value.specs.declared.States.TheVariants.{Four}
 use Rattle.value.specs.Digits.{number, digits, Below}
-use Rattle.value.specs.Slice.{part, overlay, same}
+use Rattle.value.specs.Slice.{overlay}
 use Rattle.value.specs.Level.{fold, fold_all, code_of, codes_of, place_in}
 use Rattle.value.proofs.Classes.{code_by}
 use Rattle.value.proofs.Digits.{number_lt, below_at}
-use Rattle.value.proofs.Backward.{below_part, part_cons, overlay_whole}
-use Rattle.value.proofs.Slices.{part_length, part_nil, overlay_one, overlay_store}
+use Rattle.value.proofs.Backward.{overlay_whole}
+use Rattle.value.proofs.Slices.{overlay_store}
 use Rattle.wavemem.specs.Packed.{packed_with, packed_from}
-use Rattle.wavemem.proofs.Words.{word_bytes}
 use Rattle.wavemem.proofs.Packing.{length_codes, packed_length, packed_append, packed_one, next_stored}
 
 -- ---- the code of a character
@@ -74,14 +73,6 @@ pair_stored cs below l k h so_far =
     ∙ sym (packed_append 4 0 1 (take i cs) (x ∷ y ∷ []) (a, (b, tt)) refl (λ g. absurd (omega arith)))
     ∙ ap (packed_with 4 0) (sym t))
 
--- ---- eight characters as one word
-
-pub word_digits : (v : List ℕ) (from w : ℕ) → from + 8 ≤ length v → Below 256 v → w ≡ number 256 (take (from + 8 - from) (drop from v)) → digits 256 8 w ≡ part from 8 v
-unfolding part
-word_digits v from w h below e =
-    let z : from + 8 - from ≡ 8 = omega arith in
-    word_bytes (part from 8 v) w (part_length v from 8 h) (below_part 256 v below from 8) (e ∙ ap (λ (n : ℕ). number 256 (take n (drop from v))) z)
-
 -- ---- the two bytes of eight levels of two bits
 
 module _ (v : List ℕ) (long : length v ≡ 8) (below : Below 4 (codes_of (fold_all v))) (x : ℕ) (is : x ≡ number 4 (codes_of (fold_all v))) where
@@ -91,33 +82,11 @@ module _ (v : List ℕ) (long : length v ≡ 8) (below : Below 4 (codes_of (fold
   length_cs : length cs ≡ 8
   length_cs = length_codes v ∙ long
 
-  word_small : x < 65536
+  pub word_small : x < 65536
   word_small = rw is (rw length_cs at (number_lt 4 cs below))
 
-  pub high_byte : bit_and (x / 256) 255 ≡ x / 256
-  high_byte = and_mask (x / 256) 8 ∙ mod-eq_of_lt {n = x / 256} {m = 256} (omega (arith, word_small))
-
-  pub two_bytes : packed_from Four 0 v ≡ x / 256 ∷ bit_and x 255 ∷ []
+  pub two_bytes : packed_from Four 0 v ≡ to_be_bytes w16 x
   unfolding packed_with digits
   two_bytes =
       ap (λ (k : ℕ). let n = (k * 2 + 7) / 8 in digits 256 n (0 * 256 ^ (n - 1) + number 4 cs)) length_cs
-      ∙ ap₂ (λ (a b : ℕ). a ∷ b ∷ []) (omega (arith, word_small)) (let e : (0 * 256 + number 4 cs) / 1 % 256 ≡ x % 256 = omega arith in e ∙ sym (and_mask x 8))
-
-pub low_byte : (x : ℕ) → bit_and x 255 < 256
-low_byte x = mask_lt x 8
-
--- stores of two elements, one behind the other
-pub two_stored : (l : List ℕ) (at a b : ℕ) → at + 1 < length l → set (set l at a) (at + 1) b ≡ overlay l at (a ∷ b ∷ [])
-two_stored l at a b h =
-    ap (λ (o : List ℕ). set o (at + 1) b) (sym (overlay_one l at a (omega arith)))
-    ∙ overlay_store l at (a ∷ []) (at + 1) b refl h
-
--- a comparison of two elements
-pub two_compared : (l : List ℕ) (at a b : ℕ) → at + 1 < length l → same (part at 2 l) (a ∷ b ∷ []) ≡ eqb (get_or l at 0) a && eqb (get_or l (at + 1) 0) b
-unfolding same
-two_compared l at a b h = rw (part_cons l at 1 0 (omega arith), part_cons l (at + 1) 0 0 h, part_nil) (and_true (eqb (get_or l at 0) a) (eqb (get_or l (at + 1) 0) b))
-  where
-    and_true : (p q : Bool) → p && (q && true) ≡ p && q
-    and_true true true = refl
-    and_true true false = refl
-    and_true false q = refl
+      ∙ ap₂ (λ (a b : ℕ). a ∷ b ∷ []) (omega arith) (omega arith)

@@ -8,6 +8,7 @@ use native.Mathlib.Nat.{suc_inj, suc-ne-zero}
 use native.Mathlib.Omega.{arith}
 use native.Mathlib.Numerals.{add-one}
 use lib.Dec.{eqb}
+use lib.Pointwise.{pointwise}
 use lib.ListN.{length, get_or, drop, length-drop}
 use lib.Seq.{take-suc, get_or-drop}
 use Rattle.value.specs.Slice.{part, same}
@@ -36,3 +37,11 @@ same_append (x ∷ a) b (y ∷ c) d e = ap (λ (t : Bool). eqb x y && t) (same_a
 pub part_more : (l : List ℕ) (start n : ℕ) → start + n < length l → part start (n + 1) l ≡ part start n l ++ (get_or l (start + n) 0 ∷ [])
 unfolding part
 part_more l start n h = rw (add-one, take-suc (drop start l) n 0 (rw length-drop (omega arith)), get_or-drop)
+
+-- the comparison of slices by std
+pub pointwise_same : (a b : List ℕ) → pointwise eqb a b ≡ same a b
+unfolding same
+pointwise_same [] [] = refl
+pointwise_same [] (y ∷ b) = refl
+pointwise_same (x ∷ a) [] = refl
+pointwise_same (x ∷ a) (y ∷ b) = ap (λ (t : Bool). eqb x y && t) (pointwise_same a b)

@@ -2,27 +2,25 @@
 -- Assumes nothing.
 use mathlib.Core.Path.{◌≡◌, refl, sym, ap, ap₂, ◌∙◌}
 use mathlib.Core.Bool.{Bool, true, false, ◌&&◌}
-use mathlib.Core.List.{◌∷◌, List, [], ◌++◌}
-use Prim.Native.Nat.{◌/◌, ℕ, ◌+◌, ◌-◌, ◌*◌, ◌%◌, ◌^◌, ◌≤◌, ◌<◌}
-use native.Mathlib.Nat.{sub-zero, zero-mul, mul-mod_left, mod-eq_of_lt, add-mod_right}
+use mathlib.Core.List.{List, [], ◌++◌}
+use Prim.Native.Nat.{◌/◌, ℕ, zero, suc, ◌+◌, ◌-◌, ◌*◌, ◌%◌, ◌≤◌, ◌<◌}
+use native.Mathlib.Nat.{sub-zero, zero-mul, suc-mul, add_comm, mul_comm, mul-le-mul_left, mul-le-mul_right, mod-add-div, mod-lt, add-mul, mul_assoc, mul-lt-mul_of_pos_right, mul-div_left, mul-mod_left, mod-eq_of_lt, add-mod_right}
 use native.Mathlib.Omega.{arith}
-use borrow.Author.Tests.{eq-eqb, ne_eqb}
-use lib.Dec.{eqb}
-use lib.Bits.{bit_and, or_zero_r}
-use lib.ListN.{length, get_or, set, take, drop, length-drop, take-append-drop}
+use borrow.Rule.Slice.PartMut.{put_mid}
+use Rattle.std.proofs.lemmas.Nat.{mod-mul-add}
+use lib.ListN.{length, get_or, take, drop, length-drop, take-append-drop}
 use lib.Seq.{drop-length, drop-drop, length-take-le, take-add, take_all}
+use Rattle.std.specs.Simd.{first_chunks}
 use Rattle.value.specs.declared.States.{States}
 use Rattle.value.specs.declared.States.TheVariants.{Two, Four, Nine}
-use Rattle.value.specs.Digits.{number, digits}
+use Rattle.value.specs.Digits.{digits}
 use Rattle.value.specs.Slice.{part, overlay, same}
-use Rattle.value.specs.Level.{fold_all, codes_of, bits_of, len_of}
+use Rattle.value.specs.Level.{fold_all, codes_of, len_of}
 use Rattle.value.proofs.Tests.{by_le}
-use Rattle.value.proofs.Backward.{part_cons}
-use Rattle.value.proofs.Slices.{part_nil, part_length, part_add, overlay_length, overlay_nil, overlay_one, overlay_overlay}
-use Rattle.wavemem.specs.Packed.{packed_with, packed_from, Codes, FullByte, WholeBytes}
+use Rattle.value.proofs.Slices.{part_nil, part_length, part_add, overlay_length, overlay_nil, overlay_overlay}
+use Rattle.wavemem.specs.Packed.{packed_with, packed_from, Codes, Fills, WholeBytes}
 use Rattle.wavemem.proofs.Compare.{same_append}
-use Rattle.wavemem.proofs.Blocks.{high_byte, two_bytes, two_stored, two_compared}
-use Rattle.wavemem.proofs.Packing.{per_byte, per_bits, len_none, length_codes, drop_codes, take_codes, packed_from_length, packed_one, packed_parts}
+use Rattle.wavemem.proofs.Packing.{per_byte, per_pos, len_none, len_full, drop_codes, take_codes, packed_from_length, packed_parts}
 
 -- ---- a string that is packed part by part
 
@@ -166,6 +164,9 @@ module _ {s : States} {v : List ℕ} {room at : ℕ} (ok : WholeBytes s v room a
         place = omega (arith, p.place, a.0);
       }
 
+  pub turn_size : length (packed_from s 0 (part from n v)) ≡ len_of n s
+  turn_size = packed_from_length s 0 (part from n v) ∙ ap (λ (k : ℕ). len_of k s) (part_length v from n turn_within)
+
   pub turn_codes : Codes s (codes_of (fold_all (part from n v)))
   unfolding part
   turn_codes = take_codes n (drop from v) (drop_codes from v ok.codes)
@@ -247,93 +248,68 @@ module _ {s : States} {v bytes : List ℕ} {at n : ℕ} (ok : WholeBytes s v (le
   pub agrees_not : next_same ≡ false → false ≡ agree s bytes at v
   agrees_not t = sym (sym h.left ∙ turn_compared ok h.passed full more bytes refl ∙ rw t)
 
--- ---- turns of one byte
+-- ---- the turns of a walk, one after the other
 
-pub byte_full : (s : States) → len_of (per_byte s) s * per_byte s ≡ per_byte s
-byte_full Two = refl
-byte_full Four = refl
-byte_full Nine = refl
+-- a part that is written behind a borrow
+pub put_is : (l new : List ℕ) (at n : ℕ) → length new ≡ n → put_mid at (at + n - at) l new ≡ overlay l at new
+unfolding overlay
+put_is l new at n e =
+    ap (λ (r : List ℕ). take at l ++ (new ++ r)) (drop-drop (at + n - at) at l ∙ ap (λ (k : ℕ). drop k l) (omega (arith, e)))
 
-pub byte_len : (s : States) → len_of (per_byte s) s ≡ 1
-byte_len Two = refl
-byte_len Four = refl
-byte_len Nine = refl
+pub chunk_at : {A : Type 0} (n k i : ℕ) (l : List A) (d : List A) → i < k → get_or (first_chunks n k l) i d ≡ part (i * n) n l
+unfolding part
+chunk_at n zero i l d h = absurd (omega arith)
+chunk_at n (suc k) zero l d h = rw zero-mul refl
+chunk_at n (suc k) (suc i) l d h =
+    chunk_at n k i (drop n l) d (omega arith) ∙ ap (take n) (drop-drop (i * n) n l) ∙ ap (λ (j : ℕ). take n (drop j l)) (add_comm n (i * n) ∙ sym (suc-mul i n))
 
-pub byte_turns : {s : States} {v : List ℕ} {room at : ℕ} → WholeBytes s v room at → length v % per_byte s ≡ 0
-byte_turns {s} {v} ok = rw (← ok.full) (mul-mod_left (len_of (length v) s) (per_byte s))
+module _ {s : States} {n m : ℕ} (f : Fills s n m) where
+  pub fills_len : len_of n s ≡ m
+  fills_len = ap (λ (k : ℕ). len_of k s) (sym f.full) ∙ len_full m s
 
-module _ {s : States} {v : List ℕ} {room at : ℕ} (ok : WholeBytes s v room at) {from to : ℕ} (p : Passed s (length v) at (per_byte s) from to) (more : from < length v) where
-  pub byte_within : from + per_byte s ≤ length v
-  byte_within = turn_within ok p (byte_full s) more
+  pub fills_full : len_of n s * per_byte s ≡ n
+  fills_full = rw fills_len f.full
 
-  pub byte_fits : to < room
-  byte_fits = omega (arith, turn_fits ok p (byte_full s) more, byte_len s)
+  pub fills_few : m ≤ 4096
+  fills_few = omega (arith, f.few, f.full, mul-le-mul_left m (per_pos s))
 
-  -- the characters that are lent, and x their number
-  pub byte_lent : FullByte s (take (from + per_byte s - from) (drop from v))
-  unfolding part
-  byte_lent =
-      let z : from + per_byte s - from ≡ per_byte s = omega arith in
-      let l : length (part from (per_byte s) v) ≡ per_byte s = part_length v from (per_byte s) byte_within in
-      rw z (record { one = record { codes = turn_codes ok p (byte_full s) more; short = rw l (omega (arith, per_bits s)) }; full = l })
+  -- turns of w characters
+  pub turn_more : {w i : ℕ} → i < w / n → i * n < w
+  turn_more {w} {i} h = omega (arith, mul-le-mul_right n h, suc-mul i n, mod-add-div w n, mul_comm n (w / n), f.some)
 
-  module _ {x : ℕ} (is : x ≡ number (2 ^ bits_of s) (codes_of (fold_all (take (from + per_byte s - from) (drop from v))))) where
-    pub byte_is : packed_from s 0 (part from (per_byte s) v) ≡ x ∷ []
-    unfolding part
-    byte_is =
-        let z : from + per_byte s - from ≡ per_byte s = omega arith in
-        let u = part from (per_byte s) v in
-        let l : length (codes_of (fold_all u)) ≡ per_byte s = length_codes u ∙ part_length v from (per_byte s) byte_within in
-        packed_one (bits_of s) 0 (codes_of (fold_all u)) (turn_codes ok p (byte_full s) more).below
-        (rw l (omega (arith, per_bits s))) (rw l (omega (arith, per_bits s))) refl (omega arith) (λ h. absurd (omega arith))
-        ∙ ap (λ (y : ℕ). y ∷ []) (or_zero_r _ ∙ sym (rw z at is))
+  pub turn_last : {w i : ℕ} → w % n ≡ 0 → w / n ≤ i → w ≤ i * n
+  turn_last {w} {i} e h = omega (arith, mul-le-mul_right n h, mod-add-div w n, mul_comm n (w / n))
 
-    byte_same : (bytes : List ℕ) → length bytes ≡ room → same (part to (len_of (per_byte s) s) bytes) (packed_from s 0 (part from (per_byte s) v)) ≡ eqb (get_or bytes to 0) x
-    unfolding same
-    byte_same bytes e = rw (byte_len s, byte_is, part_cons bytes to 0 0 (rw e byte_fits), part_nil) (and_true (eqb (get_or bytes to 0) x))
-      where
-        and_true : (t : Bool) → t && true ≡ t
-        and_true true = refl
-        and_true false = refl
+  -- the turns behind as many characters in front as they leave
+  pub turn_lead : {v : List ℕ} {room at to : ℕ} → WholeBytes s v room at → to ≡ at + len_of (length v % n) s → Passed s (length v) at n (length v % n) to
+  turn_lead {v} ok e =
+      let w = length v in
+      let k = per_byte s in
+      let big : ℕ = len_of w s in
+      let r : ℕ = big % m in
+      let some : 0 < m = by_le 1 m (λ h. h) (λ h. let z : m ≡ 0 = omega arith in absurd (omega (arith, f.some, f.full, ap (λ (x : ℕ). x * k) z, zero-mul k))) in
+      let parts : big ≡ big / m * m + r = omega (arith, mod-add-div big m, mul_comm m (big / m)) in
+      let whole : w ≡ big / m * n + r * k =
+      sym ok.full ∙ ap (λ (x : ℕ). x * k) parts ∙ add-mul (big / m * m) r k ∙ ap (λ (x : ℕ). x + r * k) (mul_assoc (big / m) m k ∙ ap (λ (x : ℕ). big / m * x) f.full) in
+      let below : r * k < m * k = mul-lt-mul_of_pos_right (mod-lt big some) (per_pos s) in
+      let left : w % n ≡ r * k = ap (λ (x : ℕ). x % n) whole ∙ mod-mul-add (big / m) n (r * k) (rw f.full at below) in
+      record {
+        within = omega (arith, mod-add-div w n);
+        turns = let z : w - w % n ≡ w / n * n = omega (arith, mod-add-div w n, mul_comm n (w / n)) in rw z (mul-mod_left (w / n) n);
+        full = rw left (ap (λ (x : ℕ). x * k) (len_full r s));
+        place = e;
+      }
 
-pub byte_stored : {s : States} {v d : List ℕ} {at : ℕ} (ok : WholeBytes s v (length d) at) {out : List ℕ} {from to next x : ℕ} → Stored s v d at (per_byte s) out from to
-    → from < length v → next ≡ to + 1 → x ≡ number (2 ^ bits_of s) (codes_of (fold_all (take (from + per_byte s - from) (drop from v))))
-    → Stored s v d at (per_byte s) (set out to x) (from + per_byte s) next
-byte_stored {s} ok {out} {to = to} {x = x} h more q is =
-    stored_on ok h (byte_full s) more (rw (byte_len s) q)
-    (sym (overlay_one out to x (omega (arith, byte_fits ok h.passed more, stored_long ok h))) ∙ ap (overlay out to) (sym (byte_is ok h.passed more is)))
+-- whole bytes are turns of one byte
+pub turn_one : {s : States} {n : ℕ} → Fills s n 1 → {v : List ℕ} {room at : ℕ} → WholeBytes s v room at → length v % n ≡ 0
+turn_one {s} f {v} ok =
+    let k = per_byte s in
+    let one : 1 * k ≡ k = omega arith in
+    ap₂ (λ (a b : ℕ). a % b) (sym ok.full) (sym f.full ∙ one) ∙ mul-mod_left (len_of (length v) s) k
 
-module _ {s : States} {v bytes : List ℕ} {at : ℕ} (ok : WholeBytes s v (length bytes) at) {from to : ℕ} (h : Agrees s v bytes at (per_byte s) from to) (more : from < length v)
-    {x : ℕ} (is : x ≡ number (2 ^ bits_of s) (codes_of (fold_all (take (from + per_byte s - from) (drop from v))))) where
-  pub byte_agrees : {next : ℕ} → next ≡ to + 1 → get_or bytes to 0 ≡ x → Agrees s v bytes at (per_byte s) (from + per_byte s) next
-  byte_agrees q e = agrees_on ok h (byte_full s) more (rw (byte_len s) q) (byte_same ok h.passed more is bytes refl ∙ eq-eqb (get_or bytes to 0) x e)
-
-  pub byte_differs : (get_or bytes to 0 ≡ x → ⊥) → false ≡ agree s bytes at v
-  byte_differs f = agrees_not ok h (byte_full s) more (byte_same ok h.passed more is bytes refl ∙ ne_eqb (get_or bytes to 0) x f)
-
--- ---- turns of eight characters of the set Four, x their number
-
-module _ {v : List ℕ} {room at : ℕ} (ok : WholeBytes Four v room at) {from to : ℕ} (p : Passed Four (length v) at 8 from to) (more : from < length v)
-    {x : ℕ} (is : x ≡ number 4 (codes_of (fold_all (part from 8 v)))) where
-  word_length : length (part from 8 v) ≡ 8
-  word_length = part_length v from 8 (turn_within ok p refl more)
-
-  word_bytes : packed_from Four 0 (part from 8 v) ≡ x / 256 ∷ bit_and x 255 ∷ []
-  word_bytes = two_bytes (part from 8 v) word_length (turn_codes ok p refl more).below x is
-
-  pub word_stored : (out : List ℕ) → length out ≡ room → set (set out to (bit_and (x / 256) 255)) (to + 1) (bit_and x 255) ≡ overlay out to (packed_from Four 0 (part from 8 v))
-  word_stored out e =
-      ap (λ (y : ℕ). set (set out to y) (to + 1) (bit_and x 255)) (high_byte (part from 8 v) word_length (turn_codes ok p refl more).below x is)
-      ∙ two_stored out to (x / 256) (bit_and x 255) (omega (arith, turn_fits ok p refl more))
-      ∙ ap (overlay out to) (sym word_bytes)
-
-  pub word_same : (bytes : List ℕ) → length bytes ≡ room
-      → same (part to 2 bytes) (packed_from Four 0 (part from 8 v)) ≡ eqb (get_or bytes to 0) (x / 256) && eqb (get_or bytes (to + 1) 0) (bit_and x 255)
-  word_same bytes e = rw word_bytes (two_compared bytes to (x / 256) (bit_and x 255) (omega (arith, turn_fits ok p refl more)))
-
--- as many characters in front as turns leave
-pub lead_nine : {v : List ℕ} {room at to : ℕ} → WholeBytes Nine v room at → to ≡ at + len_of (length v % 32) Nine → Passed Nine (length v) at 32 (length v % 32) to
-lead_nine ok e = let f = ok.full in record { within = omega arith; turns = omega arith; full = omega arith; place = e }
-
-pub lead_four : {v : List ℕ} {room at to : ℕ} → WholeBytes Four v room at → to ≡ at + len_of (length v % 8) Four → Passed Four (length v) at 8 (length v % 8) to
-lead_four ok e = let f = ok.full in record { within = omega arith; turns = omega arith; full = omega arith; place = e }
+-- how many bytes they are
+pub turn_place : {s : States} {n : ℕ} → Fills s n 1 → {from : ℕ} → len_of from s * per_byte s ≡ from → from / n ≡ len_of from s
+turn_place {s} f {from} e =
+    let k = per_byte s in
+    let one : 1 * k ≡ k = omega arith in
+    ap₂ (λ (a b : ℕ). a / b) (sym e) (sym f.full ∙ one) ∙ mul-div_left (len_of from s) (per_pos s)

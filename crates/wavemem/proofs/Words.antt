@@ -9,10 +9,19 @@ use native.Mathlib.Omega.{arith}
 use lib.Bits.{bit_or, or_block, or_shifted}
 use lib.Pow.{pow-add, pow_pos, shl_exact}
 use lib.ListN.{length, get_or, take, replicate, length-append, length-replicate}
-use lib.Seq.{length-take-le, take-suc}
+use lib.Seq.{length-take-le, take-suc, take_all}
+use Rattle.std.specs.Int.{from_be_bytes}
+use mir.Syntax.{w64}
 use Rattle.value.specs.Digits.{number, digits, Below}
 use Rattle.value.proofs.Digits.{below_at, below_append, below_take, number_lt, number_more, number_snoc, digits_number}
 use Rattle.wavemem.proofs.Lanes.{below_replicate}
+
+-- the word that std makes of eight bytes
+pub be_number : (v : List ℕ) → length v ≡ 8 → from_be_bytes w64 v ≡ number 256 v
+unfolding number
+be_number v l =
+    let m : (i : ℕ) → i < length v → number 256 (take (i + 1) v) ≡ number 256 (take i v) * 256 + get_or v i 0 = λ i h. number_more 256 v i 0 h in
+    omega (arith, m 0 (omega arith), m 1 (omega arith), m 2 (omega arith), m 3 (omega arith), m 4 (omega arith), m 5 (omega arith), m 6 (omega arith), m 7 (omega arith), ap (number 256) (take_all 8 v (omega arith)))
 
 -- `word | (c << t)`
 pub word_more : (v : List ℕ) (i w t : ℕ) → 8 + t ≤ 64 → i < length v → Below 256 v → w ≡ number 256 (take i v) * 2 ^ (8 + t)

@@ -40,10 +40,11 @@ pub record OneByte (s : States) (value : List ℕ) : Type 0 where
 pub record ByLowBits (codes : List ℕ) : Type 0 where
   pub here : (c : ℕ) → c < 256 → code_of (fold c) < 9 → get_or codes (bit_and c 31 - 8) 0 ≡ code_of (fold c)
 
--- characters that fill one byte
-pub record FullByte (s : States) (value : List ℕ) : Type 0 where
-  pub one : OneByte s value
-  pub full : length value ≡ 8 / bits_of s
+-- n characters fill m bytes
+pub record Fills (s : States) (n m : ℕ) : Type 0 where
+  pub some : 0 < n
+  pub few : n ≤ 4096
+  pub full : m * (8 / bits_of s) ≡ n
 
 -- characters that fill whole bytes, to be packed without meta data
 pub record WholeBytes (s : States) (value : List ℕ) (room at : ℕ) : Type 0 where

@@ -1,6 +1,8 @@
 -- `wavemem::byte_from_ascii` meets its contract.
 -- Assumes nothing.
+use native.Mathlib.Omega.{arith}
+use Rattle.wavemem.proofs.Packing.{byte_small}
 use Rattle.wavemem.proofs.byte_from_ascii.Goals as goal
 
-pub byte_by_low_bits-requires : goal.byte_by_low_bits-requires
-byte_by_low_bits-requires c = (c.requires, c.codes_by_low_bits-codes.ensures)
+pub overflow_cast-result : goal.overflow_cast-result
+overflow_cast-result c = omega (arith, c.number.ensures, byte_small c.requires)
