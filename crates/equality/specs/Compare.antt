@@ -10,9 +10,8 @@ use Rattle.fst.specs.declared.Encoding.TheVariants.{Event, Real, BitVector}
 use Rattle.fst.specs.declared.Description.{Description}
 use Rattle.fst.specs.declared.Refusal.{Refusal}
 use Rattle.fst.specs.Refusal.{refusal_number, Reply, refused, given, Test, ◌⇐◌, tried}
-use Rattle.fst.specs.Record.{Lent, lent, kept_in, is_bad}
+use Rattle.fst.specs.Record.{Lent, kept_in, is_bad}
 use Rattle.signal.specs.Decode.{Indexed, entries_in, has_bad_mark, has_bad_code, text_in}
-use Rattle.equality.specs.declared.Lent as call
 
 -- "reals by float ==", from the bits
 unfoldable pub same_real : List ℕ → List ℕ → Bool
@@ -49,10 +48,6 @@ walked (a ∷ l) (b ∷ m) =
 -- "2 for the first, then the second"
 unfoldable pub compare_records : Description → Lent → Description → Lent → Reply Bool
 compare_records d l e m = tried (2 ⇐ is_bad d l ∷ 2 ⇐ is_bad e m ∷ []) (walked (entries_in (kept_in d l)) (entries_in (kept_in e m)))
-
--- the record of a call, as it is lent
-abbrev pub lent_by : call.Lent → Lent
-lent_by l = lent l.record.bytes.now l.record.byte_start l.indices.now l.index_start
 
 -- the answer, by number and value
 abbrev pub equal_of : Result Bool Refusal → Reply Bool

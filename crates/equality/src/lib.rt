@@ -6,14 +6,14 @@ ghost use Rattle.std.specs.Float.Ieee.{eq, of_bits};
 ghost use Rattle.std.specs.Float.{binary64};
 ghost use Rattle.value.specs.Digits.{number};
 ghost use Rattle.value.specs.Slice.{same};
-ghost use Rattle.fst.specs.Record.{is_bad};
+ghost use Rattle.fst.specs.Record.{lent_in, is_bad};
 ghost use Rattle.signal.specs.Decode.{entry_at, codes_at};
 ghost use Rattle.signal.specs.Parts.{Whole};
-ghost use Rattle.equality.specs.Compare.{lent_by, compare_records, equal_of};
+ghost use Rattle.equality.specs.Compare.{compare_records, equal_of};
 ghost use Rattle.equality.specs.Pairs.{held_in, held_of, coded, same_held, pair_of};
 
 use fst::record::{Slices, is_bad};
-use fst::{Encoding, Refusal};
+use fst::{Description, Encoding, Refusal};
 use layout::bytes::read_block;
 use signal::decode::Vector;
 use signal::packed::Packed;
@@ -22,9 +22,8 @@ use signal::read::Record;
 // A record in the two slices that it is lent with.
 #[derive(Clone, Copy)]
 pub struct Lent<'a> {
-    pub record: Record<'a>,
-    pub indices: &'a [u32],
-    pub index_start: usize,
+    pub description: Description,
+    pub slices: Slices<'a>,
 }
 
 // The time index of an entry.
@@ -36,31 +35,21 @@ fn index_at(indices: &[u32], index_start: usize, entry: u32) -> u32
 }
 
 impl Lent<'_> {
-    // Number 2.
-    fn is_bad(&self) -> bool
-        ensures { result ≡ is_bad self.now.record.description (lent_by self.now) }
-    {
-        let record = self.record;
-        let slices = Slices {
-            bytes: record.bytes,
-            byte_start: record.byte_start,
-            indices: self.indices,
-            index_start: self.index_start,
-        };
-        is_bad(record.description, slices)
-    }
-
     // An entry of a record that is not 2.
     fn entry(&self, k: u32) -> Indexed<'_>
-        requires { (is_bad self.now.record.description (lent_by self.now) ≡ false) × (k < self.now.record.description.count) }
-        ensures index { result.index ≡ get_or self.now.indices.now (self.now.index_start + k) 0 }
-        ensures encoding { result.encoding ≡ self.now.record.description.encoding }
-        ensures bytes { result.bytes.now ≡ entry_at self.now.record.description.encoding self.now.record.byte_start self.now.record.bytes.now k }
+        requires { (is_bad self.now.description (lent_in self.now.slices) ≡ false) × (k < self.now.description.count) }
+        ensures index { result.index ≡ get_or self.now.slices.indices.now (self.now.slices.index_start + k) 0 }
+        ensures encoding { result.encoding ≡ self.now.description.encoding }
+        ensures bytes { result.bytes.now ≡ entry_at self.now.description.encoding self.now.slices.byte_start self.now.slices.bytes.now k }
     {
-        let record = self.record;
+        let record = Record {
+            description: self.description,
+            bytes: self.slices.bytes,
+            byte_start: self.slices.byte_start,
+        };
         Indexed {
-            index: index_at(self.indices, self.index_start, k),
-            encoding: record.description.encoding,
+            index: index_at(self.slices.indices, self.slices.index_start, k),
+            encoding: self.description.encoding,
             bytes: record.entry_at(k),
         }
     }
@@ -178,12 +167,12 @@ fn compare_pair(a: &Indexed, b: &Indexed) -> Result<bool, Refusal>
 
 // The entries of two records that are not 2, in pairs.
 fn compare_entries(a: &Lent, b: &Lent) -> Result<bool, Refusal>
-    requires a_sound { is_bad a.now.record.description (lent_by a.now) ≡ false }
-    requires b_sound { is_bad b.now.record.description (lent_by b.now) ≡ false }
-    ensures { equal_of result ≡ compare_records a.now.record.description (lent_by a.now) b.now.record.description (lent_by b.now) }
+    requires a_sound { is_bad a.now.description (lent_in a.now.slices) ≡ false }
+    requires b_sound { is_bad b.now.description (lent_in b.now.slices) ≡ false }
+    ensures { equal_of result ≡ compare_records a.now.description (lent_in a.now.slices) b.now.description (lent_in b.now.slices) }
 {
-    let a_count = a.record.description.count;
-    let b_count = b.record.description.count;
+    let a_count = a.description.count;
+    let b_count = b.description.count;
     for k in 0..a_count.min(b_count) {
         let agree = compare_pair(&a.entry(k), &b.entry(k))?;
         if !agree {
@@ -194,9 +183,9 @@ fn compare_entries(a: &Lent, b: &Lent) -> Result<bool, Refusal>
 }
 
 pub fn compare_records(a: &Lent, b: &Lent) -> Result<bool, Refusal>
-    ensures { equal_of result ≡ compare_records a.now.record.description (lent_by a.now) b.now.record.description (lent_by b.now) }
+    ensures { equal_of result ≡ compare_records a.now.description (lent_in a.now.slices) b.now.description (lent_in b.now.slices) }
 {
-    if a.is_bad() || b.is_bad() {
+    if is_bad(a.description, a.slices) || is_bad(b.description, b.slices) {
         return Err(Refusal::BadRecord);
     }
     compare_entries(a, b)

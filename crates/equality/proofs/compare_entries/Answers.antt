@@ -6,7 +6,8 @@ use native.Mathlib.Omega.{arith}
 use Rattle.std.proofs.lemmas.Result.{err_from_is_err_and}
 use Rattle.fst.proofs.Records.{standing}
 use Rattle.signal.proofs.Entries.{rest}
-use Rattle.equality.specs.Compare.{lent_by, walked, compare_records, equal_of}
+use Rattle.fst.specs.Record.{lent_in}
+use Rattle.equality.specs.Compare.{walked, compare_records, equal_of}
 use Rattle.equality.proofs.Comparing.{follow, walk_starts, step, ended}
 use Rattle.equality.proofs.compare_entries.Goals.{After-compare_pair}
 use Rattle.equality.proofs.compare_entries.Goals as goal
@@ -15,8 +16,8 @@ use Rattle.equality.proofs.compare_entries.Goals as goal
 paired : (c : After-compare_pair)
     → let a = c.args.a.now in
     let b = c.args.b.now in
-    compare_records a.record.description (lent_by a) b.record.description (lent_by b)
-    ≡ follow (equal_of c.compare_pair.result) (walked (rest a.record.description (lent_by a) (c.loop-k.k + 1)) (rest b.record.description (lent_by b) (c.loop-k.k + 1)))
+    compare_records a.description (lent_in a.slices) b.description (lent_in b.slices)
+    ≡ follow (equal_of c.compare_pair.result) (walked (rest a.description (lent_in a.slices) (c.loop-k.k + 1)) (rest b.description (lent_in b.slices) (c.loop-k.k + 1)))
 paired c =
     let x = c.entry.ensures in
     let y = c.entry-in-loop-k.ensures in

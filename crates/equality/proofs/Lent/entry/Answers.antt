@@ -3,11 +3,11 @@
 use Rattle.fst.proofs.Records.{standing}
 use Rattle.signal.proofs.Reading.{inside, whole}
 use Rattle.signal.proofs.Entries.{HasIndexed, has_entry, has_index}
-use Rattle.equality.specs.Compare.{lent_by}
+use Rattle.fst.specs.Record.{lent_in}
 use Rattle.equality.proofs.Lent.entry.Goals.{Start}
 use Rattle.equality.proofs.Lent.entry.Goals as goal
 
-has : (c : Start) → let l = c.args.self.now in HasIndexed l.record.description (lent_by l) c.args.k
+has : (c : Start) → let l = c.args.self.now in HasIndexed l.description (lent_in l.slices) c.args.k
 has c = record { stands = standing c.requires.0; below = c.requires.1 }
 
 pub index_at-requires : goal.index_at-requires
