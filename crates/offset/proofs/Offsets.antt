@@ -151,13 +151,13 @@ module _ (l : List ℕ) (s : ℕ) (small : length l ≤ maximum) (rises : falls 
   none_exactly = (λ e. by_le (length l) 0 (λ h. inl (omega arith)) (λ h. by_le (get_or l 0 0) s (λ a. only e h a) (λ a. inr (h, a))), none_given)
     where
       only : look_up l s ≡ given None → 0 < length l → get_or l 0 0 ≤ s → (length l ≡ 0) ⊎ ((0 < length l) × (s < get_or l 0 0))
-      only e h a = let found = else_given h a in let z : ◌≡◌ {A = ℕ} 0 1 = cc in absurd (omega arith)
+      only e h a = let found = else_given h a in cc
 
   standing_answers : (o : DataOffset) → look_up l s ≡ given (Some o) → Answers l s o
   standing_answers o e = by_le (length l) 0 (λ h. no (inl (omega arith))) (λ h. by_le (get_or l 0 0) s (yes h) (λ a. no (inr (h, a))))
     where
       no : (length l ≡ 0) ⊎ ((0 < length l) × (s < get_or l 0 0)) → Answers l s o
-      no h = let none = none_given h in let z : ◌≡◌ {A = ℕ} 0 1 = cc in absurd (omega arith)
+      no h = let none = none_given h in cc
 
       yes : 0 < length l → get_or l 0 0 ≤ s → Answers l s o
       yes h a =
@@ -169,10 +169,10 @@ module _ (l : List ℕ) (s : ℕ) (small : length l ≤ maximum) (rises : falls 
 not_refused : (l : List ℕ) (s : ℕ) (p : Option DataOffset) → look_up l s ≡ given p → (length l ≤ maximum) × (falls l ≡ false)
 not_refused l s p e =
     by_le (length l) maximum (λ h. (h, rises h (falls l) refl))
-    (λ h. let long = look_up_long l s h in let z : ◌≡◌ {A = ℕ} 0 1 = cc in absurd (omega arith))
+    (λ h. let long = look_up_long l s h in cc)
   where
     rises : length l ≤ maximum → (b : Bool) → falls l ≡ b → falls l ≡ false
-    rises h true f = let falling = look_up_falling l s h f in let z : ◌≡◌ {A = ℕ} 0 1 = cc in absurd (omega arith)
+    rises h true f = let falling = look_up_falling l s h f in cc
     rises h false f = f
 
 -- "Else, for the greatest index not above it: start, its first entry; the number of entries from there on that carry the same time index;

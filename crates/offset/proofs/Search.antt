@@ -225,31 +225,26 @@ pub head_past : (l : List ℕ) (k : ℕ) → length l ≤ k → head_of (drop k 
 head_past l k h = ap head_of (drop_of_length-le l h)
 
 pub head_is : (l : List ℕ) (k j : ℕ) → head_of (drop k l) ≡ Some j → (k < length l) × (get_or l k 0 ≡ j)
-head_is [] zero j e = let z : ◌≡◌ {A = ℕ} 0 1 = cc in absurd (omega arith)
-head_is [] (suc k) j e = let z : ◌≡◌ {A = ℕ} 0 1 = cc in absurd (omega arith)
+head_is [] zero j e = cc
+head_is [] (suc k) j e = cc
 head_is (x ∷ l) zero j e = (omega arith, (cc))
 head_is (x ∷ l) (suc k) j e = let i = head_is l k j e in (omega arith, i.1)
 
 pub head_none : (l : List ℕ) (k : ℕ) → head_of (drop k l) ≡ None → length l ≤ k
 head_none [] k e = omega arith
-head_none (x ∷ l) zero e = let z : ◌≡◌ {A = ℕ} 0 1 = cc in absurd (omega arith)
+head_none (x ∷ l) zero e = cc
 head_none (x ∷ l) (suc k) e = omega (arith, head_none l k e)
 
 -- ---- a run of one index
 
-pub run_ends : (i : ℕ) (l : List ℕ) → head_of l ≡ None → run_of i l ≡ 0
+pub run_none : (i : ℕ) (l : List ℕ) → (head_of l ≡ Some i → ⊥) → run_of i l ≡ 0
 unfolding run_of
-run_ends i [] e = refl
-run_ends i (j ∷ l) e = let z : ◌≡◌ {A = ℕ} 0 1 = cc in absurd (omega arith)
-
-pub run_differs : (i j : ℕ) (l : List ℕ) → head_of l ≡ Some j → (j ≡ i → ⊥) → run_of i l ≡ 0
-unfolding run_of
-run_differs i j [] e n = refl
-run_differs i j (x ∷ l) e n = let same : x ≡ j = cc in rw (ne_eqb i x (λ q. n (sym (q ∙ same))))
+run_none i [] other = refl
+run_none i (x ∷ l) other = rw (ne_eqb i x (λ e. other (ap Some (sym e))))
 
 pub run_goes : (i : ℕ) (l : List ℕ) → head_of l ≡ Some i → run_of i l ≡ suc (run_of i (drop 1 l))
 unfolding run_of
-run_goes i [] e = let z : ◌≡◌ {A = ℕ} 0 1 = cc in absurd (omega arith)
+run_goes i [] e = cc
 run_goes i (x ∷ l) e = let same : i ≡ x = cc in rw (eq-eqb i x same)
 
 pub run_more : (i start n : ℕ) (l : List ℕ) → run_of i (drop start l) ≡ n + run_of i (drop (start + n) l) → head_of (drop (start + n) l) ≡ Some i
@@ -282,7 +277,7 @@ run_carries i (x ∷ l) k h = go (eqb i x) refl k h (λ k. run_carries i l k)
 
 pub run_stops : (i : ℕ) (l : List ℕ) → head_of (drop (run_of i l) l) ≡ Some i → ⊥
 unfolding run_of
-run_stops i [] e = let z : ◌≡◌ {A = ℕ} 0 1 = cc in omega arith
+run_stops i [] e = cc
 run_stops i (x ∷ l) e = go (eqb i x) refl e (run_stops i l)
   where
     go : (b : Bool) → eqb i x ≡ b → head_of (drop (cond b (suc (run_of i l)) 0) (x ∷ l)) ≡ Some i → (head_of (drop (run_of i l) l) ≡ Some i → ⊥) → ⊥

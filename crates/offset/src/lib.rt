@@ -43,7 +43,7 @@ pub fn get(indices: &[u32], place: usize) -> Option<u32>
 pub fn not_above(index: u32, needle: u32) -> usize
     ensures { result ≡ cond (leb index needle) 1 0 }
 {
-    ((needle as u64 + 4294967296 - index as u64) >> 32) as usize
+    ((u64::from(needle) + 0x1_0000_0000 - u64::from(index)) >> 32) as usize
 }
 
 // The last place whose index is not above the needle.
@@ -84,10 +84,7 @@ fn run_length(indices: &[u32], start: usize, index: u32) -> usize
 {
     let mut elements = 0;
     loop {
-        let Some(next) = get(indices, start + elements) else {
-            break elements;
-        };
-        if next != index {
+        if get(indices, start + elements) != Some(index) {
             break elements;
         }
         elements += 1;
@@ -104,12 +101,11 @@ pub fn find_offset_from_time_table_idx(indices: &[u32], needle: u32) -> DataOffs
     let index = indices[place];
     let start = find_start(indices, place);
     let elements = run_length(indices, start, index);
-    let next_index = get(indices, start + elements);
     DataOffset {
-        start: start,
+        start,
         elements: elements as u32,
         time_match: index == needle,
-        next_index: next_index,
+        next_index: get(indices, start + elements),
     }
 }
 

@@ -44,4 +44,4 @@ returns c =
     (last_greatest c.requires.reached.rises c.binary_search-place.ensures)
     c.find_start-start.ensures
     c.run_length-elements.ensures
-    c.get-next_index.ensures
+    c.get.ensures
