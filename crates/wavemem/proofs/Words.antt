@@ -1,13 +1,12 @@
 -- Words made of characters.
 -- Assumes nothing.
-use mathlib.Core.Path.{◌≡◌, sym, ap, ap₂, ◌∙◌}
+use mathlib.Core.Path.{◌≡◌, sym, ap, ◌∙◌}
 use mathlib.Core.List.{List, [], ◌∷◌, ◌++◌, append_assoc}
 use Prim.Native.Nat.{ℕ, suc, ◌+◌, ◌-◌, ◌*◌, ◌%◌, ◌^◌, ◌≤◌, ◌<◌}
-use native.Mathlib.Nat.{zero-lt-suc, add-zero, mul_assoc}
+use native.Mathlib.Nat.{zero-lt-suc}
 use native.Mathlib.Numerals.{add-one}
 use native.Mathlib.Omega.{arith}
-use lib.Bits.{bit_or, or_block, or_shifted}
-use lib.Pow.{pow-add, pow_pos, shl_exact}
+use lib.Bits.{bit_or, or_shifted}
 use lib.ListN.{length, get_or, take, replicate, length-append, length-replicate}
 use lib.Seq.{length-take-le, take-suc, take_all}
 use Rattle.std.specs.Int.{from_be_bytes}
@@ -22,20 +21,6 @@ unfolding number
 be_number v l =
     let m : (i : ℕ) → i < length v → number 256 (take (i + 1) v) ≡ number 256 (take i v) * 256 + get_or v i 0 = λ i h. number_more 256 v i 0 h in
     omega (arith, m 0 (omega arith), m 1 (omega arith), m 2 (omega arith), m 3 (omega arith), m 4 (omega arith), m 5 (omega arith), m 6 (omega arith), m 7 (omega arith), ap (number 256) (take_all 8 v (omega arith)))
-
--- `word | (c << t)`
-pub word_more : (v : List ℕ) (i w t : ℕ) → 8 + t ≤ 64 → i < length v → Below 256 v → w ≡ number 256 (take i v) * 2 ^ (8 + t)
-    → bit_or w (get_or v i 0 * 2 ^ t % 2 ^ 64) ≡ number 256 (take (i + 1) v) * 2 ^ t
-word_more v i w t h more below e =
-    let n = number 256 (take i v) in
-    let x = get_or v i 0 in
-    let k : x < 2 ^ 8 = below_at 256 v below i 0 more in
-    let f : w ≡ n * 256 * 2 ^ t + 0 = e ∙ ap (λ (p : ℕ). n * p) (pow-add 2 8 t) ∙ sym (mul_assoc n 256 (2 ^ t)) ∙ sym (add-zero (n * 256 * 2 ^ t)) in
-    let g : x * 2 ^ t % 2 ^ 64 ≡ x * 2 ^ t + 0 = shl_exact {a = x} 8 t 64 k h ∙ sym (add-zero (x * 2 ^ t)) in
-    ap₂ bit_or f g
-    ∙ or_block t (n * 256) x 0 0 (pow_pos t) (pow_pos t)
-    ∙ ap (λ (m : ℕ). m * 2 ^ t + 0) (or_shifted n 8 x k ∙ sym (number_more 256 v i 0 more))
-    ∙ add-zero (number 256 (take (i + 1) v) * 2 ^ t)
 
 -- the bytes of a word
 pub word_bytes : (v : List ℕ) (w : ℕ) → length v ≡ 8 → Below 256 v → w ≡ number 256 v → digits 256 8 w ≡ v

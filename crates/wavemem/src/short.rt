@@ -24,10 +24,8 @@ fn padded_word(value: &[u8]) -> u64
         return word(value);
     }
     let mut w: u64 = 0x3030_3030_3030_3030;
-    let mut i = 0;
-    while i < value.len() {
-        w = (w << 8) | u64::from(value[i]);
-        i += 1;
+    for c in value {
+        w = (w << 8) | u64::from(*c);
     }
     w
 }

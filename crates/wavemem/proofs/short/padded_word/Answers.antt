@@ -2,7 +2,7 @@
 -- Assumes nothing.
 use mathlib.Core.Path.{◌≡◌, refl, sym, ap, ap₂, ◌∙◌}
 use mathlib.Core.List.{List, ◌++◌}
-use Prim.Native.Nat.{ℕ, ◌-◌, zero-le}
+use Prim.Native.Nat.{ℕ, ◌-◌}
 use native.Mathlib.Omega.{arith}
 use lib.ListN.{length, replicate}
 use lib.Seq.{take_all}
@@ -17,20 +17,18 @@ returns-then-value-eq8 c =
     let l : length v ≡ 8 = omega arith in
     c.word.ensures ∙ ap (λ (k : ℕ). number 256 (replicate (8 - k) 48 ++ v)) (sym l)
 
-pub loop-i-init : goal.loop-i-init
+pub loop-c-init : goal.loop-c-init
 unfolding number
-loop-i-init c = (zero-le, refl)
+loop-c-init c = refl
 
-pub loop-i-preserved : goal.loop-i-preserved
-loop-i-preserved c =
-    let v = c.args.value.now in (
-      omega arith,
-      rw c.from.ensures
-          (padded_more v c.loop-i.i c.loop-i.w (omega arith) c.requires (below_all 256 v (λ i. omega (arith, c.type_inv.value i))) c.loop-i.invariant.1),
-    )
+pub loop-c-preserved : goal.loop-c-preserved
+loop-c-preserved c =
+    let v = c.args.value.now in
+    rw c.from.ensures
+    (padded_more v c.loop-c.c-index c.loop-c.w (omega arith) c.requires (below_all 256 v (λ i. omega (arith, c.type_inv.value i))) c.loop-c.invariant)
 
 pub returns : goal.returns
 returns c =
     let v = c.args.value.now in
-    let e : c.loop-i.i ≡ length v = omega arith in
-    c.loop-i.invariant.1 ∙ ap₂ (λ (k : ℕ) (t : List ℕ). number 256 (replicate (8 - k) 48 ++ t)) e (take_all c.loop-i.i v c.loop-i-test.false)
+    let e : c.loop-c.c-index ≡ length v = omega arith in
+    c.loop-c.invariant ∙ ap₂ (λ (k : ℕ) (t : List ℕ). number 256 (replicate (8 - k) 48 ++ t)) e (take_all c.loop-c.c-index v (omega arith))

@@ -1,7 +1,7 @@
 -- `wavemem::turns::equals_parts` meets its contract: the first characters are compared, and then the others.
 -- Assumes nothing.
 use mathlib.Core.Path.{◌≡◌, refl, sym, ap, ◌∙◌}
-use mathlib.Core.Bool.{◌&&◌}
+use mathlib.Core.Bool.{Bool, ◌&&◌}
 use Prim.Native.Nat.{ℕ, ◌+◌, ◌%◌, ◌/◌}
 use lib.ListN.{length, take, drop}
 use Rattle.wavemem.specs.Packed.{Fills, WholeBytes}
@@ -27,12 +27,11 @@ module _ (g : Over) (c : Start g) where
   front = rw c.requires.1 (front_whole c.requires.0 lead)
 
 -- the comparison of the whole, by that of the characters in front
-compared : (g : Over) (c : After-equals_turns g)
+compared : (g : Over) (c : After-equals_turns g) {t : Bool} → c.equals_turns.result ≡ t
     → let n = length c.args.value.now % g.row.CHARS in
     Passed g.P.Packs.set (length c.args.value.now) c.args.at g.row.CHARS n (c.args.at + n / g.row.FEW)
-    → agree g.P.Packs.set c.args.bytes.now c.args.at c.args.value.now
-    ≡ c.equals_turns.result && agree g.P.Packs.set c.args.bytes.now (c.args.at + n / g.row.FEW) (drop n c.args.value.now)
-compared g c p = rw (c.equals_turns.ensures, c.requires.1) (both_compared c.requires.0 p c.args.bytes.now refl)
+    → t && agree g.P.Packs.set c.args.bytes.now (c.args.at + n / g.row.FEW) (drop n c.args.value.now) ≡ agree g.P.Packs.set c.args.bytes.now c.args.at c.args.value.now
+compared g c e p = rw (← e, c.equals_turns.ensures, c.requires.1) (sym (both_compared c.requires.0 p c.args.bytes.now refl))
 
 pub equals_turns-requires : goal.equals_turns-requires
 equals_turns-requires g c =
@@ -46,9 +45,9 @@ pub returns-then-equals_turns : goal.returns-then-equals_turns
 returns-then-equals_turns g c =
     let past = goal.at.returns-then-equals_turns g c in
     let p = lead g past.Start in
-    (rw (back_is c.requires.0 p) at c.equals_turns-then-equals_turns.ensures) ∙ sym (compared g past.After-equals_turns p ∙ rw c.if-equals_turns.true)
+    (rw (back_is c.requires.0 p) at c.equals_turns-then-equals_turns.ensures) ∙ compared g past.After-equals_turns c.if-equals_turns.true p
 
 pub returns-else-equals_turns : goal.returns-else-equals_turns
 returns-else-equals_turns g c =
     let past = goal.at.returns-else-equals_turns g c in
-    c.if-equals_turns.false ∙ sym (compared g past.After-equals_turns (lead g past.Start) ∙ rw c.if-equals_turns.false)
+    c.if-equals_turns.false ∙ compared g past.After-equals_turns c.if-equals_turns.false (lead g past.Start)
