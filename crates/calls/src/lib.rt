@@ -1,401 +1,273 @@
-// The calls of stored answers on records: each function makes the call of a line and says whether all that comes out is what the line has.
+// The calls of stored answers on records: each function reads what goes in from a line, makes the call, and writes what comes out on the rest
+// of the line, where it has to stand already.
 #![tactic(auto)]
 
-ghost use Rattle.std.specs.Prelude.{◌<◌, ◌≡◌, length};
+ghost use Rattle.std.specs.Prelude.{◌≡◌};
 
-use equality::EqualAnswer;
-use fst::{Added, Description, Encoding, Made, NextIndex};
-use lines::{
-    has_bytes, has_letter, has_number, has_pair, has_slices, is_framed, number, number_32, place,
-    read_bytes, read_indices,
-};
-use numbers::read::below_zero;
-use numbers::{FlatNumber, FlatSigned};
-use offset::{DataOffset, OffsetAnswer};
-use signal::{EntryAnswer, Kind};
+use equality::Lent;
+use fst::record::Slices;
+use fst::{Description, Encoding, Refusal, verdict_number};
+use lines::{Elements, Line, Otherwise};
+use offset::DataOffset;
+use signal::read::Record;
+use signal::{Entry, Kind};
+use std::fmt;
+use std::fmt::Write;
 use value::States;
 
-// Bytes are read into it: more than a line that is replayed has.
-pub fn byte_buffer() -> [u8; 65536]
-    ensures { 65536 ≡ length result }
-{
-    [0; 65536]
+// A line with a longer list counts as one that can't be read.
+const BYTES: usize = 16384;
+
+const INDICES: usize = 4096;
+
+// Room for the lists of a record.
+#[derive(Drop)]
+pub struct Room {
+    pub bytes: [u8; BYTES],
+    pub indices: [u32; INDICES],
 }
 
-pub fn index_buffer() -> [u32; 4096]
-    ensures { 4096 ≡ length result }
-{
-    [0; 4096]
+impl Room {
+    pub fn new() -> Room {
+        Room {
+            bytes: [0; BYTES],
+            indices: [0; INDICES],
+        }
+    }
 }
 
 // ---- descriptions
 
-fn states_of(mark: u64) -> States {
-    match mark {
-        0 => States::Two,
-        1 => States::Four,
-        _ => States::Nine,
+pub fn description(line: &mut Line) -> Result<Description, Otherwise> {
+    let kind = line.field()?;
+    let width = line.number()?;
+    let mark: u8 = line.number()?;
+    let max_states = States::try_from(mark).map_err(|_| Otherwise)?;
+    let count = line.number()?;
+    let encoding = match kind {
+        "e" => Encoding::Event,
+        "r" => Encoding::Real,
+        "b" => Encoding::BitVector { width, max_states },
+        _ => return Err(Otherwise),
+    };
+    Ok(Description::new(encoding, count))
+}
+
+fn letter_of(kind: Kind) -> char {
+    match kind {
+        Kind::Event => 'e',
+        Kind::Real => 'r',
+        Kind::BitVector => 'b',
     }
 }
 
-fn empty_event() -> Description {
-    Description::new(Encoding::Event, 0)
-}
-
-pub fn description(line: &[u8], field: usize) -> Description
-    requires { field < 100 }
-{
-    let count = number_32(line, field + 3);
-    if has_letter(line, field, b'e') {
-        return Description::new(Encoding::Event, count);
-    }
-    if has_letter(line, field, b'r') {
-        return Description::new(Encoding::Real, count);
-    }
-    let width = number_32(line, field + 1);
-    let max_states = states_of(number(line, field + 2));
-    Description::new(Encoding::BitVector { width, max_states }, count)
-}
-
-// A kind, a width and a set.
-fn has_encoding(line: &[u8], field: usize, kind: u8, width: u32, set: u8) -> bool
-    requires { field < 99 }
-{
-    has_letter(line, field, kind) && has_pair(line, field + 1, width as u64, set as u64)
-}
-
-fn letter_of(encoding: Encoding) -> u8 {
-    match encoding {
-        Encoding::Event => b'e',
-        Encoding::Real => b'r',
-        Encoding::BitVector {
-            width: _,
-            max_states: _,
-        } => b'b',
-    }
-}
-
-pub fn has_description(line: &[u8], field: usize, description: Description) -> bool
-    requires { field < 99 }
-{
+fn write_outcome(line: &mut Line, number: u8, description: Description) -> fmt::Result {
     let encoding = description.encoding;
-    let states = encoding.largest();
-    let letter = letter_of(encoding);
-    has_encoding(line, field, letter, encoding.width(), states.mark())
-        && has_number(line, field + 3, description.count as u64)
-}
-
-// A number and a description.
-fn has_outcome(line: &[u8], field: usize, number: u8, description: Description) -> bool
-    requires { field < 98 }
-{
-    has_number(line, field, number as u64) && has_description(line, field + 1, description)
+    let letter = letter_of(Kind::from(encoding));
+    let width = encoding.width();
+    let set = encoding.largest().mark();
+    let count = description.count;
+    write!(line, "= {number} {letter} {width} {set} {count}")
 }
 
 // After a refusal the description is that of an empty event.
-pub fn has_made(line: &[u8], field: usize, made: Made) -> bool
-    requires { field < 98 }
-{
+pub fn write_made(line: &mut Line, made: Result<Description, Refusal>) -> fmt::Result {
     match made {
-        Made::Record(description) => has_outcome(line, field, 0, description),
-        Made::Refused(refusal) => has_outcome(line, field, refusal.number(), empty_event()),
-    }
-}
-
-// ---- operations
-
-pub fn fresh(line: &[u8]) -> bool {
-    is_framed(line, 3, 9) && has_made(line, 4, fst::record::fresh(number_32(line, 2)))
-}
-
-// What Add a change is asked beside the value and the slices.
-#[derive(Clone, Copy)]
-struct Offer {
-    record: Description,
-    byte_start: usize,
-    index_start: usize,
-    index: u32,
-}
-
-fn offered(line: &[u8]) -> Offer {
-    let record = description(line, 2);
-    Offer {
-        record,
-        byte_start: place(line, 7),
-        index_start: place(line, 9),
-        index: number_32(line, 10),
-    }
-}
-
-fn add_real(line: &[u8], bytes: &mut [u8], indices: &mut [u32]) -> Added {
-    let to = offered(line);
-    let bits = number(line, 12);
-    let record = to.record;
-    record.add_real(
-        bytes,
-        to.byte_start,
-        indices,
-        to.index_start,
-        to.index,
-        bits,
-    )
-}
-
-fn add_value(line: &[u8], bytes: &mut [u8], indices: &mut [u32], value: &[u8]) -> Added {
-    let to = offered(line);
-    let record = to.record;
-    record.add_change(
-        bytes,
-        to.byte_start,
-        indices,
-        to.index_start,
-        to.index,
-        value,
-    )
-}
-
-fn change(line: &[u8], bytes: &mut [u8], indices: &mut [u32]) -> Added {
-    if has_letter(line, 11, b'r') {
-        return add_real(line, bytes, indices);
-    }
-    let mut value = byte_buffer();
-    let count = read_bytes(line, 12, &mut value);
-    add_value(line, bytes, indices, &value[..count])
-}
-
-fn is_added(line: &[u8], bytes: &mut [u8], indices: &mut [u32]) -> bool {
-    let added = change(line, bytes, indices);
-    let verdict = added.verdict;
-    has_outcome(line, 14, verdict.number(), added.next) && has_slices(line, 19, bytes, indices)
-}
-
-pub fn add(line: &[u8]) -> bool {
-    let mut bytes = byte_buffer();
-    let mut indices = index_buffer();
-    let byte_count = read_bytes(line, 6, &mut bytes);
-    let index_count = read_indices(line, 8, &mut indices);
-    is_framed(line, 13, 21) && is_added(line, &mut bytes[..byte_count], &mut indices[..index_count])
-}
-
-fn kind_letter(kind: Kind) -> u8 {
-    match kind {
-        Kind::Event => b'e',
-        Kind::Real => b'r',
-        Kind::BitVector => b'b',
-    }
-}
-
-fn has_shape(line: &[u8], number: u8, kind: u8, set: u8) -> bool {
-    has_number(line, 10, number as u64)
-        && has_letter(line, 11, kind)
-        && has_number(line, 12, set as u64)
-}
-
-fn has_entry(line: &[u8], answer: EntryAnswer) -> bool {
-    match answer {
-        EntryAnswer::Entry { kind, states } => {
-            has_shape(line, 0, kind_letter(kind), states.mark())
+        Ok(description) => write_outcome(line, 0, description),
+        Err(refusal) => {
+            let nothing = Description::new(Encoding::Event, 0);
+            write_outcome(line, refusal.number(), nothing)
         }
-        EntryAnswer::Refused(refusal) => has_shape(line, refusal.number(), b'e', 0),
     }
 }
 
-fn is_read(line: &[u8], bytes: &[u8]) -> bool {
-    let record = description(line, 2);
-    let byte_start = place(line, 7);
-    let entry = number_32(line, 8);
-    has_entry(
-        line,
-        signal::read::read_entry(record, bytes, byte_start, entry),
-    ) && has_bytes(
-        line,
-        13,
-        signal::read::entry_part(record, bytes, byte_start, entry),
-    )
+// ---- operations on a record
+
+pub fn fresh(line: &mut Line) -> Result<(), Otherwise> {
+    let made = fst::record::fresh(line.number()?);
+    write_made(line, made)?;
+    Ok(())
 }
 
-pub fn read(line: &[u8]) -> bool {
-    let mut bytes = byte_buffer();
-    let count = read_bytes(line, 6, &mut bytes);
-    is_framed(line, 9, 14) && is_read(line, &bytes[..count])
-}
-
-fn is_text(line: &[u8], bytes: &[u8], out: &mut [u8]) -> bool {
-    let record = description(line, 2);
-    let byte_start = place(line, 7);
-    let entry = number_32(line, 8);
-    let verdict = signal::read::read_text(record, bytes, byte_start, entry, out);
-    has_number(line, 11, verdict.number() as u64) && has_bytes(line, 12, out)
-}
-
-pub fn text(line: &[u8]) -> bool {
-    let mut bytes = byte_buffer();
-    let mut out = byte_buffer();
-    let count = read_bytes(line, 6, &mut bytes);
-    let out_count = read_bytes(line, 9, &mut out);
-    is_framed(line, 10, 13) && is_text(line, &bytes[..count], &mut out[..out_count])
-}
-
-// Whether a number has a sign, which is 1 below zero, and is so far from zero.
-fn is_at(value: i64, sign: u64, distance: u64) -> bool {
-    if sign == 0 {
-        return distance < 9223372036854775808 && value == distance as i64;
-    }
-    if distance == 0 {
-        return false;
-    }
-    let beyond = distance - 1;
-    beyond < 9223372036854775808 && value == below_zero(beyond)
-}
-
-fn has_signed(line: &[u8], answer: FlatSigned) -> bool {
-    let sign = number(line, 11);
-    has_pair(line, 10, answer.number as u64, sign % 2)
-        && is_at(answer.value, sign, number(line, 12))
-}
-
-fn is_signed(line: &[u8], bytes: &[u8]) -> bool {
-    let record = description(line, 2);
-    let byte_start = place(line, 7);
-    let entry = number_32(line, 8);
-    has_signed(
-        line,
-        numbers::read::read_signed(record, bytes, byte_start, entry),
-    )
-}
-
-pub fn signed(line: &[u8]) -> bool {
-    let mut bytes = byte_buffer();
-    let count = read_bytes(line, 6, &mut bytes);
-    is_framed(line, 9, 13) && is_signed(line, &bytes[..count])
-}
-
-fn has_value(line: &[u8], answer: FlatNumber) -> bool {
-    has_pair(line, 10, answer.number as u64, answer.value)
-}
-
-fn is_unsigned(line: &[u8], bytes: &[u8]) -> bool {
-    let record = description(line, 2);
-    let byte_start = place(line, 7);
-    let entry = number_32(line, 8);
-    has_value(
-        line,
-        numbers::read::read_unsigned(record, bytes, byte_start, entry),
-    )
-}
-
-pub fn unsigned(line: &[u8]) -> bool {
-    let mut bytes = byte_buffer();
-    let count = read_bytes(line, 6, &mut bytes);
-    is_framed(line, 9, 12) && is_unsigned(line, &bytes[..count])
-}
-
-fn is_decimal(line: &[u8], bytes: &[u8]) -> bool {
-    let record = description(line, 2);
-    let byte_start = place(line, 7);
-    let entry = number_32(line, 8);
-    has_value(
-        line,
-        numbers::read::read_decimal(record, bytes, byte_start, entry),
-    )
-}
-
-pub fn decimal(line: &[u8]) -> bool {
-    let mut bytes = byte_buffer();
-    let count = read_bytes(line, 6, &mut bytes);
-    is_framed(line, 9, 12) && is_decimal(line, &bytes[..count])
-}
-
-fn has_equal(line: &[u8], answer: EqualAnswer) -> bool {
-    match answer {
-        EqualAnswer::Equal => has_pair(line, 19, 0, 1),
-        EqualAnswer::Unequal => has_pair(line, 19, 0, 0),
-        EqualAnswer::Refused(refusal) => has_pair(line, 19, refusal.number() as u64, 0),
-    }
-}
-
-fn is_compared(
-    line: &[u8],
-    a_bytes: &[u8],
-    a_indices: &[u32],
-    b_bytes: &[u8],
-    b_indices: &[u32],
-) -> bool {
-    let answer = equality::compare_records(
-        description(line, 2),
-        a_bytes,
-        place(line, 7),
-        a_indices,
-        place(line, 9),
-        description(line, 10),
-        b_bytes,
-        place(line, 15),
-        b_indices,
-        place(line, 17),
-    );
-    has_equal(line, answer)
-}
-
-pub fn compare(line: &[u8]) -> bool {
-    let mut a_bytes = byte_buffer();
-    let mut b_bytes = byte_buffer();
-    let mut a_indices = index_buffer();
-    let mut b_indices = index_buffer();
-    let a = read_bytes(line, 6, &mut a_bytes);
-    let b = read_bytes(line, 14, &mut b_bytes);
-    let i = read_indices(line, 8, &mut a_indices);
-    let j = read_indices(line, 16, &mut b_indices);
-    is_framed(line, 18, 21)
-        && is_compared(
-            line,
-            &a_bytes[..a],
-            &a_indices[..i],
-            &b_bytes[..b],
-            &b_indices[..j],
-        )
-}
-
-fn has_next(line: &[u8], next: NextIndex) -> bool {
-    match next {
-        NextIndex::At(index) => has_pair(line, 10, 1, index as u64),
-        NextIndex::Absent => has_pair(line, 10, 0, 0),
-    }
-}
-
-fn has_offset(line: &[u8], number: u8, found: bool, offset: DataOffset) -> bool {
-    let next = offset.next_index;
-    has_pair(line, 5, number as u64, found as u64)
-        && has_pair(line, 7, offset.start as u64, offset.elements as u64)
-        && has_number(line, 9, offset.time_match as u64)
-        && has_next(line, next)
-}
-
-fn is_answer(line: &[u8], answer: OffsetAnswer) -> bool {
-    let nowhere = DataOffset {
-        start: 0,
-        elements: 0,
-        time_match: false,
-        next_index: NextIndex::Absent,
+pub fn add(line: &mut Line) -> Result<(), Otherwise> {
+    let mut room = Room::new();
+    let mut value = [0; BYTES];
+    let record = description(line)?;
+    let bytes = line.list(&mut room.bytes)?;
+    let byte_start = line.number()?;
+    let indices = line.list(&mut room.indices)?;
+    let index_start = line.number()?;
+    let index = line.number()?;
+    let added = match line.field()? {
+        "t" => {
+            let value = line.list(&mut value)?;
+            record.add_change(bytes, byte_start, indices, index_start, index, value)
+        }
+        "r" => {
+            let bits = line.number()?;
+            record.add_real(bytes, byte_start, indices, index_start, index, bits)
+        }
+        _ => return Err(Otherwise),
     };
-    match answer {
-        OffsetAnswer::At(offset) => has_offset(line, 0, true, offset),
-        OffsetAnswer::Nothing => has_offset(line, 0, false, nowhere),
-        OffsetAnswer::Refused(refusal) => has_offset(line, refusal.number(), false, nowhere),
+    write_outcome(line, verdict_number(added.verdict), added.next)?;
+    write!(line, " {} {}", Elements(bytes), Elements(indices))?;
+    Ok(())
+}
+
+// ---- operations on an entry
+
+fn record<'a>(line: &mut Line, bytes: &'a mut [u8]) -> Result<Record<'a>, Otherwise> {
+    Ok(Record {
+        description: description(line)?,
+        bytes: line.list(bytes)?,
+        byte_start: line.number()?,
+    })
+}
+
+pub fn read(line: &mut Line) -> Result<(), Otherwise> {
+    let mut bytes = [0; BYTES];
+    let record = record(line, &mut bytes)?;
+    let entry = line.number()?;
+    match record.read_entry(entry) {
+        Ok(Entry { kind, states, .. }) => {
+            let letter = letter_of(kind);
+            let set = states.mark();
+            write!(line, "= 0 {letter} {set}")?;
+        }
+        Err(refusal) => {
+            let number = refusal.number();
+            write!(line, "= {number} e 0")?;
+        }
+    }
+    write!(line, " {}", Elements(record.entry_part(entry)))?;
+    Ok(())
+}
+
+pub fn text(line: &mut Line) -> Result<(), Otherwise> {
+    let mut bytes = [0; BYTES];
+    let mut out = [0; BYTES];
+    let record = record(line, &mut bytes)?;
+    let entry = line.number()?;
+    let out = line.list(&mut out)?;
+    let number = verdict_number(record.read_text(entry, out));
+    write!(line, "= {number} {}", Elements(out))?;
+    Ok(())
+}
+
+// A call that reads an entry as a number without a sign.
+fn number<F: Fn(&Record, u32) -> Result<u64, Refusal>>(
+    line: &mut Line,
+    read: F,
+) -> Result<(), Otherwise>
+    requires { F.IsAlwaysCallable read }
+{
+    let mut bytes = [0; BYTES];
+    let record = record(line, &mut bytes)?;
+    match read(&record, line.number()?) {
+        Ok(value) => write!(line, "= 0 {value}")?,
+        Err(refusal) => {
+            let number = refusal.number();
+            write!(line, "= {number} 0")?;
+        }
+    }
+    Ok(())
+}
+
+pub fn unsigned(line: &mut Line) -> Result<(), Otherwise> {
+    number(line, numbers::read::read_unsigned)
+}
+
+pub fn decimal(line: &mut Line) -> Result<(), Otherwise> {
+    number(line, numbers::read::read_decimal)
+}
+
+// The sign is 1 below zero.
+pub fn signed(line: &mut Line) -> Result<(), Otherwise> {
+    let mut bytes = [0; BYTES];
+    let record = record(line, &mut bytes)?;
+    match numbers::read::read_signed(&record, line.number()?) {
+        Ok(value) => {
+            let sign = u8::from(value < 0);
+            let distance = value.unsigned_abs();
+            write!(line, "= 0 {sign} {distance}")?;
+        }
+        Err(refusal) => {
+            let number = refusal.number();
+            write!(line, "= {number} 0 0")?;
+        }
+    }
+    Ok(())
+}
+
+// ---- two records
+
+fn lent<'a>(line: &mut Line, room: &'a mut Room) -> Result<Lent<'a>, Otherwise> {
+    let Room { bytes, indices } = room;
+    Ok(Lent {
+        description: description(line)?,
+        slices: Slices {
+            bytes: line.list(bytes)?,
+            byte_start: line.number()?,
+            indices: line.list(indices)?,
+            index_start: line.number()?,
+        },
+    })
+}
+
+pub fn compare(line: &mut Line) -> Result<(), Otherwise> {
+    let mut a_room = Room::new();
+    let mut b_room = Room::new();
+    let a = lent(line, &mut a_room)?;
+    let b = lent(line, &mut b_room)?;
+    match equality::compare_records(&a, &b) {
+        Ok(equal) => {
+            let equal = u8::from(equal);
+            write!(line, "= 0 {equal}")?;
+        }
+        Err(refusal) => {
+            let number = refusal.number();
+            write!(line, "= {number} 0")?;
+        }
+    }
+    Ok(())
+}
+
+// ---- look-ups
+
+fn write_offset(line: &mut Line, offset: DataOffset) -> fmt::Result {
+    let start = offset.start;
+    let elements = offset.elements;
+    let equal = u8::from(offset.time_match);
+    write!(line, "= 0 1 {start} {elements} {equal} ")?;
+    match offset.next_index {
+        Some(index) => write!(line, "1 {index}"),
+        None => write!(line, "0 0"),
     }
 }
 
-pub fn look_up(line: &[u8]) -> bool {
-    let mut indices = index_buffer();
-    let count = read_indices(line, 2, &mut indices);
-    is_framed(line, 4, 12)
-        && is_answer(
-            line,
-            offset::get_offset(&indices[..count], number_32(line, 3)),
-        )
+fn placed<F: Fn(&[u32], u32) -> Result<Option<DataOffset>, Refusal>>(
+    line: &mut Line,
+    find: F,
+) -> Result<(), Otherwise>
+    requires { F.IsAlwaysCallable find }
+{
+    let mut indices = [0; INDICES];
+    let indices = line.list(&mut indices)?;
+    match find(indices, line.number()?) {
+        Ok(Some(offset)) => write_offset(line, offset)?,
+        Ok(None) => write!(line, "= 0 0 0 0 0 0 0")?,
+        Err(refusal) => {
+            let number = refusal.number();
+            write!(line, "= {number} 0 0 0 0 0 0")?;
+        }
+    }
+    Ok(())
 }
 
-pub fn search(line: &[u8]) -> bool {
-    let mut indices = index_buffer();
-    let count = read_indices(line, 2, &mut indices);
-    is_framed(line, 4, 12) && is_answer(line, search::search(&indices[..count], number_32(line, 3)))
+pub fn look_up(line: &mut Line) -> Result<(), Otherwise> {
+    placed(line, offset::get_offset)
+}
+
+pub fn search(line: &mut Line) -> Result<(), Otherwise> {
+    placed(line, search::search)
 }
