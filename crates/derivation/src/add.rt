@@ -200,7 +200,7 @@ impl DerivedBitVecSignal {
         ensures { self.new ≡ with_names self.old (name_added signal (names_of self.old)) }
     {
         if u32::from(number) == self.input_count {
-            self.inputs[number as usize] = signal;
+            self.inputs[usize::from(number)] = signal;
             self.input_count += 1;
         }
     }

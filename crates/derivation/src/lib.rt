@@ -15,7 +15,7 @@ pub struct Extract {
 }
 
 // A signal that is derived from others by slices and joins. The first piece is the highest. What lies past a count is free.
-#[derive(Clone, Copy, PartialEq, Eq)]
+#[derive(Clone, Copy)]
 pub struct DerivedBitVecSignal {
     pub width: u32,
     pub input_count: u32,
