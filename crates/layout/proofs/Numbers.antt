@@ -3,9 +3,11 @@
 use mathlib.Core.Path.{◌≡◌, refl, sym, ap, ap₂, ◌∙◌}
 use mathlib.Core.List.{List, [], ◌∷◌}
 use Prim.Native.Nat.{ℕ, suc, ◌+◌, ◌-◌, ◌*◌, ◌^◌, ◌/◌, ◌%◌, ◌≤◌, ◌<◌}
-use native.Mathlib.Nat.{mul-le-mul_left, zero-mul, zero-add, pow-suc, div-one, div-div-eq-div-mul}
+use native.Mathlib.Nat.{mul-le-mul_left, mul_assoc, zero-mul, zero-add, pow-suc, div-one, div-div-eq-div-mul}
 use native.Mathlib.Omega.{arith}
+use native.Mathlib.Numerals.{add-one}
 use Rattle.std.specs.Prelude.{Option, Some}
+use Rattle.std.specs.List.{fold}
 use lib.Dec.{eqb}
 use borrow.Author.Tests.{eq-eqb, ne_eqb}
 use lib.Bits.{bit_and, bit_or, and_mask, or_shifted, or_shifted_r, or_zero_r}
@@ -17,8 +19,8 @@ use Rattle.value.specs.Slice.{part, overlay, same}
 use Rattle.value.specs.Level.{fold_all, codes_of, mark_of, bits_of}
 use Rattle.value.proofs.Tests.{by_eq, by_le}
 use Rattle.value.proofs.Levels.{bits_up, len_room}
-use Rattle.value.proofs.Digits.{pow_pow, below_at, number_lt, number_snoc, digits_length, digits_number, number_inj}
-use Rattle.value.proofs.Slices.{part_length, part_add, part_nil, overlay_nil}
+use Rattle.value.proofs.Digits.{pow_pow, digits_length, digits_number, number_inj}
+use Rattle.value.proofs.Slices.{part_length, part_nil, overlay_nil}
 use Rattle.value.proofs.Backward.{below_part, part_cons, store_front}
 use Rattle.wavemem.specs.Packed.{OneWord}
 use Rattle.wavemem.proofs.Packing.{length_codes}
@@ -67,14 +69,21 @@ module _ {M own : States} {v : List ℕ} {room at : ℕ} (ok : Writable M own v 
       ∙ sym (entry_number_lem (length v) ok.wide M coded ok.under)
 
 -- `(number << 8) | byte`
-pub number_next : (b : List ℕ) → Below 256 b → (at j n : ℕ) → j < 8 → at + j < length b → n ≡ number 256 (part at j b)
-    → bit_or (n * 2 ^ 8 % 2 ^ 64) (get_or b (at + j) 0) ≡ number 256 (part at (j + 1) b)
-number_next b below at j n few h e =
-    let m = number 256 (part at j b) in
-    let x = get_or b (at + j) 0 in
-    let l : m < 2 ^ (j * 8) = rw (← pow_pow 2 8 j) (rw (part_length b at j (omega arith)) at (number_lt 256 (part at j b) (below_part 256 b below at j))) in
-    let one : part (at + j) 1 b ≡ x ∷ [] = part_cons b (at + j) 0 0 h ∙ ap (λ (r : List ℕ). x ∷ r) (part_nil b (at + j + 1)) in
-    rw (e, shl_exact {a = m} (j * 8) 8 64 l (omega arith), or_shifted m 8 x (below_at 256 b below (at + j) 0 h), part_add b at j 1, one, number_snoc 256 (part at j b) x)
+abbrev pub pushed : ℕ → ℕ → ℕ
+pushed n x = bit_or (n * 2 ^ 8 % 2 ^ 64) x
+
+-- for each of at most 8 bytes, k of which are in the number at first
+pub pushed_all : (l : List ℕ) → Below 256 l → (k n : ℕ) → n < 256 ^ k → k + length l ≤ 8 → fold pushed n l ≡ n * 256 ^ length l + number 256 l
+unfolding number
+pushed_all [] b k n h few = omega arith
+pushed_all (x ∷ l) b k n h few =
+    let small : n < 2 ^ (k * 8) = rw (← pow_pow 2 8 k) h in
+    let m = n * 256 + x in
+    let e : pushed n x ≡ m = rw (shl_exact {a = n} (k * 8) 8 64 small (omega arith)) (or_shifted n 8 x b.0) in
+    let next : m < 256 ^ (k + 1) = rw (add-one, pow-suc) (omega (arith, b.0)) in
+    ap (λ (y : ℕ). fold pushed y l) e
+    ∙ pushed_all l b.1 (k + 1) m next (omega arith)
+    ∙ rw pow-suc (omega (arith, mul_assoc n 256 (256 ^ length l)))
 
 -- a number's lowest digits are stored from the back
 module _ (n : ℕ) (d : List ℕ) where

@@ -15,7 +15,7 @@ fn mark_in(states: States, size: usize) -> u64
     requires { (1 ≤ size) × (size ≤ 8) }
     ensures { result ≡ mark_of states * 2 ^ (8 * size - 2) }
 {
-    (states.mark() as u64) << (8 * size - 2)
+    u64::from(states.mark()) << (8 * size - 2)
 }
 
 // A string's entry under a largest set, to be stored or compared: as one number where it has at most eight bytes. In a contract it is its bytes.
@@ -117,15 +117,11 @@ pub fn number_at(bytes: &[u8], at: usize, size: usize) -> u64
     ensures { result ≡ number 256 (part at size bytes.now) }
 {
     if size == 1 {
-        return bytes[at] as u64;
+        return u64::from(bytes[at]);
     }
-    let mut number: u64 = 0;
-    let mut j = 0;
-    while j < size {
-        number = (number << 8) | (bytes[at + j] as u64);
-        j += 1;
-    }
-    number
+    let part = &bytes[at..at + size];
+    part.iter()
+        .fold(0, |number, byte| (number << 8) | u64::from(*byte))
 }
 
 // Stores the bytes of a number from a place on.
@@ -138,10 +134,8 @@ pub fn write_number(number: u64, size: usize, out: &mut [u8], at: usize)
         return;
     }
     let mut rest = number;
-    let mut left = size;
-    while 0 < left {
-        left -= 1;
-        out[at + left] = (rest & 255) as u8;
-        rest = rest >> 8;
+    for k in (0..size).rev() {
+        out[at + k] = (rest & 255) as u8;
+        rest >>= 8;
     }
 }

@@ -10,5 +10,5 @@ use Rattle.layout.proofs.number.mark_in.Goals as goal
 pub returns : goal.returns
 returns c =
     let k = 8 * c.args.size - 2 in
-    shl_exact {a = c.mark.result} 2 k 64 (omega (arith, c.mark.ensures, mark_small c.args.states)) (omega (arith, c.requires))
-    ∙ ap (λ (m : ℕ). m * 2 ^ k) c.mark.ensures
+    let e = c.from.ensures ∙ c.mark.ensures in
+    shl_exact {a = c.from.result} 2 k 64 (omega (arith, e, mark_small c.args.states)) (omega (arith, c.requires)) ∙ ap (λ (m : ℕ). m * 2 ^ k) e
