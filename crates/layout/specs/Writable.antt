@@ -1,9 +1,9 @@
 -- Inner: what writing an entry and comparing one ask.
 -- Assumes nothing.
-use Rattle.std.specs.Prelude.{ℕ, ◌+◌, ◌-◌, ◌≤◌, ◌≡◌, cond, List, [], ◌∷◌, Option, IfSome, eqb, length, replicate}
+use Rattle.std.specs.Prelude.{ℕ, ◌+◌, ◌-◌, ◌≤◌, ◌≡◌, ◌*◌, cond, List, [], ◌∷◌, Option, IfSome, eqb, length, replicate}
 use Rattle.value.specs.declared.States.{States}
 use Rattle.value.specs.Digits.{number}
-use Rattle.value.specs.Level.{fold_all, codes_of, mark_of}
+use Rattle.value.specs.Level.{fold_all, codes_of, mark_of, len_of}
 use Rattle.wavemem.specs.Packed.{Codes}
 use Rattle.layout.specs.Entry.{entry_size, entry_of}
 
@@ -25,6 +25,11 @@ pub record Numbered (M own : States) (value : List ℕ) (size : ℕ) (n : Option
   pub sized : size ≡ entry_size (length value) M
   pub is : IfSome n (λ k. (size ≤ 8) × (k ≡ number 256 (entry_from M own value)))
 
--- the mark's byte and zeros in front of the level bytes, where an entry has more
-unfoldable pub mark_in_front : ℕ → ℕ → ℕ → List ℕ
-mark_in_front len size mark = cond (eqb len size) [] (mark ∷ replicate (size - len - 1) 0)
+-- how many bytes the entry of w levels has in front of its level bytes, and its mark on top of a byte
+pub record LaidOut (M own : States) (w front mark : ℕ) : Type 0 where
+  pub sized : front + len_of w own ≡ entry_size w M
+  pub marked : mark ≡ mark_of own * 64
+
+-- the bytes in front of the level bytes: the mark's and zeros
+unfoldable pub mark_in_front : ℕ → ℕ → List ℕ
+mark_in_front front mark = cond (eqb front 0) [] (mark ∷ replicate (front - 1) 0)

@@ -1,9 +1,9 @@
 // One entry: its size, its bytes stored, its bytes compared. After wellen's src/fst.rs.
-ghost use Rattle.std.specs.Prelude.{◌≡◌, cond, ◌+◌, ◌-◌, ◌*◌, ◌≤◌, eqb, length, replicate};
+ghost use Rattle.std.specs.Prelude.{◌≡◌, cond, ◌+◌, ◌≤◌, eqb, length, replicate};
 ghost use Rattle.value.specs.Slice.{part, overlay, same};
 ghost use Rattle.value.specs.Level.{mark_of, len_of};
 ghost use Rattle.layout.specs.Entry.{has_meta, entry_size};
-ghost use Rattle.layout.specs.Writable.{Writable, mark_in_front, entry_from};
+ghost use Rattle.layout.specs.Writable.{Writable, LaidOut, mark_in_front, entry_from};
 
 use value::States;
 
@@ -38,26 +38,6 @@ pub fn entry_size(states: States, bits: u32) -> usize
     }
 }
 
-// The bytes that a string's levels take, the bytes of its entry, and the byte with the mark of its set in the top two bits.
-#[derive(Clone, Copy)]
-struct EntryLayout {
-    len: usize,
-    size: usize,
-    meta_data: u8,
-}
-
-fn entry_layout(max_states: States, states: States, bits: u32) -> EntryLayout
-    ensures { (result.len ≡ len_of bits states) × (result.size ≡ entry_size bits max_states) × (result.meta_data ≡ mark_of states * 64) }
-{
-    let len = states.bytes_required(bits);
-    let size = entry_size(max_states, bits);
-    EntryLayout {
-        len,
-        size,
-        meta_data: states.mark() << 6,
-    }
-}
-
 // Stores zeros from a place on. Returns the place behind them.
 pub fn push_zeros(out: &mut [u8], from: usize, count: usize) -> usize
     requires { from + count ≤ length out.old }
@@ -76,23 +56,51 @@ fn are_zeros(bytes: &[u8], from: usize, count: usize) -> bool
     bytes[from..from + count].iter().all(|byte| *byte == 0)
 }
 
-// Stores the mark and zeros in front of `len` level bytes, where the entry has more. Returns the place of the level bytes.
-fn write_mark(out: &mut [u8], at: usize, len: usize, size: usize, meta_data: u8) -> usize
-    requires { (len ≤ size) × (at + size ≤ length out.old) }
-    ensures { (result ≡ at + (size - len)) × (out.new ≡ overlay out.old at (mark_in_front len size meta_data)) }
-{
-    if len == size {
-        return at;
-    }
-    out[at] = meta_data;
-    push_zeros(out, at + 1, size - len - 1)
+// What an entry has beside its level bytes: so many bytes in front of them, of which the first has the mark, or the mark in the top two bits of
+// the first of them.
+#[derive(Clone, Copy)]
+struct EntryLayout {
+    front: usize,
+    mark: u8,
 }
 
-// The mark's byte for the first level byte, where no byte is in front of it.
-fn mark_within(len: usize, size: usize, meta_data: u8) -> u8
-    ensures { result ≡ cond (eqb len size) meta_data 0 }
-{
-    if len == size { meta_data } else { 0 }
+impl EntryLayout {
+    fn new(max_states: States, states: States, bits: u32) -> EntryLayout
+        requires { mark_of states ≤ mark_of max_states }
+        ensures { LaidOut max_states states bits result.front result.mark }
+    {
+        EntryLayout {
+            front: entry_size(max_states, bits) - states.bytes_required(bits),
+            mark: states.mark() << 6,
+        }
+    }
+
+    // Stores what is in front of the level bytes. Returns their place.
+    fn write_front(&self, out: &mut [u8], at: usize) -> usize
+        requires { at + self.now.front ≤ length out.old }
+        ensures { (result ≡ at + self.now.front) × (out.new ≡ overlay out.old at (mark_in_front self.now.front self.now.mark)) }
+    {
+        if self.front == 0 {
+            return at;
+        }
+        out[at] = self.mark;
+        push_zeros(out, at + 1, self.front - 1)
+    }
+
+    // Whether it stands in front of the level bytes.
+    fn front_is_at(&self, bytes: &[u8], at: usize) -> bool
+        requires { at + self.now.front ≤ length bytes.now }
+        ensures { result ≡ same (part at self.now.front bytes.now) (mark_in_front self.now.front self.now.mark) }
+    {
+        self.front == 0 || bytes[at] == self.mark && are_zeros(bytes, at + 1, self.front - 1)
+    }
+
+    // The mark's byte for the first level byte, where no byte is in front of it.
+    fn mark_within(&self) -> u8
+        ensures { result ≡ cond (eqb self.now.front 0) self.now.mark 0 }
+    {
+        if self.front == 0 { self.mark } else { 0 }
+    }
 }
 
 // Stores the entry of a string from a place on. Returns the place behind it.
@@ -107,13 +115,9 @@ pub fn write_entry(
     ensures value { result ≡ at + entry_size (length value.now) max_states }
     ensures out_after { out.new ≡ overlay out.old at (entry_from max_states states value.now) }
 {
-    let layout = entry_layout(max_states, states, value.len() as u32);
-    let len = layout.len;
-    let size = layout.size;
-    let meta_data = layout.meta_data;
-    let from = write_mark(out, at, len, size, meta_data);
-    let first = mark_within(len, size, meta_data);
-    wavemem::write_n_state_from_ascii(states, value, out, from, first)
+    let layout = EntryLayout::new(max_states, states, value.len() as u32);
+    let from = layout.write_front(out, at);
+    wavemem::write_n_state_from_ascii(states, value, out, from, layout.mark_within())
 }
 
 // Whether the bytes from a place on are the entry of a string.
@@ -127,19 +131,8 @@ pub fn entry_equals(
     requires { Writable max_states states value.now (length bytes.now) at }
     ensures { result ≡ same (part at (entry_size (length value.now) max_states) bytes.now) (entry_from max_states states value.now) }
 {
-    let layout = entry_layout(max_states, states, value.len() as u32);
-    let len = layout.len;
-    let size = layout.size;
-    let meta_data = layout.meta_data;
-    if len == size {
-        return wavemem::equals_n_state_from_ascii(states, value, bytes, at, meta_data);
-    }
-    if bytes[at] != meta_data {
-        return false;
-    }
-    if are_zeros(bytes, at + 1, size - len - 1) {
-        wavemem::equals_n_state_from_ascii(states, value, bytes, at + (size - len), 0)
-    } else {
-        false
-    }
+    let layout = EntryLayout::new(max_states, states, value.len() as u32);
+    let from = at + layout.front;
+    layout.front_is_at(bytes, at)
+        && wavemem::equals_n_state_from_ascii(states, value, bytes, from, layout.mark_within())
 }

@@ -111,7 +111,7 @@ impl<'a> NewEntry<'a> {
     }
 }
 
-// The number of the bytes from a place on.
+// The number of the bytes from a place on. One byte, most entries of a wire, is read and stored without a loop.
 pub fn number_at(bytes: &[u8], at: usize, size: usize) -> u64
     requires { (size ≤ 8) × (at + size ≤ length bytes.now) }
     ensures { result ≡ number 256 (part at size bytes.now) }
