@@ -103,7 +103,9 @@ impl EntryLayout {
     }
 }
 
-// Stores the entry of a string from a place on. Returns the place behind it.
+// Stores the entry of a string from a place on. Returns the place behind it. It and the comparison stand apart, so that what their callers do for
+// entries of at most eight bytes has no frame for them.
+#[inline(never)]
 pub fn write_entry(
     max_states: States,
     states: States,
@@ -121,6 +123,7 @@ pub fn write_entry(
 }
 
 // Whether the bytes from a place on are the entry of a string.
+#[inline(never)]
 pub fn entry_equals(
     max_states: States,
     states: States,
