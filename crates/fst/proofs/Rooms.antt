@@ -1,16 +1,16 @@
 -- Fresh, and the room that entries need, from facts on numbers.
 -- Assumes nothing.
 use mathlib.Core.Path.{◌≡◌, refl, sym, ap, ◌∙◌}
-use mathlib.Core.Bool.{Bool, true, false, not, ◌&&◌, ◌||◌, and-false}
+use mathlib.Core.Bool.{Bool, true, false, not, ◌&&◌, ◌||◌}
 use mathlib.Core.List.{List}
-use Prim.Native.Nat.{ℕ, zero, suc, ◌+◌, ◌-◌, ◌*◌, ◌≤◌, ◌<◌}
+use Prim.Native.Nat.{ℕ, zero, suc, ◌+◌, ◌*◌, ◌≤◌, ◌<◌}
 use native.Mathlib.Omega.{arith}
-use lib.Dec.{T, leb, ltb, leb→le}
+use lib.Dec.{T, leb, leb→le}
 use lib.ListN.{length}
-use borrow.Author.Tests.{le-leb, lt-leb, lt-ltb, le-ltb, not-false}
+use borrow.Author.Tests.{lt-ltb, le-ltb, not-false}
 use Rattle.value.specs.declared.States.{States}
 use Rattle.value.specs.declared.States.TheVariants.{Two}
-use Rattle.value.proofs.Tests.{by_le, to_t, from_t, and_left, and_right}
+use Rattle.value.proofs.Tests.{to_t, from_t, and_left, and_right}
 use Rattle.fst.specs.declared.Encoding.TheVariants.{Event, BitVector}
 use Rattle.fst.specs.declared.Description.{Description}
 use Rattle.fst.specs.Refusal.{refused, given, tried}
@@ -37,44 +37,9 @@ fresh_event (suc w) e = absurd (omega arith)
 
 -- ---- room
 
-module _ (count size bytes at : ℕ) where
-  abbrev room : Bool
-  room = leb count maximum && leb (at + count * size) bytes
-
-  pub many : maximum < count → false ≡ room
-  many h = rw (lt-leb count maximum h)
-
-  pub past_bytes : bytes < at → false ≡ room
-  past_bytes h = rw (lt-leb (at + count * size) bytes (omega arith), and-false (leb count maximum))
-
-  pub roomy : count ≤ maximum → at ≤ bytes → leb (count * size) (bytes - at) ≡ room
-  roomy a b =
-      rw (le-leb count maximum a)
-      (by_le (at + count * size) bytes
-      (λ h. rw (le-leb (at + count * size) bytes h, le-leb (count * size) (bytes - at) (omega arith)))
-      (λ h. rw (lt-leb (at + count * size) bytes h, lt-leb (count * size) (bytes - at) (omega arith))))
-
--- ---- a width, and indices
-
-module _ (w : ℕ) (r : Bool) where
-  pub width_out : (1 ≤ w → w ≤ 4096 → ⊥) → true ≡ not ((leb 1 w && leb w max_width) && r)
-  width_out h =
-      by_le 1 w
-      (λ a. by_le w 4096 (λ b. absurd (h a b)) (λ b. rw (le-leb 1 w a, lt-leb w 4096 b)))
-      (λ a. rw (lt-leb 1 w a))
-
-  pub width_in : 1 ≤ w → w ≤ 4096 → not r ≡ not ((leb 1 w && leb w max_width) && r)
-  width_in a b = rw (le-leb 1 w a, le-leb w 4096 b)
-
-module _ (start count n : ℕ) where
-  pub past_indices : n < start → true ≡ not (leb (start + count) n)
-  past_indices h = rw (lt-leb (start + count) n (omega arith))
-
-  pub few_indices : start ≤ n → ltb (n - start) count ≡ not (leb (start + count) n)
-  few_indices h =
-      by_le (start + count) n
-      (λ a. rw (le-ltb (n - start) count (omega arith), le-leb (start + count) n a))
-      (λ a. rw (lt-ltb (n - start) count (omega arith), lt-leb (start + count) n a))
+-- do so many entries stand within the maximum and so many bytes
+abbrev room : ℕ → ℕ → ℕ → ℕ → Bool
+room count size bytes at = leb count maximum && leb (at + count * size) bytes
 
 -- ---- number 2, of the bytes
 

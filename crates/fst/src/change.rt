@@ -6,7 +6,7 @@ ghost use Rattle.fst.specs.Record.{maximum, size_of, is_bad, lent, lent_in, lent
 ghost use Rattle.fst.specs.Change.{text, is_below_last, add_change, left_by, answered};
 ghost use Rattle.fst.specs.Adding.{last_in, added, left_with, Admits, AdmittedString};
 
-use crate::record::{Slices, SlicesMut, exceeds, is_bad, is_bad_vector, lacks_room};
+use crate::record::{Slices, SlicesMut, is_bad, is_bad_vector, lacks_room};
 use crate::{Added, Description, Encoding, Refusal};
 use entries::{repeats_entry, repeats_last};
 use layout::entry::{entry_size, write_entry};
@@ -17,7 +17,7 @@ use wavemem::scan::scan;
 use wavemem::short::Scanned;
 
 // What a change adds to a record: bytes, which may repeat the last of some entries that are as long.
-pub trait Entry {
+pub(crate) trait Entry {
     ghost use Rattle.std.specs.Prelude.{◌≡◌, ◌+◌, ◌*◌, ◌≤◌, ℕ, Bool, List, length};
     ghost use Rattle.value.specs.Slice.{overlay};
 
@@ -99,7 +99,7 @@ impl Slices<'_> {
         Some(self.indices[self.index_start + before as usize])
     }
 
-    pub fn is_below_last(self, index: u32, count: u32) -> bool
+    pub(crate) fn is_below_last(self, index: u32, count: u32) -> bool
         requires { self.index_start + count ≤ length self.indices.now }
         ensures { result ≡ is_below_last index count (part self.entry.index_start count self.entry.indices.now) }
     {
@@ -112,7 +112,7 @@ impl Slices<'_> {
 
 impl Description {
     // After a refusal the description is as it was.
-    pub fn answer(self, made: Result<Description, Refusal>) -> Added
+    pub(crate) fn answer(self, made: Result<Description, Refusal>) -> Added
         ensures { result ≡ answered self made }
     {
         match made {
@@ -129,7 +129,7 @@ impl Description {
 
     // Number 7, and what is stored, of a change that moves no entry: it is behind the others, unless it repeats the last.
     #[inline(always)]
-    pub fn append<E: Entry>(
+    pub(crate) fn append<E: Entry>(
         mut self,
         slices: SlicesMut<'_>,
         index: u32,
@@ -190,7 +190,7 @@ impl Description {
         };
         let total = next_count(count, repeat);
         self = Description::new(encoding, total);
-        if exceeds(self, seen) {
+        if is_bad(self, seen) {
             return Err(Refusal::NoRoom);
         }
         let SlicesMut {
@@ -236,7 +236,7 @@ impl Description {
         if slices.is_below_last(index, self.count) {
             return Err(Refusal::IndexBelowLast);
         }
-        if max_states.mark() < states.mark() {
+        if max_states < states {
             return Ok(Addition::Raised { max_states, states });
         }
         let entry = NewEntry::with_levels(max_states, states, value, size, Some(levels));

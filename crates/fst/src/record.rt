@@ -21,7 +21,7 @@ pub struct Slices<'a> {
     pub index_start: usize,
 }
 
-// Such slices, to be written.
+// Such slices, to be written. What a call leaves in them is `.exit.0.now` and `.exit.1.0.now` in its contract.
 #[derive(Drop)]
 pub struct SlicesMut<'a> {
     pub bytes: &'a mut [u8],
@@ -67,32 +67,27 @@ pub fn fresh_real() -> Description
     Description::new(Encoding::Real, 0)
 }
 
+// Whether n elements from a start on stand within so many.
+fn has_room(len: usize, start: usize, n: usize) -> bool
+    ensures { result ≡ leb (start + n) len }
+{
+    start <= len && n <= len - start
+}
+
 // Whether `count` entries of `size` bytes stand within the maximum and, from a start, within so many bytes.
 fn fits_bytes(count: u32, size: usize, bytes: usize, byte_start: usize) -> bool
     requires { size ≤ 4096 }
     ensures { result ≡ leb count maximum && leb (byte_start + count * size) bytes }
 {
-    if MAXIMUM < count {
-        return false;
-    }
-    if bytes < byte_start {
-        return false;
-    }
-    count as usize * size <= bytes - byte_start
+    count <= MAXIMUM && has_room(bytes, byte_start, count as usize * size)
 }
 
-// Whether so many bytes from a start are no bit vector's of a width, whose entries have a size.
-fn is_bad_levels(width: u32, size: usize, count: u32, bytes: usize, byte_start: usize) -> bool
+// Whether so many bytes from a start are a bit vector's of a width, whose entries have a size.
+fn fits_levels(width: u32, size: usize, count: u32, bytes: usize, byte_start: usize) -> bool
     requires { width ≤ max_width → size ≤ 4096 }
-    ensures { result ≡ not ((leb 1 width && leb width max_width) && (leb count maximum && leb (byte_start + count * size) bytes)) }
+    ensures { result ≡ (leb 1 width && leb width max_width) && (leb count maximum && leb (byte_start + count * size) bytes) }
 {
-    if width < 1 {
-        return true;
-    }
-    if MAX_WIDTH < width {
-        return true;
-    }
-    !fits_bytes(count, size, bytes, byte_start)
+    1 <= width && width <= MAX_WIDTH && fits_bytes(count, size, bytes, byte_start)
 }
 
 // Number 2 of the calls that are lent no indices: whether a description asks for more bytes than it is lent, or for what no record has.
@@ -100,35 +95,24 @@ pub fn is_bad_bytes(description: Description, bytes: &[u8], byte_start: usize) -
     ensures { result ≡ is_bad_bytes description byte_start bytes.now }
 {
     let count = description.count;
-    let encoding = description.encoding;
-    match encoding {
-        Encoding::Event => !fits_bytes(count, 0, bytes.len(), byte_start),
-        Encoding::Real => !fits_bytes(count, 8, bytes.len(), byte_start),
+    let fits = match description.encoding {
+        Encoding::Event => fits_bytes(count, 0, bytes.len(), byte_start),
+        Encoding::Real => fits_bytes(count, 8, bytes.len(), byte_start),
         Encoding::BitVector { width, max_states } => {
             let size = entry_size(max_states, width);
-            is_bad_levels(width, size, count, bytes.len(), byte_start)
+            fits_levels(width, size, count, bytes.len(), byte_start)
         }
-    }
-}
-
-// Whether fewer indices are lent from a start on.
-fn lacks_indices(count: u32, indices: &[u32], index_start: usize) -> bool
-    ensures { result ≡ not (leb (index_start + count) (length indices.now)) }
-{
-    if indices.len() < index_start {
-        return true;
-    }
-    indices.len() - index_start < count as usize
+    };
+    !fits
 }
 
 // Number 2: the same, or more indices than are lent.
 pub fn is_bad(description: Description, slices: Slices<'_>) -> bool
     ensures { result ≡ is_bad description (lent_in slices.entry) }
 {
-    if is_bad_bytes(description, slices.bytes, slices.byte_start) {
-        return true;
-    }
-    lacks_indices(description.count, slices.indices, slices.index_start)
+    let count = description.count as usize;
+    is_bad_bytes(description, slices.bytes, slices.byte_start)
+        || !has_room(slices.indices.len(), slices.index_start, count)
 }
 
 // Number 2 of a bit vector, whose size is worked out once for all that follows.
@@ -137,18 +121,8 @@ pub fn is_bad_vector(description: Description, width: u32, size: usize, slices: 
     ensures { result ≡ is_bad description (lent_in slices.entry) }
 {
     let count = description.count;
-    if is_bad_levels(width, size, count, slices.bytes.len(), slices.byte_start) {
-        return true;
-    }
-    lacks_indices(count, slices.indices, slices.index_start)
-}
-
-// Whether so many entries exceed the maximum or a slice.
-pub fn exceeds(description: Description, slices: Slices<'_>) -> bool
-    requires { width_stands description.encoding ≡ true }
-    ensures { result ≡ not (fits description.encoding description.count (lent_in slices.entry)) }
-{
-    is_bad(description, slices)
+    !fits_levels(width, size, count, slices.bytes.len(), slices.byte_start)
+        || !has_room(slices.indices.len(), slices.index_start, count as usize)
 }
 
 // Whether one entry more has no room, where the record is not bad and its entries have a size.

@@ -1,7 +1,11 @@
 -- `fst::Description::admit_levels` meets its contract.
 -- Assumes nothing.
 use mathlib.Core.Path.{◌≡◌, sym, ap, ◌∙◌}
-use mathlib.Core.Bool.{false}
+use mathlib.Core.Bool.{false, true≢false}
+use Rattle.value.specs.declared.States.{States}
+use Rattle.value.specs.declared.States.TheVariants.{Two, Four, Nine}
+use Rattle.value.specs.contracts.StatesPartialOrd.TheImpl.{partial_cmp-value}
+use Rattle.std.specs.Ordering.{partial_lt}
 use Prim.Native.Nat.{ℕ, ◌≤◌}
 use native.Mathlib.Omega.{arith}
 use lib.ListN.{length}
@@ -32,6 +36,18 @@ module _ (b : After-is_below_last) where
   sized : b.entry_size-size.result ≡ entry_size (length b.args.value.now) b.args.max_states
   sized = b.entry_size-size.ensures ∙ ap (λ (k : ℕ). entry_size k b.args.max_states) (sym b.if-value-width.false)
 
+-- sets in their order
+not_above : (M own : States) → false ≡ partial_lt (partial_cmp-value).it M own → mark_of own ≤ mark_of M
+not_above Two Two h = omega arith
+not_above Two Four h = absurd (true≢false (sym h))
+not_above Two Nine h = absurd (true≢false (sym h))
+not_above Four Two h = omega arith
+not_above Four Four h = omega arith
+not_above Four Nine h = absurd (true≢false (sym h))
+not_above Nine Two h = omega arith
+not_above Nine Four h = omega arith
+not_above Nine Nine h = omega arith
+
 pub is_bad_vector-requires : goal.is_bad_vector-requires
 is_bad_vector-requires c = record { largest = c.args.max_states; vector = c.requires; sized = c.entry_size-size.ensures }
 
@@ -57,14 +73,14 @@ is_below_last-requires c = (standing (sym c.if-is_bad_vector.ensures)).room.indi
 pub returns-then-is_below_last : goal.returns-then-is_below_last
 returns-then-is_below_last c = gives_6 (suited (goal.at.returns-then-is_below_last c).After-is_below_last) _ c.if-is_below_last.ensures
 
-pub returns-then-mark : goal.returns-then-mark
-returns-then-mark c = levels (goal.at.returns-then-mark c).After-is_below_last c.if-is_below_last.ensures
+pub returns-then-lt : goal.returns-then-lt
+returns-then-lt c = levels (goal.at.returns-then-lt c).After-is_below_last c.if-is_below_last.ensures
 
 pub with_levels-entry-requires : goal.with_levels-entry-requires
 with_levels-entry-requires c =
     let b = (goal.at.with_levels-entry-requires c).After-is_below_last in
     let v = levels b c.if-is_below_last.ensures in
-    let low : mark_of c.in-Some.field-0.states ≤ mark_of c.args.max_states = omega (arith, c.if-mark.false, c.mark-2.ensures, c.mark.ensures) in (
+    let low = not_above c.args.max_states c.in-Some.field-0.states c.if-lt.ensures in (
       new_writable v low (sized b),
       sized b,
       λ h. c.in-Some.ensures.levels h (one_word (new_writable v low (sized b)) (omega (arith, sized b))).short,
@@ -73,5 +89,5 @@ with_levels-entry-requires c =
 pub returns : goal.returns
 returns c =
     let b = (goal.at.returns c).After-is_below_last in
-    let low : mark_of c.in-Some.field-0.states ≤ mark_of c.args.max_states = omega (arith, c.if-mark.false, c.mark-2.ensures, c.mark.ensures) in
+    let low = not_above c.args.max_states c.in-Some.field-0.states c.if-lt.ensures in
     text_adds (levels b c.if-is_below_last.ensures) low c.with_levels-entry.ensures

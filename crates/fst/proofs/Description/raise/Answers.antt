@@ -8,7 +8,7 @@ use native.Mathlib.Omega.{arith}
 use lib.ListN.{length, set}
 use Rattle.fst.specs.declared.Description.{Description}
 use Rattle.fst.specs.declared.Encoding.TheVariants.{BitVector}
-use Rattle.fst.specs.Record.{Lent, lent_mut, width_stands, fits}
+use Rattle.fst.specs.Record.{Lent, lent_mut, fits, is_bad}
 use Rattle.entries.specs.Repeatable.{Repeatable, repeats_widened}
 use Rattle.value.specs.declared.States.{States}
 use Rattle.value.specs.Slice.{overlay}
@@ -16,9 +16,10 @@ use Rattle.value.specs.Level.{join}
 use Rattle.layout.specs.Entry.{entry_size}
 use Rattle.layout.specs.Writable.{entry_from}
 use Rattle.fst.proofs.Adding.{accepted_with}
+use Rattle.fst.proofs.Rooms.{bad_exceeds}
 use Rattle.fst.proofs.AddingPlain.{Roomier}
 use Rattle.fst.proofs.AddingStrings.{string_standing, repeatable, width_then, widenable, wider_room, writable, levels_full, levels_stay, levels_grow}
-use Rattle.fst.proofs.Description.raise.Goals.{After-entry_size, After-exceeds, Start}
+use Rattle.fst.proofs.Description.raise.Goals.{After-entry_size, After-is_bad, Start}
 use Rattle.fst.proofs.Description.raise.Goals as goal
 
 -- an index's place counts no more bytes than a slice has
@@ -34,7 +35,7 @@ left_by : (indices : List ℕ) {d e : Description} {b c : List ℕ} → d ≡ e 
 left_by indices p q = ap₂ (λ (d : Description) (b : List ℕ). accepted_with (record { description = d; bytes = b; indices = indices })) p q
 
 -- what is known once the room is tried
-module _ (z : After-exceeds) where
+module _ (z : After-is_bad) where
   abbrev here : Lent
   here = lent_mut z.args.slices
 
@@ -52,11 +53,14 @@ module _ (z : After-exceeds) where
   counted : z.next_count-total.result ≡ cond z.repeats_last-repeat.result z.args.self.count (z.args.self.count + 1)
   counted = z.next_count-total.ensures
 
-  exceeded : z.exceeds.result ≡ not (fits (BitVector (length z.args.value.now) joint) z.next_count-total.result here)
-  exceeded = z.exceeds.ensures ∙ ap₂ (λ (d : Description) (l : Lent). not (fits d.encoding d.count l)) z.new-self.ensures z.shared-seen.ensures
+  exceeded : z.is_bad.result ≡ not (fits (BitVector (length z.args.value.now) joint) z.next_count-total.result here)
+  exceeded =
+      z.is_bad.ensures
+      ∙ ap₂ is_bad z.new-self.ensures z.shared-seen.ensures
+      ∙ bad_exceeds _ here (width_then z.requires joined)
 
   -- room for one entry more
-  places : z.exceeds.result ≡ false → z.repeats_last-repeat.result ≡ false → Roomier z.args.self here (entry_size (length z.args.value.now) joint)
+  places : z.is_bad.result ≡ false → z.repeats_last-repeat.result ≡ false → Roomier z.args.self here (entry_size (length z.args.value.now) joint)
   places h e = wider_room z.requires joined told counted (sym exceeded ∙ h) e
 
 -- the new entry's place
@@ -78,56 +82,51 @@ repeats_last-repeat-requires c =
 pub next_count-total-requires : goal.next_count-total-requires
 next_count-total-requires c = (string_standing c.requires).room.count
 
-pub exceeds-requires : goal.exceeds-requires
-exceeds-requires c =
-    ap (λ (d : Description). width_stands d.encoding) c.new-self.ensures
-    ∙ width_then c.requires c.join-joint.ensures
-
-pub returns-then-exceeds : goal.returns-then-exceeds
-returns-then-exceeds c =
-    let past = goal.at.returns-then-exceeds c in
-    levels_full c.requires (joined past.After-exceeds) (told past.After-exceeds) (counted past.After-exceeds) (sym (exceeded past.After-exceeds) ∙ c.if-exceeds.true)
+pub returns-then-is_bad : goal.returns-then-is_bad
+returns-then-is_bad c =
+    let past = goal.at.returns-then-is_bad c in
+    levels_full c.requires (joined past.After-is_bad) (told past.After-is_bad) (counted past.After-is_bad) (sym (exceeded past.After-is_bad) ∙ c.if-is_bad.true)
 
 pub expand_entries-requires : goal.expand_entries-requires
 expand_entries-requires c =
     let past = goal.at.expand_entries-requires c in
-    widenable c.requires (joined past.After-exceeds) (told past.After-exceeds) (counted past.After-exceeds) (sym (exceeded past.After-exceeds) ∙ c.if-exceeds.false)
+    widenable c.requires (joined past.After-is_bad) (told past.After-is_bad) (counted past.After-is_bad) (sym (exceeded past.After-is_bad) ∙ c.if-is_bad.false)
 
 pub returns-then-repeat : goal.returns-then-repeat
 returns-then-repeat c =
     let past = goal.at.returns-then-repeat c in
     left_by c.args.slices.indices.now c.new-self.ensures c.expand_entries.ensures
-    ∙ levels_stay c.requires (joined past.After-exceeds) (told past.After-exceeds) (counted past.After-exceeds) (sym (exceeded past.After-exceeds) ∙ c.if-exceeds.false) c.if-repeat.true
+    ∙ levels_stay c.requires (joined past.After-is_bad) (told past.After-is_bad) (counted past.After-is_bad) (sym (exceeded past.After-is_bad) ∙ c.if-is_bad.false) c.if-repeat.true
 
 pub overflow_mul-at : goal.overflow_mul-at
 overflow_mul-at c =
     let past = goal.at.overflow_mul-at c in
-    omega (arith, place past.After-entry_size _ c.entry_size.ensures (places past.After-exceeds c.if-exceeds.false c.if-repeat.false), few_bytes past.Start)
+    omega (arith, place past.After-entry_size _ c.entry_size.ensures (places past.After-is_bad c.if-is_bad.false c.if-repeat.false), few_bytes past.Start)
 
 pub overflow_add-at : goal.overflow_add-at
 overflow_add-at c =
     let past = goal.at.overflow_add-at c in
-    omega (arith, place past.After-entry_size _ c.entry_size.ensures (places past.After-exceeds c.if-exceeds.false c.if-repeat.false), few_bytes past.Start)
+    omega (arith, place past.After-entry_size _ c.entry_size.ensures (places past.After-is_bad c.if-is_bad.false c.if-repeat.false), few_bytes past.Start)
 
 pub write_entry-requires : goal.write_entry-requires
 write_entry-requires c =
     let past = goal.at.write_entry-requires c in
     let a = c.args in
-    writable c.requires (joined past.After-exceeds) (told past.After-exceeds) (counted past.After-exceeds) (sym (exceeded past.After-exceeds) ∙ c.if-exceeds.false) c.if-repeat.false c.expand_entries.auto.data
+    writable c.requires (joined past.After-is_bad) (told past.After-is_bad) (counted past.After-is_bad) (sym (exceeded past.After-is_bad) ∙ c.if-is_bad.false) c.if-repeat.false c.expand_entries.auto.data
     (ap (λ (k : ℕ). a.slices.byte_start + a.self.count * k) c.entry_size.ensures)
 
 pub overflow_add-indices : goal.overflow_add-indices
 overflow_add-indices c =
     let past = goal.at.overflow_add-indices c in
-    let p = (places past.After-exceeds c.if-exceeds.false c.if-repeat.false).index in omega (arith, few_indices past.Start)
+    let p = (places past.After-is_bad c.if-is_bad.false c.if-repeat.false).index in omega (arith, few_indices past.Start)
 
 pub offset_bounds-indices-index_start : goal.offset_bounds-indices-index_start
 offset_bounds-indices-index_start c =
     let past = goal.at.offset_bounds-indices-index_start c in
-    let p = (places past.After-exceeds c.if-exceeds.false c.if-repeat.false).index in omega (arith, few_indices past.Start)
+    let p = (places past.After-is_bad c.if-is_bad.false c.if-repeat.false).index in omega (arith, few_indices past.Start)
 
 pub bounds-indices-index_start : goal.bounds-indices-index_start
-bounds-indices-index_start c = (places (goal.at.bounds-indices-index_start c).After-exceeds c.if-exceeds.false c.if-repeat.false).index
+bounds-indices-index_start c = (places (goal.at.bounds-indices-index_start c).After-is_bad c.if-is_bad.false c.if-repeat.false).index
 
 pub returns : goal.returns
 returns c =
@@ -136,6 +135,6 @@ returns c =
     (c.write_entry.ensures.out_after
     ∙ ap₂
     (λ (b : List ℕ) (k : ℕ).
-    overlay b (c.args.slices.byte_start + c.args.self.count * k) (entry_from (joint past.After-exceeds) c.args.states c.args.value.now))
+    overlay b (c.args.slices.byte_start + c.args.self.count * k) (entry_from (joint past.After-is_bad) c.args.states c.args.value.now))
     c.expand_entries.ensures c.entry_size.ensures)
-    ∙ levels_grow c.requires (joined past.After-exceeds) (told past.After-exceeds) (counted past.After-exceeds) (sym (exceeded past.After-exceeds) ∙ c.if-exceeds.false) c.if-repeat.false
+    ∙ levels_grow c.requires (joined past.After-is_bad) (told past.After-is_bad) (counted past.After-is_bad) (sym (exceeded past.After-is_bad) ∙ c.if-is_bad.false) c.if-repeat.false
