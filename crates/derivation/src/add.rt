@@ -1,11 +1,11 @@
 // A derivation, and Add a piece.
-ghost use Rattle.std.specs.Prelude.{◌∷◌, ◌≡◌, ◌==◌, ◌≤◌, ◌<◌, true, false, length, map, min, take, position};
+ghost use Rattle.std.specs.Prelude.{◌∷◌, ◌≡◌, ◌==◌, ◌≤◌, ◌<◌, true, false, length, map, min, take, position, sum_by};
 ghost use Rattle.std.specs.List.{list_any};
-ghost use Rattle.value.specs.Slice.{overlay, sum};
+ghost use Rattle.value.specs.Slice.{overlay};
 ghost use Rattle.fst.specs.Refusal.{outcome};
 ghost use Rattle.derivation.specs.Answer.{added_of, merges, has_no_room, Joining, Named, with_pieces, with_names};
 ghost use Rattle.derivation.specs.declared.Side.TheVariants.{Left, Right};
-ghost use Rattle.derivation.specs.Piece.{extract_of, pieces_of, names_of, is_bad_piece, is_bad_derivation, is_bad_range, piece_of, piece_added, piece_width, name_added, add_piece, add_full, slice_of, identity_of, joined_of, empty_derivation};
+ghost use Rattle.derivation.specs.Piece.{extract_of, pieces_of, names_of, is_bad_piece, is_bad_derivation, is_bad_range, piece_of, piece_added, name_added, add_piece, add_full, slice_of, identity_of, joined_of, empty_derivation};
 
 use crate::{DerivedBitVecSignal, Extract, Joined, Side};
 use fst::Refusal;
@@ -51,7 +51,7 @@ fn any_bad(pieces: &[u64], inputs: u32) -> bool
 
 fn total_width(pieces: &[u64]) -> u32
     requires { length pieces.now ≤ 64 }
-    ensures { result ≡ sum (map piece_width (map extract_of pieces.now)) }
+    ensures { result ≡ sum_by (λ piece. (extract_of piece).width) pieces.now }
 {
     pieces
         .iter()
@@ -92,7 +92,7 @@ impl DerivedBitVecSignal {
     }
 
     // Number 14 of Add a piece.
-    #[tactic(auto, using(crate::proofs::Walks::any_listed), unfolding(crate::specs::Piece::is_bad_derivation))]
+    #[tactic(auto, using(crate::proofs::Walks::any_listed, crate::proofs::Walks::width_extracts), unfolding(crate::specs::Piece::is_bad_derivation))]
     pub fn is_bad(&self) -> bool
         ensures { result ≡ is_bad_derivation self.now }
     {

@@ -15,7 +15,7 @@ use Rattle.value.proofs.Slices.{part_length, part_at}
 use Rattle.value.proofs.Tests.{by_le}
 use Rattle.fst.specs.Refusal.{refused, given, tried}
 use Rattle.fst.specs.Record.{maximum}
-use Rattle.std.specs.Prelude.{Option, Some, None, sum_by}
+use Rattle.std.specs.Prelude.{Option, Some, None, count_by}
 use Rattle.std.proofs.lemmas.List.Recursion.{is_sum_by}
 use Rattle.offset.specs.Offset.{head_of}
 use Rattle.search.specs.Quartering.{not_above, ends, quartered, rank, reach_of, start_of, run_up_to, search}
@@ -40,9 +40,9 @@ not_above_cons s i l = go (leb i s)
     go true = omega arith
     go false = omega arith
 
-pub not_above_sum : (s : ℕ) (l : List ℕ) → sum_by (λ i. cond (leb i s) 1 0) l ≡ not_above s l
+pub not_above_count : (s : ℕ) (l : List ℕ) → count_by (λ i. leb i s) l ≡ not_above s l
 unfolding not_above
-not_above_sum s l = sym (is_sum_by (not_above s) (λ i. cond (leb i s) 1 0) refl (not_above_cons s) l)
+not_above_count s l = sym (is_sum_by (not_above s) (λ i. cond (leb i s) 1 0) refl (not_above_cons s) l)
 
 -- one index that is above
 not_above_alone : (s : ℕ) (l : List ℕ) → length l ≡ 1 → s < get_or l 0 0 → not_above s l ≡ 0

@@ -1,7 +1,7 @@
 // The entries that hold at a time index, in a list that is known not to fall: Look up without its scan.
 #![tactic(auto)]
 
-ghost use Rattle.std.specs.Prelude.{◌≡◌, ◌≤◌, ◌<◌, ◌-◌, length, get_or};
+ghost use Rattle.std.specs.Prelude.{◌≡◌, ◌≤◌, ◌<◌, ◌-◌, leb, length, get_or, count_by};
 ghost use Rattle.fst.specs.Record.{maximum};
 ghost use Rattle.offset.specs.Offset.{offset_of};
 ghost use Rattle.search.specs.Quartering.{not_above, ends, rank, reach_of, start_of, search};
@@ -13,7 +13,7 @@ use offset::{DataOffset, get, not_above};
 // The number of up to 16 indices that are not above the needle. All are compared, since a count that can end early is not vectorised.
 fn count(indices: &[u32], needle: u32) -> u32
     requires { length indices.now ≤ 16 }
-    ensures { result ≡ not_above needle indices.now }
+    ensures { result ≡ count_by (λ index. leb index needle) indices.now }
 {
     indices
         .iter()

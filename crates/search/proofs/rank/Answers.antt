@@ -8,7 +8,7 @@ use borrow.Author.Rules.{rules}
 use lib.ListN.{length, drop, length-take}
 use Rattle.value.specs.Slice.{part}
 use Rattle.search.specs.Quartering.{rank}
-use Rattle.search.proofs.Quartering.{rank_turn, rank_short, rank_within}
+use Rattle.search.proofs.Quartering.{not_above_count, rank_turn, rank_short, rank_within}
 use Rattle.search.proofs.rank.Goals.{After-passed, After-count}
 use Rattle.search.proofs.rank.Goals as goal
 
@@ -50,7 +50,9 @@ loop-rest-preserved c =
 
 -- what is counted when the loop has ended
 counted : (c : After-count) → c.loop-rest.rank + c.count.result ≡ rank c.args.needle c.args.indices.now
-counted c = omega (arith, c.count.ensures, rank_short c.args.needle c.loop-rest.rest.now (omega arith), c.loop-rest.invariant)
+counted c =
+    let l = c.loop-rest.rest.now in
+    omega (arith, c.count.ensures, not_above_count c.args.needle l, rank_short c.args.needle l (omega arith), c.loop-rest.invariant)
 
 pub overflow_add-result : goal.overflow_add-result
 overflow_add-result c =
