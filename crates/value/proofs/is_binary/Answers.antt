@@ -1,10 +1,7 @@
 -- `value::is_binary` meets its contract: the union so far is 0 where set Two holds the characters so far.
 -- Assumes nothing.
-use mathlib.Core.Path.{◌∙◌, ap}
 use native.Mathlib.Omega.{arith}
-use lib.Seq.{take_all}
 use Rattle.value.specs.declared.States.TheVariants.{Two}
-use Rattle.value.specs.Answer.{holds_all}
 use Rattle.value.proofs.Classes.{holds_none, holds_more}
 use Rattle.value.proofs.is_binary.Goals as goal
 
@@ -14,6 +11,3 @@ loop-c-init c = holds_none Two
 pub loop-c-preserved : goal.loop-c-preserved
 loop-c-preserved c =
     holds_more Two c.args.value.now c.loop-c.c-index c.loop-c.union _ (omega arith) c.loop-c.invariant c.beside_two-union.ensures
-
-pub returns : goal.returns
-returns c = c.loop-c.invariant ∙ ap (holds_all Two) (take_all c.loop-c.c-index c.args.value.now (omega arith))

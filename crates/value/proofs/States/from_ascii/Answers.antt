@@ -6,6 +6,3 @@ use Rattle.value.proofs.States.from_ascii.Goals as goal
 
 pub returns-then-is_binary : goal.returns-then-is_binary
 returns-then-is_binary c = sym (is_two _ (sym c.if-is_binary.true ∙ c.is_binary.ensures))
-
-pub beyond_two-requires : goal.beyond_two-requires
-beyond_two-requires c = sym c.if-is_binary.false ∙ c.is_binary.ensures
