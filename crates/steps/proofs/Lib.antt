@@ -1,9 +1,9 @@
+pub mod Anys
 pub mod InputTests
-pub mod Loops
+pub mod Nexts
 pub mod Levels
-pub mod Tables
 pub mod Tracks
-pub mod Sources
+pub mod Standing
 pub mod Walk
 pub mod Appending
 pub mod Storing

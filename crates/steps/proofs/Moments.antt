@@ -1,23 +1,22 @@
 -- The steps over records: each shows entries of its records, and their indices don't fall.
 -- Assumes nothing.
+use Rattle.std.specs.Prelude.{Option, None, Some}
 use Prim.Native.Nat.{◌<◌, ◌≤◌, suc, zero, ℕ}
 use borrow.Author.Tests.{le-ltb, ltb-false}
 use lib.Dec.{eqb, ltb}
 use lib.ListN.{get_or-map, length, length-map}
 use mathlib.Core.Bool.{Bool, cond, false, true}
 use mathlib.Core.List.{List, [], ◌++◌, ◌∷◌, append_assoc, append-nil, foldl, map}
-use mathlib.Core.Option.{Option, none, some}
 use mathlib.Core.Path.{◌∙◌, ◌≡◌, ap, refl, subst, sym}
 use native.Mathlib.Omega.{arith}
 use Rattle.value.proofs.Tests.{or_both, or_left, or_right}
 use Rattle.fst.specs.Record.{Kept}
-use Rattle.fst.specs.declared.NextIndex.{NextIndex}
-use Rattle.fst.specs.declared.NextIndex.TheVariants.{Absent, At}
 use Rattle.runs.specs.All.{All}
 use Rattle.runs.specs.Runs.{Step, ends_like, index_of, joined}
 use Rattle.runs.proofs.All.{all_by}
 use Rattle.signal.specs.Decode.{entries_from, entries_in}
-use Rattle.offset.specs.Offset.{falls, head_of}
+use Rattle.offset.specs.Offset.{falls}
+use Rattle.offset.specs.Offset.{head_of}
 use Rattle.signal.proofs.Entries.{entries_count, entry_is, indexed}
 use Rattle.steps.specs.Steps.{Moment, Shown, Track, moments_from, moved, now_of, shown_by, shown_in, shown_index, smaller, smallest}
 
@@ -114,8 +113,8 @@ Each2 R (x ∷ xs) (y ∷ ys) = R x y × Each2 R xs ys
 module _ (U : Type 0) where
   -- an input shows one of its entries
   abbrev pub NowFrom : Kept → Option Shown → Type 0
-  NowFrom k none = U
-  NowFrom k (some s) = From k s
+  NowFrom k None = U
+  NowFrom k (Some s) = From k s
 
   abbrev pub Runs : Kept → Track → Type 0
   Runs k t = NowFrom k t.now × All (From k) t.next
@@ -125,7 +124,7 @@ module _ (U : Type 0) where
   moved_runs k i n [] h p = (h, tt)
   moved_runs k i n (s ∷ l) h p = go (eqb s.index i)
     where
-      go : (b : Bool) → Runs k (cond b (record { now = some s; next = l }) (record { now = n; next = s ∷ l }))
+      go : (b : Bool) → Runs k (cond b (record { now = Some s; next = l }) (record { now = n; next = s ∷ l }))
       go true = (p.0, p.1)
       go false = (h, p)
 
@@ -144,11 +143,11 @@ module _ (U : Type 0) where
   abbrev pub ShowsEntries : List Kept → Moment → Type 0
   ShowsEntries ks m = Each2 NowFrom ks m.showing
 
-  pub moments_show : (ks : List Kept) (n : ℕ) (i : NextIndex) (ts : List Track) → Each2 Runs ks ts → All (ShowsEntries ks) (moments_from n i ts)
+  pub moments_show : (ks : List Kept) (n : ℕ) (i : Option ℕ) (ts : List Track) → Each2 Runs ks ts → All (ShowsEntries ks) (moments_from n i ts)
   unfolding moments_from
   moments_show ks zero i ts r = tt
-  moments_show ks (suc n) Absent ts r = tt
-  moments_show ks (suc n) (At i) ts r =
+  moments_show ks (suc n) None ts r = tt
+  moments_show ks (suc n) (Some i) ts r =
       let u = runs_all ks ts i r in
       (shows_all ks (map (moved i) ts) u, moments_show ks n (smallest (map (moved i) ts)) (map (moved i) ts) u)
 
@@ -165,9 +164,9 @@ abbrev pub LeastIn : ℕ → List Shown → Type 0
 LeastIn i [] = Unit
 LeastIn i (s ∷ l) = i ≤ s.index
 
-abbrev pub LeastOf : ℕ → NextIndex → Type 0
-LeastOf i Absent = Unit
-LeastOf i (At j) = i ≤ j
+abbrev pub LeastOf : ℕ → Option ℕ → Type 0
+LeastOf i None = Unit
+LeastOf i (Some j) = i ≤ j
 
 abbrev pub NextLeast : ℕ → Track → Type 0
 NextLeast i t = LeastIn i t.next
@@ -177,27 +176,27 @@ unfolding smallest
 least_under [] i h = tt
 least_under (t ∷ ts) i h = let z = split t.next (smallest ts) h in (z.0, least_under ts i z.1)
   where
-    split : (l : List Shown) (m : NextIndex) → LeastOf i (smaller (head_of (map shown_index l)) m) → LeastIn i l × LeastOf i m
+    split : (l : List Shown) (m : Option ℕ) → LeastOf i (smaller (head_of (map shown_index l)) m) → LeastIn i l × LeastOf i m
     split [] m h = (tt, h)
-    split (s ∷ l) Absent h = (h, tt)
-    split (s ∷ l) (At j) h = (omega arith, omega arith)
+    split (s ∷ l) None h = (h, tt)
+    split (s ∷ l) (Some j) h = (omega arith, omega arith)
 
 pub bounded : (ts : List Track) (b : ℕ) → All (NextUp b) ts → LeastOf b (smallest ts)
 unfolding smallest
 bounded [] b u = tt
 bounded (t ∷ ts) b u = merge t.next (smallest ts) u.0 (bounded ts b u.1)
   where
-    merge : (l : List Shown) (m : NextIndex) → Up shown_index b l → LeastOf b m → LeastOf b (smaller (head_of (map shown_index l)) m)
+    merge : (l : List Shown) (m : Option ℕ) → Up shown_index b l → LeastOf b m → LeastOf b (smaller (head_of (map shown_index l)) m)
     merge [] m u h = h
-    merge (s ∷ l) Absent u h = u.0
-    merge (s ∷ l) (At j) u h = let k = u.0 in omega arith
+    merge (s ∷ l) None u h = u.0
+    merge (s ∷ l) (Some j) u h = let k = u.0 in omega arith
 
 pub moved_up : (i b : ℕ) (n : Option Shown) (l : List Shown) → Up shown_index b l → LeastIn i l → Up shown_index i (moved i (record { now = n; next = l })).next
 unfolding moved
 moved_up i b n [] u h = tt
 moved_up i b n (s ∷ l) u h = go (eqb s.index i)
   where
-    go : (t : Bool) → NextUp i (cond t (record { now = some s; next = l }) (record { now = n; next = s ∷ l }))
+    go : (t : Bool) → NextUp i (cond t (record { now = Some s; next = l }) (record { now = n; next = s ∷ l }))
     go true = up_from shown_index i s.index l h u.1
     go false = (h, u.1)
 
@@ -205,11 +204,11 @@ pub ups : (ts : List Track) (i b : ℕ) → All (NextUp b) ts → All (NextLeast
 ups [] i b u h = tt
 ups (t ∷ ts) i b u h = (moved_up i b t.now t.next u.0 h.0, ups ts i b u.1 h.1)
 
-pub moments_up : (n : ℕ) (m : NextIndex) (ts : List Track) (b : ℕ) → smallest ts ≡ m → All (NextUp b) ts → Up moment_index b (moments_from n m ts)
+pub moments_up : (n : ℕ) (m : Option ℕ) (ts : List Track) (b : ℕ) → smallest ts ≡ m → All (NextUp b) ts → Up moment_index b (moments_from n m ts)
 unfolding moments_from
 moments_up zero m ts b e u = tt
-moments_up (suc n) Absent ts b e u = tt
-moments_up (suc n) (At i) ts b e u =
+moments_up (suc n) None ts b e u = tt
+moments_up (suc n) (Some i) ts b e u =
     let us = map (moved i) ts in
     let self : i ≤ i = omega arith in
     let v = ups ts i b u (least_under ts i (subst (LeastOf i) (sym e) self)) in

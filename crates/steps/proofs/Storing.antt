@@ -15,7 +15,6 @@ use Rattle.value.specs.Slice.{overlay, part, same}
 use Rattle.value.specs.declared.States.{States}
 use Rattle.value.proofs.Slices.{overlay_length, overlay_nil, overlay_overlay, overlay_store, part_overlay}
 use Rattle.layout.specs.Entry.{entry_size}
-use Rattle.layout.specs.Writable.{Writable, entry_from}
 use Rattle.layout.proofs.EntryLaws.{EntryLaws}
 use Rattle.runs.specs.Runs.{Step, ends_like, entries_of, index_of, joined}
 use Rattle.runs.proofs.Joined.{ends_snoc}
@@ -71,24 +70,22 @@ module _ {w : ℕ} {M : States} {stride all : ℕ} {out_bytes out_indices : List
     new_fits : again ≡ false → count * stride + size ≤ length bytes
     new_fits h = rw t.long (room count (new_few (again_is ∙ h)))
 
-    pub appendable : {S : States} {value : List ℕ} → Writable M S value size 0 → length value ≡ w → entry_from M S value ≡ entry → count ≤ 8388608
-        → Appendable M S value size stride count bytes
-    appendable written long e most =
-        record {
-          written = written;
-          sized = ap (λ (n : ℕ). entry_size n M) (sym long);
+    pub appendable : {e : List ℕ} → e ≡ entry → count ≤ 8388608 → Appendable e stride count bytes
+    appendable {e} q most =
+        rw q
+        (record {
           few = most;
-          last = λ h. rw t.long (room (count - 1) (omega arith));
-          room = λ h. new_fits (ap (repeats_last count (last_at size stride count bytes)) (sym e) ∙ h);
-        }
+          last = λ h. rw (entry_long, t.long) (room (count - 1) (omega arith));
+          room = λ h. rw entry_long (new_fits (rw entry_long at h));
+        })
 
-    module _ {r : ℕ} {newBytes newIndices : List ℕ} (a : Appended entry size stride count bytes r newBytes)
+    module _ {r : ℕ} {newBytes newIndices : List ℕ} (a : Appended entry stride count bytes r newBytes)
         (y : newIndices ≡ cond (ltb count r) (set indices count s.index) indices) where
       repeated : again ≡ true → Storing w M stride all out_bytes out_indices (joined (same_entry w M) kept s) r newBytes newIndices
       unfolding joined
       repeated h =
-          let n : r ≡ count = a.counted ∙ rw h in
-          let m : newBytes ≡ bytes = a.stored ∙ rw h in
+          let n : r ≡ count = a.counted ∙ rw (entry_long, h) in
+          let m : newBytes ≡ bytes = a.stored ∙ rw (entry_long, h) in
           rw (again_is ∙ h)
           (record {
             counted = n ∙ t.counted;
@@ -101,8 +98,8 @@ module _ {w : ℕ} {M : States} {stride all : ℕ} {out_bytes out_indices : List
       appended : again ≡ false → Storing w M stride all out_bytes out_indices (joined (same_entry w M) kept s) r newBytes newIndices
       unfolding joined
       appended h =
-          let n : r ≡ count + 1 = a.counted ∙ rw h in
-          let m : newBytes ≡ overlay bytes (count * stride) entry = a.stored ∙ rw h in
+          let n : r ≡ count + 1 = a.counted ∙ rw (entry_long, h) in
+          let m : newBytes ≡ overlay bytes (count * stride) entry = a.stored ∙ rw (entry_long, h) in
           let k : count + 1 - 1 ≡ count = omega arith in
           let f : count * stride + size ≤ length bytes = new_fits h in
           let there : last_at size stride (count + 1) (overlay bytes (count * stride) entry) ≡ entry =

@@ -1,49 +1,27 @@
 -- There are not more steps than entries of all inputs, so that room for these is room for the steps.
 -- Assumes nothing.
-use Prim.Native.Nat.{◌+◌, ◌<◌, ◌≤◌, suc, zero, ℕ}
-use lib.ListN.{drop, drop_of_length-le, get_or, length, length-map}
-use lib.Seq.{drop-cons, get_or-take, length-take-le}
+use Rattle.std.specs.Prelude.{Option, None, Some}
+use Prim.Native.Nat.{◌+◌, ◌<◌, ◌^◌, ◌≤◌, suc, zero, ℕ}
+use lib.ListN.{length, length-map}
 use mathlib.Core.Bool.{Bool, true}
 use mathlib.Core.List.{List, [], ◌∷◌, foldl, map}
-use mathlib.Core.Path.{◌∙◌, ◌≡◌, ap, refl, sym}
+use mathlib.Core.Path.{◌∙◌, ◌≡◌, refl, sym}
 use native.Mathlib.Omega.{arith}
 use Rattle.value.specs.Slice.{sum}
-use Rattle.fst.specs.declared.NextIndex.{NextIndex}
-use Rattle.fst.specs.declared.NextIndex.TheVariants.{Absent, At}
+use Rattle.fst.specs.Record.{maximum}
 use Rattle.runs.specs.All.{All}
 use Rattle.runs.specs.Runs.{joined}
-use Rattle.runs.proofs.All.{all_of}
+use Rattle.runs.proofs.All.{all_at}
 use Rattle.steps.specs.Inputs.{input_kept, inputs_of, kept_all}
-use Rattle.steps.specs.Room.{Few, room_for, total_over}
+use Rattle.std.proofs.lemmas.List.Sums.{sum_by-cons, sum_by-le}
+use Rattle.steps.specs.Room.{count_in, room_for, total_over}
 use Rattle.steps.specs.Steps.{Moment, Track, count_of, kept_steps, moments_from, moments_of, moved, shown_in, smallest, unbegun}
 use Rattle.steps.specs.declared.Input.{Input}
 use Rattle.steps.specs.declared.Inputs.{Inputs}
-use Rattle.steps.proofs.InputTests.{Stands, no_input}
+use Rattle.steps.proofs.InputTests.{Stands}
 use Rattle.steps.proofs.Rooms.{room_fewer}
-use Rattle.steps.proofs.Sources.{AllStand}
 use Rattle.steps.proofs.Tracks.{shown_count}
 use Rattle.steps.proofs.Walk.{joined_length}
-
--- ---- the loop from the last input to the first
-
-module _ (inputs : Inputs) (few : inputs.count ≤ 8) (slots : length inputs.slots ≡ 8) where
-  abbrev all : List Input
-  all = inputs_of inputs
-
-  all_length : length all ≡ inputs.count
-  all_length = length-take-le inputs.count inputs.slots (rw slots few)
-
-  pub total_none : 0 ≡ total_over (drop inputs.count all)
-  unfolding total_over
-  total_none = ap total_over (sym (drop_of_length-le all {i = inputs.count} (rw all_length (omega arith))))
-
-  pub total_more : (i n : ℕ) → i < inputs.count → suc i ≡ n → (rest : ℕ) → rest ≡ total_over (drop n all)
-      → rest + (get_or inputs.slots i no_input).description.count ≡ total_over (drop i all)
-  unfolding total_over
-  total_more i n h q rest f =
-      let r : rest ≡ total_over (drop (suc i) all) = f ∙ ap (λ (m : ℕ). total_over (drop m all)) (sym q) in
-      let s = drop-cons all i no_input (rw all_length h) ∙ ap (λ (x : Input). x ∷ drop (suc i) all) (get_or-take inputs.count inputs.slots i no_input h) in
-      rw (s, ← r) (omega arith)
 
 -- ---- how many steps there can be
 
@@ -51,20 +29,22 @@ fold_bound : {A : Type 0} (like : A → A → Bool) (l xs : List A) → length (
 fold_bound like l [] = omega arith
 fold_bound like l (x ∷ xs) = omega (arith, fold_bound like (joined like l x) xs, joined_length like l x)
 
-moments_bound : (n : ℕ) (i : NextIndex) (ts : List Track) → length (moments_from n i ts) ≤ n
+moments_bound : (n : ℕ) (i : Option ℕ) (ts : List Track) → length (moments_from n i ts) ≤ n
 unfolding moments_from
 moments_bound zero i ts = omega arith
-moments_bound (suc n) Absent ts = omega arith
-moments_bound (suc n) (At i) ts = let us = map (moved i) ts in omega (arith, moments_bound n (smallest us) us)
+moments_bound (suc n) None ts = omega arith
+moments_bound (suc n) (Some i) ts = let us = map (moved i) ts in omega (arith, moments_bound n (smallest us) us)
 
 come_all : (bytes indices : List ℕ) (is : List Input) → All (Stands bytes indices) is → sum (map count_of (map unbegun (map shown_in (map (input_kept bytes indices) is)))) ≡ total_over is
-unfolding sum total_over
+unfolding sum
 come_all bytes indices [] a = refl
-come_all bytes indices (i ∷ is) a = rw (shown_count bytes indices i a.0, come_all bytes indices is a.1)
+come_all bytes indices (i ∷ is) a = rw (shown_count bytes indices i a.0, come_all bytes indices is a.1) (sym (sum_by-cons count_in i is))
 
-module _ {inputs : Inputs} {bytes indices : List ℕ} (G : AllStand inputs bytes indices) where
-  pub few_each : All Few (inputs_of inputs)
-  few_each = all_of (Stands bytes indices) Few (λ i s. s.room.count) (inputs_of inputs) G.each
+module _ (inputs : Inputs) (bytes indices : List ℕ) (G : All (Stands bytes indices) (inputs_of inputs)) where
+  pub total_small : length (inputs_of inputs) ≤ 8 → total_over (inputs_of inputs) < 2 ^ 32
+  total_small few =
+      let b = sum_by-le count_in maximum (inputs_of inputs) (λ k d h. (all_at (Stands bytes indices) (inputs_of inputs) G k d h).room.count) in
+      omega arith
 
   pub steps_bound : {S : Type 0} (yields : Moment → S) (like : S → S → Bool) → length (kept_steps yields like (kept_all bytes indices inputs)) ≤ total_over (inputs_of inputs)
   unfolding kept_steps moments_of
@@ -76,7 +56,7 @@ module _ {inputs : Inputs} {bytes indices : List ℕ} (G : AllStand inputs bytes
         fold_bound like [] (map yields ms),
         length-map ms yields,
         moments_bound (sum (map count_of ts)) (smallest ts) ts,
-        come_all bytes indices (inputs_of inputs) G.each,
+        come_all bytes indices (inputs_of inputs) G,
       )
 
 -- ---- the room of the steps, by the numbers that the code has

@@ -1,28 +1,27 @@
 -- Cursors are the definition's tracks: what comes next, how they move, what they show, how much is to come.
 -- Assumes nothing.
+use Rattle.std.specs.Prelude.{Option, None, Some}
 use Prim.Native.Nat.{◌+◌, ◌-◌, ◌<◌, ◌≤◌, min, suc, zero, ℕ}
 use borrow.Author.Tests.{eq-eqb, ne_eqb}
 use lib.Dec.{eqb}
-use lib.ListN.{drop, get_or, length, length-map, replicate}
+use lib.ListN.{drop, get_or, length, length-map}
 use mathlib.Core.Bool.{cond}
 use mathlib.Core.List.{List, [], ◌∷◌, map}
 use mathlib.Core.Logic.{◌⊎◌, inl, inr, ⊎_elim}
-use mathlib.Core.Option.{Option, none, some}
 use mathlib.Core.Path.{◌∙◌, ◌≡◌, ap, ap₂, refl, sym}
 use native.Mathlib.Numerals.{add-one}
 use native.Mathlib.Omega.{arith}
 use Rattle.value.specs.Slice.{part, sum}
 use Rattle.value.proofs.Tests.{by_eq, by_le}
 use Rattle.fst.specs.Record.{Kept, kept_in}
-use Rattle.fst.specs.declared.NextIndex.{NextIndex}
-use Rattle.fst.specs.declared.NextIndex.TheVariants.{Absent, At}
 use Rattle.fst.proofs.Records.{indices_used}
 use Rattle.signal.specs.Decode.{Indexed, entries_from, entries_in, entry_at}
 use Rattle.offset.specs.Offset.{head_of}
 use Rattle.signal.proofs.Entries.{entries_count, entry_is, indexed}
 use Rattle.signal.proofs.Reading.{entry_within}
 use Rattle.steps.specs.Inputs.{input_kept}
-use Rattle.steps.specs.Stepping.{Cursor, advanced, begun_at, cursors, next_in, shown_bytes, soonest}
+use Rattle.steps.specs.Cursor.{Cursor}
+use Rattle.steps.specs.Stepping.{advanced, at_start, begun_at, next_in, shown_bytes, soonest}
 use Rattle.steps.specs.Steps.{Shown, Track, count_of, moved, shown_by, shown_in, shown_index, smaller, smallest, unbegun}
 use Rattle.steps.specs.declared.Input.{Input}
 use Rattle.steps.proofs.InputTests.{Stands}
@@ -36,20 +35,20 @@ map_drop f (suc n) (x ∷ l) = map_drop f n l
 
 -- the first k elements' last, if there is one
 abbrev pub last_of : {A : Type 0} → List A → ℕ → Option A
-last_of l zero = none
-last_of l (suc k) = get_or (map some l) k none
+last_of l zero = None
+last_of l (suc k) = get_or (map Some l) k None
 
 -- one more element
-last_next : {A : Type 0} (l : List A) (k : ℕ) (x : A) (r : List A) → drop k l ≡ x ∷ r → (last_of l (k + 1) ≡ some x) × (drop (k + 1) l ≡ r)
+last_next : {A : Type 0} (l : List A) (k : ℕ) (x : A) (r : List A) → drop k l ≡ x ∷ r → (last_of l (k + 1) ≡ Some x) × (drop (k + 1) l ≡ r)
 last_next {A} l k x r e = rw (add-one k) (go l k e)
   where
-    go : (l : List A) (k : ℕ) → drop k l ≡ x ∷ r → (last_of l (suc k) ≡ some x) × (drop (suc k) l ≡ r)
+    go : (l : List A) (k : ℕ) → drop k l ≡ x ∷ r → (last_of l (suc k) ≡ Some x) × (drop (suc k) l ≡ r)
     go [] zero e = let z : ◌≡◌ {A = ℕ} 0 1 = cc in absurd (omega arith)
     go [] (suc k) e = let z : ◌≡◌ {A = ℕ} 0 1 = cc in absurd (omega arith)
     go (y ∷ l) zero e = (cc, cc)
     go (y ∷ l) (suc k) e = go l k e
 
-last_at_lem : {A B : Type 0} (f : A → B) (l : List A) (k : ℕ) (d : A) → k < length l → last_of (map f l) (suc k) ≡ some (f (get_or l k d))
+last_at_lem : {A B : Type 0} (f : A → B) (l : List A) (k : ℕ) (d : A) → k < length l → last_of (map f l) (suc k) ≡ Some (f (get_or l k d))
 last_at_lem f [] k d h = absurd (omega arith)
 last_at_lem f (x ∷ l) zero d h = refl
 last_at_lem f (x ∷ l) (suc k) d h = last_at_lem f l k d (omega arith)
@@ -60,7 +59,7 @@ moved_nil : (i : ℕ) (t : Track) → t.next ≡ [] → moved i t ≡ t
 unfolding moved
 moved_nil i t e = rw e
 
-moved_cons : (i : ℕ) (t : Track) (s : Shown) (l : List Shown) → t.next ≡ s ∷ l → moved i t ≡ cond (eqb s.index i) (record { now = some s; next = l }) t
+moved_cons : (i : ℕ) (t : Track) (s : Shown) (l : List Shown) → t.next ≡ s ∷ l → moved i t ≡ cond (eqb s.index i) (record { now = Some s; next = l }) t
 unfolding moved
 moved_cons i t s l e = rw e
 
@@ -107,10 +106,9 @@ module _ (bytes indices : List ℕ) where
   abbrev pub tracks : List Cursor → List Track
   tracks cs = map track_of cs
 
-  pub tracks_start : (is : List Input) (n : ℕ) → length is ≤ n → tracks (cursors is (replicate n 0)) ≡ map unbegun (map shown_in (map (input_kept bytes indices) is))
-  tracks_start [] n h = refl
-  tracks_start (i ∷ is) zero h = absurd (omega arith)
-  tracks_start (i ∷ is) (suc n) h = ap (λ (r : List Track). unbegun (shown_of i) ∷ r) (tracks_start is n (omega arith))
+  pub tracks_start : (is : List Input) → tracks (map at_start is) ≡ map unbegun (map shown_in (map (input_kept bytes indices) is))
+  tracks_start [] = refl
+  tracks_start (i ∷ is) = ap (λ (r : List Track). unbegun (shown_of i) ∷ r) (tracks_start is)
 
   shown_indices : (i : Input) → map shown_index (shown_of i) ≡ part i.index_start i.description.count indices
   unfolding kept_in
@@ -132,7 +130,7 @@ module _ (bytes indices : List ℕ) where
   move_track : (i : ℕ) (c : Cursor) → moved i (track_of c) ≡ track_of (advanced indices i c)
   move_track i c =
       moved_at i c.begun (shown_of c.input)
-      ∙ ap (λ (n : NextIndex). at (shown_of c.input) (begun_at i c.begun n)) (next_shown c)
+      ∙ ap (λ (n : Option ℕ). at (shown_of c.input) (begun_at i c.begun n)) (next_shown c)
 
   pub moves_tracks : (i : ℕ) (cs : List Cursor) → map (moved i) (tracks cs) ≡ tracks (map (advanced indices i) cs)
   moves_tracks i [] = refl
@@ -165,14 +163,14 @@ module _ (bytes indices : List ℕ) where
     unfolding kept_in
     bytes_shown = entry_within c.input.description bytes c.input.byte_start (c.begun - 1) (omega (arith, h.begun, h.within))
 
-    pub now_shown : last_of (shown_of c.input) c.begun ≡ some (shown_by (indexed r (c.begun - 1)))
+    pub now_shown : last_of (shown_of c.input) c.begun ≡ Some (shown_by (indexed r (c.begun - 1)))
     unfolding kept_in
     now_shown =
         let k : suc (c.begun - 1) ≡ c.begun = omega (arith, h.begun) in
         let n : c.begun - 1 < length r.indices = rw r_indices (omega (arith, h.begun, h.within)) in
         ap (last_of (shown_of c.input)) (sym k)
         ∙ last_at_lem shown_by (entries_in r) (c.begun - 1) (indexed r 0) (rw (entries_count r) n)
-        ∙ ap (λ (x : Indexed). some (shown_by x)) (entry_is r (c.begun - 1) (indexed r 0) n)
+        ∙ ap (λ (x : Indexed). Some (shown_by x)) (entry_is r (c.begun - 1) (indexed r 0) n)
 
 -- ---- how much is to come
 
@@ -189,15 +187,15 @@ count_le i t = go t.next refl
         (λ q. rw (moved_cons i t s l e, eq-eqb s.index i q) (omega (arith, ap length e)))
         (λ q. rw (moved_cons i t s l e, ne_eqb s.index i q) (omega arith))
 
-count_less : (i : ℕ) (t : Track) → head_of (map shown_index t.next) ≡ At i → count_of (moved i t) < count_of t
+count_less : (i : ℕ) (t : Track) → head_of (map shown_index t.next) ≡ Some i → count_of (moved i t) < count_of t
 count_less i t h = go t.next refl
   where
     go : (l : List Shown) → t.next ≡ l → count_of (moved i t) < count_of t
     go [] e =
-        let q : head_of (map shown_index t.next) ≡ Absent = ap (λ (l : List Shown). head_of (map shown_index l)) e in
+        let q : head_of (map shown_index t.next) ≡ None = ap (λ (l : List Shown). head_of (map shown_index l)) e in
         let z : ◌≡◌ {A = ℕ} 0 1 = cc in absurd (omega arith)
     go (s ∷ l) e =
-        let q : head_of (map shown_index t.next) ≡ At s.index = ap (λ (l : List Shown). head_of (map shown_index l)) e in
+        let q : head_of (map shown_index t.next) ≡ Some s.index = ap (λ (l : List Shown). head_of (map shown_index l)) e in
         let z : s.index ≡ i = cc in
         rw (moved_cons i t s l e, eq-eqb s.index i z) (omega (arith, ap length e))
 
@@ -207,16 +205,16 @@ come_le i [] = omega arith
 come_le i (t ∷ ts) = omega (arith, count_le i t, come_le i ts)
 
 -- the smaller of two is one of them
-smaller_one : (a b : NextIndex) (i : ℕ) → smaller a b ≡ At i → (a ≡ At i) ⊎ (b ≡ At i)
-smaller_one Absent b i e = inr e
-smaller_one (At a) Absent i e = inl e
-smaller_one (At a) (At b) i e =
+smaller_one : (a b : Option ℕ) (i : ℕ) → smaller a b ≡ Some i → (a ≡ Some i) ⊎ (b ≡ Some i)
+smaller_one None b i e = inr e
+smaller_one (Some a) None i e = inl e
+smaller_one (Some a) (Some b) i e =
     by_le a b
-    (λ h. inl (let z : min a b ≡ a = omega arith in ap At (sym z) ∙ e))
-    (λ h. inr (let z : min a b ≡ b = omega arith in ap At (sym z) ∙ e))
+    (λ h. inl (let z : min a b ≡ a = omega arith in ap Some (sym z) ∙ e))
+    (λ h. inr (let z : min a b ≡ b = omega arith in ap Some (sym z) ∙ e))
 
 -- a step uses up an entry
-pub come_less : (i : ℕ) (ts : List Track) → smallest ts ≡ At i → to_come (map (moved i) ts) < to_come ts
+pub come_less : (i : ℕ) (ts : List Track) → smallest ts ≡ Some i → to_come (map (moved i) ts) < to_come ts
 unfolding sum smallest
 come_less i [] e = let z : ◌≡◌ {A = ℕ} 0 1 = cc in absurd (omega arith)
 come_less i (t ∷ ts) e =

@@ -2,6 +2,6 @@ pub mod Inputs
 pub mod Steps
 pub mod Refusals
 pub mod Stepping
-pub mod Table
+pub mod Cursor
 pub mod Storing
 pub mod Room

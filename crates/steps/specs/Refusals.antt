@@ -1,29 +1,34 @@
--- Inner: the tests of an input by itself.
+-- Inner: the tests of an input by itself, and of all inputs.
 -- Assumes nothing.
-use Rattle.std.specs.Prelude.{ℕ, Bool, false, true, List}
+use Rattle.std.specs.Prelude.{ℕ, List, Bool, false, ◌≡◌}
+use Rattle.value.specs.Slice.{any}
 use Rattle.fst.specs.Record.{Kept}
 use Rattle.fst.specs.declared.Description.{Description}
-use Rattle.steps.specs.Inputs.{indices_fall, input_kept, is_bad_input, is_no_bit_vector, mark_is_bad, starts_late}
+use Rattle.steps.specs.Inputs.{input_kept, inputs_of, is_bad_input, kept_all}
 use Rattle.steps.specs.declared.Input.{Input}
-use Rattle.steps.specs.declared.InputTest.{InputTest}
-use Rattle.steps.specs.declared.InputTest.TheVariants as test
-
--- does an input fail a test
-abbrev pub fails_by : InputTest → List ℕ → List ℕ → Input → Bool
-fails_by test.BadRecord bytes indices i = is_bad_input bytes indices i
-fails_by test.NoBitVector bytes indices i = is_no_bit_vector (input_kept bytes indices i)
-fails_by test.Late bytes indices i = starts_late (input_kept bytes indices i)
-fails_by test.Falling bytes indices i = indices_fall (input_kept bytes indices i)
-fails_by test.BadMark bytes indices i = mark_is_bad (input_kept bytes indices i)
-
--- 2 is tried first
-abbrev pub is_first : InputTest → Bool
-is_first test.BadRecord = true
-is_first test.NoBitVector = false
-is_first test.Late = false
-is_first test.Falling = false
-is_first test.BadMark = false
+use Rattle.steps.specs.declared.Sources.{Sources}
 
 -- a record by its description, used bytes and time indices
 abbrev pub kept_with : Description → List ℕ → List ℕ → Kept
 kept_with d used indices = record { encoding = d.encoding; bytes = used; indices = indices }
+
+abbrev pub its_inputs : Sources → List Input
+its_inputs s = inputs_of s.inputs.now
+
+-- the used part of a record that lies in the two slices, and those of all
+abbrev pub its_record : Sources → Input → Kept
+its_record s i = input_kept s.bytes.now s.indices.now i
+
+abbrev pub its_records : Sources → List Kept
+its_records s = kept_all s.bytes.now s.indices.now s.inputs.now
+
+-- 2, of one input and of all
+abbrev pub is_bad_in : Sources → Input → Bool
+is_bad_in s i = is_bad_input s.bytes.now s.indices.now i
+
+abbrev pub bad_in : Sources → Bool
+bad_in s = any (is_bad_in s) (its_inputs s)
+
+-- none of them is 2
+abbrev pub Stand : Sources → Type 0
+Stand s = bad_in s ≡ false

@@ -1,16 +1,13 @@
 -- Document 01, "A derived record": the steps over the inputs, apart from what a step yields.
 -- Assumes nothing.
-use Rattle.std.specs.Prelude.{min, suc, zero, ℕ, eqb, length, Bool, cond}
+use Rattle.std.specs.Prelude.{Option, None, Some, min, suc, zero, ℕ, eqb, length, Bool, cond}
 use mathlib.Core.List.{List, [], ◌∷◌, foldl, map}
-use Rattle.std.proofs.Math.Option.{Option, none, some}
 use Rattle.value.specs.Slice.{sum}
 use Rattle.value.specs.declared.States.{States}
 use Rattle.fst.specs.Record.{Kept}
-use Rattle.fst.specs.declared.NextIndex.{NextIndex}
-use Rattle.fst.specs.declared.NextIndex.TheVariants.{Absent, At}
 use Rattle.runs.specs.Runs.{joined}
-use Rattle.signal.specs.Decode.{Indexed, entries_in, levels_in, set_in}
 use Rattle.offset.specs.Offset.{head_of}
+use Rattle.signal.specs.Decode.{Indexed, entries_in, levels_in, set_in}
 
 -- an entry as an input shows it
 pub record Shown : Type 0 where
@@ -30,19 +27,19 @@ pub record Track : Type 0 where
   pub next : List Shown
 
 abbrev pub unbegun : List Shown → Track
-unbegun l = record { now = none; next = l }
+unbegun l = record { now = None; next = l }
 
 abbrev pub now_of : Track → Option Shown
 now_of t = t.now
 
 -- "the smallest index among the inputs' next entries"
-abbrev pub smaller : NextIndex → NextIndex → NextIndex
-smaller Absent b = b
-smaller (At i) Absent = At i
-smaller (At i) (At j) = At (min i j)
+abbrev pub smaller : Option ℕ → Option ℕ → Option ℕ
+smaller None b = b
+smaller (Some i) None = Some i
+smaller (Some i) (Some j) = Some (min i j)
 
-unfoldable pub smallest : List Track → NextIndex
-smallest [] = Absent
+unfoldable pub smallest : List Track → Option ℕ
+smallest [] = None
 smallest (t ∷ ts) = smaller (head_of (map shown_index t.next)) (smallest ts)
 
 -- "every input whose next entry carries it moves on by one"
@@ -51,7 +48,7 @@ moved i t = go t.next
   where
     go : List Shown → Track
     go [] = t
-    go (s ∷ l) = cond (eqb s.index i) (record { now = some s; next = l }) t
+    go (s ∷ l) = cond (eqb s.index i) (record { now = Some s; next = l }) t
 
 -- a step: its index, and what each input then shows
 pub record Moment : Type 0 where
@@ -59,10 +56,10 @@ pub record Moment : Type 0 where
   pub showing : List (Option Shown)
 
 -- the steps at an index and after it; each uses up an entry, so that n steps suffice for n entries to come
-unfoldable pub moments_from : ℕ → NextIndex → List Track → List Moment
+unfoldable pub moments_from : ℕ → Option ℕ → List Track → List Moment
 moments_from zero i ts = []
-moments_from (suc n) Absent ts = []
-moments_from (suc n) (At i) ts =
+moments_from (suc n) None ts = []
+moments_from (suc n) (Some i) ts =
     let us = map (moved i) ts in
     record { index = i; showing = map now_of us } ∷ moments_from n (smallest us) us
 

@@ -4,7 +4,6 @@ use Rattle.std.specs.Prelude.{◌*◌, ◌+◌, ◌-◌, ◌<◌, ◌≤◌, suc
 use Rattle.value.specs.Slice.{overlay, part, same}
 use Rattle.value.specs.declared.States.{States}
 use Rattle.layout.specs.Entry.{entry_size}
-use Rattle.layout.specs.Writable.{Writable, entry_from}
 use Rattle.runs.specs.Runs.{Step, entries_of, index_of}
 
 -- does an entry repeat the last of so many
@@ -16,17 +15,15 @@ repeats_last (suc n) last entry = same last entry
 abbrev pub last_at : ℕ → ℕ → ℕ → List ℕ → List ℕ
 last_at size stride count bytes = part ((count - 1) * stride) size bytes
 
--- a string whose entry is to stand behind so many others, for which there is room unless it repeats the last
-pub record Appendable (M S : States) (value : List ℕ) (size stride count : ℕ) (bytes : List ℕ) : Type 0 where
-  pub written : Writable M S value size 0
-  pub sized : size ≡ entry_size (length value) M
+-- an entry that is to stand behind so many others, for which there is room unless it repeats the last
+pub record Appendable (entry : List ℕ) (stride count : ℕ) (bytes : List ℕ) : Type 0 where
   pub few : count ≤ 8388608
-  pub last : 0 < count → (count - 1) * stride + size ≤ length bytes
-  pub room : repeats_last count (last_at size stride count bytes) (entry_from M S value) ≡ false → count * stride + size ≤ length bytes
+  pub last : 0 < count → (count - 1) * stride + length entry ≤ length bytes
+  pub room : repeats_last count (last_at (length entry) stride count bytes) entry ≡ false → count * stride + length entry ≤ length bytes
 
-pub record Appended (entry : List ℕ) (size stride count : ℕ) (bytes : List ℕ) (r : ℕ) (bytes' : List ℕ) : Type 0 where
-  pub counted : r ≡ cond (repeats_last count (last_at size stride count bytes) entry) count (count + 1)
-  pub stored : bytes' ≡ cond (repeats_last count (last_at size stride count bytes) entry) bytes (overlay bytes (count * stride) entry)
+pub record Appended (entry : List ℕ) (stride count : ℕ) (bytes : List ℕ) (r : ℕ) (bytes' : List ℕ) : Type 0 where
+  pub counted : r ≡ cond (repeats_last count (last_at (length entry) stride count bytes) entry) count (count + 1)
+  pub stored : bytes' ≡ cond (repeats_last count (last_at (length entry) stride count bytes) entry) bytes (overlay bytes (count * stride) entry)
 
 -- each of so many entries has room, a stride apart
 abbrev pub Roomy : ℕ → ℕ → ℕ → List ℕ → Type 0

@@ -1,10 +1,8 @@
 // The room that steps take.
-ghost use Rattle.std.specs.Prelude.{◌≡◌, ◌≤◌};
-ghost use Rattle.runs.specs.All.{All};
-ghost use Rattle.steps.specs.Inputs.{inputs_of};
-ghost use Rattle.steps.specs.Room.{Few, total_over, room_for};
+ghost use Rattle.std.specs.Prelude.{◌≡◌, ◌≤◌, ◌<◌, ◌^◌};
+ghost use Rattle.steps.specs.Room.{total_over, room_for};
 
-use crate::Inputs;
+use crate::Input;
 use fst::record::MAXIMUM;
 
 // Whether `count` entries of `size` bytes stand within the maximum and within slices of these lengths.
@@ -12,28 +10,13 @@ pub fn has_room(count: u32, size: usize, bytes: usize, indices: usize) -> bool
     requires { size ≤ 4096 }
     ensures { result ≡ room_for count size bytes indices }
 {
-    if MAXIMUM < count {
-        return false;
-    }
-    let n = count as usize;
-    if bytes < n * size {
-        return false;
-    }
-    n <= indices
+    count <= MAXIMUM && count as usize * size <= bytes && count as usize <= indices
 }
 
 // How many entries the inputs have together. There are not more steps.
-pub fn total_count(inputs: Inputs) -> u32
-    requires { (inputs.count ≤ 8) × All Few (inputs_of inputs) }
-    ensures { result ≡ total_over (inputs_of inputs) }
+pub fn total_count(inputs: &[Input]) -> u32
+    requires { total_over inputs.now < 2 ^ 32 }
+    ensures { result ≡ total_over inputs.now }
 {
-    let mut total: u32 = 0;
-    let mut i = inputs.count as usize;
-    while 0 < i {
-        i -= 1;
-        let input = inputs.slots[i];
-        let description = input.description;
-        total += description.count;
-    }
-    total
+    inputs.iter().map(|input| input.description.count).sum()
 }

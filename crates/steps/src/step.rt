@@ -1,96 +1,141 @@
 // Stepping over inputs, apart from what a step yields.
-ghost use Rattle.std.specs.Prelude.{◌≡◌, ◌+◌, ◌-◌, ◌*◌, ◌≤◌, ◌<◌, length};
-ghost use Rattle.steps.specs.Steps.{smaller};
-ghost use Rattle.steps.specs.Stepping.{Reaches, Indexable, cursor, cursors_of, next_in, soonest, begun_at, Advanced};
-ghost use Rattle.steps.specs.Table.{Tabled, inputs_in, byte_start_at, size_at, entry_shown};
+ghost use Rattle.std.specs.Prelude.{◌≡◌, ◌≤◌, map};
+ghost use Rattle.runs.specs.All.{All};
+ghost use Rattle.signal.specs.Packed.{is_packed};
+ghost use Rattle.steps.specs.Stepping.{ReachesNow, Showing, advanced, at_start, cursor, next_in, set_now, shown_bytes, shown_levels, soonest};
 
-use crate::Input;
-use crate::table::{SIZES, input_at};
-use fst::NextIndex;
+use crate::{Input, Inputs};
+use fst::Encoding;
+use signal::decode::Vector;
+use signal::packed::Packed;
+use std::marker::Model;
+use value::States;
 
-fn smaller(a: NextIndex, b: NextIndex) -> NextIndex
-    ensures { result ≡ smaller a b }
-{
-    let NextIndex::At(i) = a else {
-        return b;
-    };
-    let NextIndex::At(j) = b else {
-        return a;
-    };
-    if j < i { b } else { a }
+// An input of which so many entries have begun: it shows the last of these, and the entry of that number is its next one. The size of its
+// entries is worked out once.
+#[derive(Clone, Copy)]
+pub struct Cursor {
+    input: Input,
+    size: usize,
+    begun: u32,
 }
 
-// The index of an input's next entry.
-fn next_of(input: Input, indices: &[u32], begun: u32) -> NextIndex
-    requires { Reaches indices.now input }
-    ensures { result ≡ next_in indices.now (cursor input begun) }
-{
-    if begun < input.description.count {
-        let at = input.index_start + begun as usize;
-        return NextIndex::At(indices[at]);
+impl Model for Cursor {
+    ghost use Rattle.std.specs.Prelude.{◌≡◌};
+    ghost use Rattle.fst.specs.Record.{size_of};
+    ghost use Rattle.steps.specs.Cursor as specs;
+
+    ghost Value = { specs.Cursor };
+
+    ghost view = { λ c. record { input = c.input; begun = c.begun } };
+
+    ghost invariant = { λ c. c.size ≡ size_of c.input.description.encoding };
+
+    ghost inverse = { λ v. record { input = v.input; size = size_of v.input.description.encoding; begun = v.begun } };
+}
+
+impl Cursor {
+    // Nothing has begun.
+    pub fn new(input: Input) -> Cursor
+        ensures { result ≡ cursor input 0 }
+    {
+        Cursor {
+            input,
+            size: input.description.encoding.size(),
+            begun: 0,
+        }
     }
-    NextIndex::Absent
-}
 
-// The smallest index among the inputs' next entries, of which so many have begun: an input shows the last of these, and the entry of that
-// number is its next one.
-pub fn next_index(
-    count: u32,
-    numbers: &[u32],
-    starts: &[usize],
-    indices: &[u32],
-    begun: &[u32; 8],
-) -> NextIndex
-    requires { Tabled count numbers.now starts.now × Indexable (inputs_in count numbers.now starts.now) indices.now × (length begun.now ≡ 8) }
-    ensures { result ≡ soonest indices.now (cursors_of (inputs_in count numbers.now starts.now) begun.now) }
-{
-    let mut next = NextIndex::Absent;
-    let mut i = count as usize;
-    while 0 < i {
-        i -= 1;
-        let input = input_at(numbers, starts, i);
-        next = smaller(next_of(input, indices, begun[i]), next);
+    // The index of the next entry.
+    fn next(&self, indices: &[u32]) -> Option<u32>
+        requires { ReachesNow indices.now self.now }
+        ensures { result ≡ next_in indices.now self.now }
+    {
+        let input = self.input;
+        if self.begun < input.description.count {
+            return Some(indices[input.index_start + self.begun as usize]);
+        }
+        None
     }
-    next
-}
 
-// How many entries of an input have begun once the step at an index is taken.
-fn begun_at(input: Input, indices: &[u32], begun: u32, index: u32) -> u32
-    requires { Reaches indices.now input }
-    ensures { result ≡ begun_at index begun (next_in indices.now (cursor input begun)) }
-{
-    let NextIndex::At(next) = next_of(input, indices, begun) else {
-        return begun;
-    };
-    if next == index { begun + 1 } else { begun }
-}
+    // On by one entry, where the next one carries the index.
+    fn advance(&mut self, indices: &[u32], index: u32)
+        requires { ReachesNow indices.now self.old }
+        ensures { self.new ≡ advanced indices.now index self.old }
+    {
+        let Some(next) = self.next(indices) else {
+            return;
+        };
+        if next == index {
+            self.begun += 1;
+        }
+    }
 
-// Every input whose next entry carries the index moves on by one.
-pub fn advance(
-    count: u32,
-    numbers: &[u32],
-    starts: &[usize],
-    indices: &[u32],
-    begun: &mut [u32; 8],
-    index: u32,
-)
-    requires { Tabled count numbers.now starts.now × Indexable (inputs_in count numbers.now starts.now) indices.now × (length begun.old ≡ 8) }
-    ensures { Advanced (inputs_in count numbers.now starts.now) indices.now index begun.old begun.new }
-{
-    let mut i = count as usize;
-    while 0 < i {
-        i -= 1;
-        let input = input_at(numbers, starts, i);
-        begun[i] = begun_at(input, indices, begun[i], index);
+    fn encoding(&self) -> Encoding
+        ensures { result ≡ self.now.input.description.encoding }
+    {
+        self.input.description.encoding
+    }
+
+    // The bytes of the entry that it shows.
+    #[inline(always)]
+    fn shown<'a>(&self, bytes: &'a [u8]) -> &'a [u8]
+        requires { Showing bytes.now self.now }
+        ensures { result.now ≡ shown_bytes bytes.now self.now }
+    {
+        let at = self.input.byte_start + (self.begun - 1) as usize * self.size;
+        &bytes[at..at + self.size]
+    }
+
+    // The levels of that entry, under its own set.
+    #[inline(always)]
+    pub fn levels<'a>(&self, bytes: &'a [u8]) -> Packed<'a>
+        requires { Showing bytes.now self.now }
+        ensures { is_packed result ≡ shown_levels bytes.now self.now }
+    {
+        let encoding = self.encoding();
+        let entry = Vector {
+            width: encoding.width(),
+            max_states: encoding.largest(),
+            bytes: self.shown(bytes),
+        };
+        entry.marked_levels()
+    }
+
+    // The own set of that entry.
+    #[inline(always)]
+    pub fn states(&self, bytes: &[u8]) -> States
+        requires { Showing bytes.now self.now }
+        ensures { result ≡ set_now bytes.now self.now }
+    {
+        self.levels(bytes).states
     }
 }
 
-// The entry that an input shows.
-pub fn shown_entry<'a>(starts: &[usize], i: usize, bytes: &'a [u8], begun: u32) -> &'a [u8]
-    requires { (16 + i < length starts.now) × (1 ≤ begun) × (byte_start_at starts.now i + ((begun - 1) * size_at starts.now i + size_at starts.now i) ≤ length bytes.now) }
-    ensures { result.now ≡ entry_shown starts.now i bytes.now begun }
+// The inputs before the first step.
+pub fn at_start(inputs: &Inputs) -> [Cursor; 8]
+    ensures { result ≡ map at_start inputs.now.slots }
 {
-    let size = starts[SIZES + i];
-    let at = starts[i] + (begun - 1) as usize * size;
-    &bytes[at..at + size]
+    inputs.slots.map(Cursor::new)
+}
+
+// The smallest index among the inputs' next entries.
+pub fn next_index(cursors: &[Cursor], indices: &[u32]) -> Option<u32>
+    requires { All (ReachesNow indices.now) cursors.now }
+    ensures { result ≡ soonest indices.now cursors.now }
+{
+    cursors
+        .iter()
+        .filter_map(|cursor| cursor.next(indices))
+        .min()
+}
+
+// The inputs behind `cursors`: each whose next entry carries the index moves on by one.
+pub fn advance(cursors: &mut [Cursor], indices: &[u32], index: u32)
+    requires { All (ReachesNow indices.now) cursors.old }
+    ensures { cursors.new ≡ map (advanced indices.now index) cursors.old }
+{
+    for cursor in cursors.iter_mut() {
+        cursor.advance(indices, index);
+    }
 }

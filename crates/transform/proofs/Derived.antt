@@ -1,12 +1,12 @@
 -- Demand 3 of derived records: a derived list is sound, begins at index 0 and doesn't fall, and an accepted Derive leaves it laid out.
 -- Assumes nothing.
+use Rattle.std.specs.Prelude.{Option, None, Some}
 use Prim.Native.Nat.{◌+◌, ◌-◌, ◌<◌, ◌^◌, ◌≤◌, min, suc, zero, ℕ}
 use borrow.Author.Tests.{ltb-false}
 use lib.ListN.{get_or-eq_default, get_or-map, get_or, length, length-append, length-map}
 use mathlib.Core.Bool.{false, true≢false}
 use mathlib.Core.List.{List, [], ◌∷◌, foldl, map}
 use mathlib.Core.Logic.{◌↔◌}
-use mathlib.Core.Option.{Option, none, some}
 use mathlib.Core.Path.{◌∙◌, ◌≡◌, ap, ap₂, refl, subst, sym}
 use native.Mathlib.Nat.{pow-le-pow_right}
 use native.Mathlib.Omega.{arith}
@@ -25,8 +25,6 @@ use Rattle.fst.specs.Refusal.{Reply, Test, given, refused, tried}
 use Rattle.fst.specs.declared.Description.{Description}
 use Rattle.fst.specs.declared.Encoding.{Encoding}
 use Rattle.fst.specs.declared.Encoding.TheVariants.{Event}
-use Rattle.fst.specs.declared.NextIndex.{NextIndex}
-use Rattle.fst.specs.declared.NextIndex.TheVariants.{Absent, At}
 use Rattle.fst.proofs.Refusals.{Result, through, stopped, result}
 use Rattle.runs.specs.All.{All}
 use Rattle.runs.specs.Runs as runs
@@ -34,7 +32,8 @@ use Rattle.runs.specs.Runs.{Same, Step, by_value, ends_like, joined, laid_out, s
 use Rattle.runs.proofs.All.{all_by, all_map}
 use Rattle.runs.proofs.Laid.{Sound, laid_found, laid_same}
 use Rattle.signal.specs.Decode.{entries_from, entries_in, entry_at, levels_in, set_in}
-use Rattle.offset.specs.Offset.{falls, head_of}
+use Rattle.offset.specs.Offset.{falls}
+use Rattle.offset.specs.Offset.{head_of}
 use Rattle.signal.proofs.Entries.{entries_count, entries_each}
 use Rattle.signal.proofs.ReadBack as back
 use Rattle.signal.proofs.ReadBack.{Tells}
@@ -58,7 +57,7 @@ use Rattle.transform.proofs.PieceTests.{fit, fit_wide}
 abbrev tracks : List Kept → List Track
 tracks ks = map unbegun (map shown_in ks)
 
-head_zero : (k : Kept) (l : List ℕ) → is_late l ≡ false → head_of (map shown_index (map shown_by (entries_from 0 k l))) ≡ At 0
+head_zero : (k : Kept) (l : List ℕ) → is_late l ≡ false → head_of (map shown_index (map shown_by (entries_from 0 k l))) ≡ Some 0
 unfolding entries_from
 head_zero k [] h = absurd (true≢false h)
 head_zero k (zero ∷ l) h = refl
@@ -82,14 +81,14 @@ start_up [] h = tt
 start_up (k ∷ ks) h =
     (shown_up 0 0 k k.indices (rising_up k.indices (or_left (indices_fall k) (any indices_fall ks) h)), start_up ks (or_right (indices_fall k) (any indices_fall ks) h))
 
-start_zero : (k : Kept) (ks : List Kept) → any starts_late (k ∷ ks) ≡ false → smallest (tracks (k ∷ ks)) ≡ At 0
+start_zero : (k : Kept) (ks : List Kept) → any starts_late (k ∷ ks) ≡ false → smallest (tracks (k ∷ ks)) ≡ Some 0
 unfolding any smallest
 start_zero k ks h =
-    ap (λ (m : NextIndex). smaller m (smallest (tracks ks))) (head_zero k k.indices (or_left (starts_late k) (any starts_late ks) h)) ∙ go (smallest (tracks ks))
+    ap (λ (m : Option ℕ). smaller m (smallest (tracks ks))) (head_zero k k.indices (or_left (starts_late k) (any starts_late ks) h)) ∙ go (smallest (tracks ks))
   where
-    go : (m : NextIndex) → smaller (At 0) m ≡ At 0
-    go Absent = refl
-    go (At j) = let z : min 0 j ≡ 0 = omega arith in ap At z
+    go : (m : Option ℕ) → smaller (Some 0) m ≡ Some 0
+    go None = refl
+    go (Some j) = let z : min 0 j ≡ 0 = omega arith in ap Some z
 
 start_some : (k : Kept) (ks : List Kept) → any starts_late (k ∷ ks) ≡ false → 0 < sum (map count_of (tracks (k ∷ ks)))
 unfolding any sum
@@ -114,10 +113,10 @@ moments_begin : (k : Kept) (ks : List Kept) → any starts_late (k ∷ ks) ≡ f
 unfolding moments_of moments_from
 moments_begin k ks h =
     let g = go (sum (map count_of (tracks (k ∷ ks)))) (start_some k ks h) in
-    (g.0, ap (λ (m : NextIndex). moments_from (sum (map count_of (tracks (k ∷ ks)))) m (tracks (k ∷ ks))) (start_zero k ks h) ∙ g.1)
+    (g.0, ap (λ (m : Option ℕ). moments_from (sum (map count_of (tracks (k ∷ ks)))) m (tracks (k ∷ ks))) (start_zero k ks h) ∙ g.1)
   where
     go : (c : ℕ) → 0 < c
-        → (n : ℕ) × (moments_from c (At 0) (tracks (k ∷ ks)) ≡ first_moment (k ∷ ks) ∷ moments_from n (smallest (first_tracks (k ∷ ks))) (first_tracks (k ∷ ks)))
+        → (n : ℕ) × (moments_from c (Some 0) (tracks (k ∷ ks)) ≡ first_moment (k ∷ ks) ∷ moments_from n (smallest (first_tracks (k ∷ ks))) (first_tracks (k ∷ ks)))
     go zero p = absurd (omega arith)
     go (suc n) p = (n, refl)
 
@@ -164,7 +163,7 @@ fine n ks e b w c =
       coded = ap (any (pick_is_bad e)) (sym (get_or-map entries_in ks e.signal no_kept)) ∙ c;
     }
 
-each_at : (ks : List Kept) (sh : List (Option Shown)) → Each2 (NowFrom ⊥) ks sh → (j : ℕ) → j < length ks → NowFrom ⊥ (get_or ks j no_kept) (get_or sh j none)
+each_at : (ks : List Kept) (sh : List (Option Shown)) → Each2 (NowFrom ⊥) ks sh → (j : ℕ) → j < length ks → NowFrom ⊥ (get_or ks j no_kept) (get_or sh j None)
 each_at [] sh e j h = absurd (omega arith)
 each_at (k ∷ ks) [] e j h = absurd e
 each_at (k ∷ ks) (o ∷ sh) e zero h = e.0
@@ -175,12 +174,12 @@ PicksNow e o =
     (length (picked_of e (codes_shown o)) ≡ e.width) × Below 9 (picked_of e (codes_shown o)) × Below (2 ^ bits_of (set_shown o)) (picked_of e (codes_shown o))
 
 piece_picks : (e : Extract) (k : Kept) (o : Option Shown) → end_of e ≤ width_of (encoding_of k) → any (pick_is_bad e) (entries_in k) ≡ false → NowFrom ⊥ k o → PicksNow e o
-piece_picks e k none h c f = absurd f
-piece_picks e k (some s) h c f =
+piece_picks e k None h c f = absurd f
+piece_picks e k (Some s) h c f =
     subst (Picks e) (sym f.is)
     (picks_entry e (encoding_of k) (entry_at k.encoding 0 k.bytes f.at) (get_or k.indices f.at 0) h (entries_each k (pick_is_bad e) c f.at f.inside))
 
-set_under : (sh : List (Option Shown)) (j : ℕ) → mark_of (set_shown (get_or sh j none)) ≤ mark_of (largest_shown sh)
+set_under : (sh : List (Option Shown)) (j : ℕ) → mark_of (set_shown (get_or sh j None)) ≤ mark_of (largest_shown sh)
 unfolding join_all
 set_under [] zero = omega arith
 set_under [] (suc j) = omega arith
@@ -198,7 +197,7 @@ all_picked ks sh r [] f = record { long = refl; letters = tt; below = tt }
 all_picked ks sh r (e ∷ es) f =
     let rest = all_picked ks sh r es f.1 in
     let k = get_or ks e.signal no_kept in
-    let o = get_or sh e.signal none in
+    let o = get_or sh e.signal None in
     let p = piece_picks e k o f.0.inside f.0.coded (each_at ks sh r e.signal f.0.low) in
     let b : 2 ^ bits_of (set_shown o) ≤ 2 ^ bits_of (largest_shown sh) = pow-le-pow_right (omega arith) (bits_up (set_shown o) (largest_shown sh) (set_under sh e.signal)) in
     record {
@@ -217,8 +216,8 @@ unfolding any join_all
 largest_under [] [] m e = omega arith
 largest_under [] (o ∷ sh) m e = absurd e
 largest_under (k ∷ ks) [] m e = absurd e
-largest_under (k ∷ ks) (none ∷ sh) m e = absurd e.0
-largest_under (k ∷ ks) (some s ∷ sh) m e =
+largest_under (k ∷ ks) (None ∷ sh) m e = absurd e.0
+largest_under (k ∷ ks) (Some s ∷ sh) m e =
     omega (
       arith,
       mark_join s.set (largest_shown sh),
@@ -265,7 +264,7 @@ module _ {d : DerivedBitVecSignal} {count : ℕ} {ks : List Kept} (p : Passes d 
       }
 
   module _ (z : Sized d) where
-    first_piece : 0 < length es
+    pub first_piece : 0 < length es
     first_piece =
         let f = fit d count ks p.fit in
         rw (count_is d.bits d.piece_count (omega (arith, (sound d f.sound).few, z.bits))) f.pieces
@@ -361,7 +360,7 @@ module _ (a : Accepted) where
       go (stopped n q) h = never n q h
 
   pub accepted_width : 1 ≤ a.derivation.width
-  accepted_width = fit_wide (fit a.derivation a.inputs.count ks accepted_passes.fit) a.sized
+  accepted_width = fit_wide (fit a.derivation a.inputs.count ks accepted_passes.fit) (first_piece accepted_passes a.sized)
 
   pub accepted_sound : All (Sound a.derivation.width M) (list_of a)
   accepted_sound = derived_sound accepted_passes a.sized

@@ -1,13 +1,13 @@
 -- Whether an input has a number that is no code: by whole bytes, and what that says of each piece.
 -- Assumes nothing.
-use Prim.Native.Nat.{◌%◌, ◌*◌, ◌+◌, ◌-◌, ◌/◌, ◌<◌, ◌^◌, ◌≤◌, min, suc, zero, ℕ}
-use borrow.Author.Tests.{ltb-true}
+use Prim.Native.Nat.{◌%◌, ◌*◌, ◌+◌, ◌-◌, ◌/◌, ◌<◌, ◌^◌, ◌≤◌, suc, zero, ℕ}
+use borrow.Author.Tests.{ltb-false, ltb-true}
 use lib.Bits.{and_mask, bit_and}
 use lib.Dec.{leb, leb→le, ltb}
-use lib.ListN.{get_or, length}
+use lib.ListN.{get_or, length, length-map}
 use mathlib.Core.Bool.{Bool, false, not, true}
 use mathlib.Core.List.{List, [], ◌∷◌}
-use mathlib.Core.Path.{◌∙◌, ◌≡◌, ap, ap₂, refl, sym}
+use mathlib.Core.Path.{◌∙◌, ◌≡◌, ap, ap₂, sym}
 use native.Mathlib.Omega.{arith}
 use Rattle.value.specs.Digits.{Below, digits}
 use Rattle.value.specs.Level.{bits_of, has_no_code}
@@ -17,31 +17,37 @@ use Rattle.value.specs.declared.States.TheVariants.{Four, Nine, Two}
 use Rattle.value.proofs.Classes.{each_byte}
 use Rattle.value.proofs.Digits.{below_at}
 use Rattle.value.proofs.Levels.{none_foreign}
-use Rattle.value.proofs.Lists.{any_each, any_map}
+use Rattle.value.proofs.Lists.{any_map}
 use Rattle.value.proofs.Packed.{read}
 use Rattle.value.proofs.Slices.{any_none, part_all, part_at, part_length}
 use Rattle.value.proofs.Tests.{and_right, by_eq, to_t}
-use Rattle.fst.specs.Record.{kept_in, used_size, width_of, width_stands}
+use Rattle.fst.specs.Record.{Kept, kept_in, used_size, width_of, width_stands}
+use Rattle.fst.specs.declared.Description.{Description}
 use Rattle.fst.specs.declared.Encoding.{Encoding}
 use Rattle.fst.specs.declared.Encoding.TheVariants.{BitVector, Event, Real}
 use Rattle.fst.proofs.Records.{indices_used, standing}
-use Rattle.signal.specs.Decode.{Indexed, codes_at, entries_in, has_bad_code, levels_in}
+use Rattle.runs.specs.All.{All}
+use Rattle.runs.proofs.All.{all_at, all_both, all_of}
+use Rattle.signal.specs.Decode.{codes_at, entries_in, levels_in}
 use Rattle.signal.specs.Parts.{Levels, is_bad_byte}
 use Rattle.signal.proofs.Decoding.{level_code, level_in}
 use Rattle.signal.proofs.Entries.{entries_each, entries_none}
 use Rattle.signal.proofs.Reading.{inside}
-use Rattle.derivation.specs.Piece.{end_of, extract_of, pieces_of}
+use Rattle.derivation.specs.Piece.{end_of, is_bad_piece, pieces_of}
+use Rattle.derivation.proofs.Pieces.{sound}
 use Rattle.derivation.specs.declared.DerivedBitVecSignal.{DerivedBitVecSignal}
 use Rattle.derivation.specs.declared.Extract.{Extract}
-use Rattle.steps.specs.Inputs.{entry_is_bad, input_kept, inputs_of, is_bad_input, kept_all, mark_is_bad}
-use Rattle.steps.specs.Refusals.{kept_with}
+use Rattle.steps.specs.Inputs.{entry_is_bad, mark_is_bad}
+use Rattle.steps.specs.Refusals.{is_bad_in, its_inputs, its_record, its_records, kept_with}
+use Rattle.steps.specs.declared.Sources.{Sources}
 use Rattle.steps.specs.declared.Input.{Input}
-use Rattle.steps.specs.declared.Inputs.{Inputs}
-use Rattle.steps.proofs.InputTests.{no_input, slot_none, used_stands}
+use Rattle.steps.proofs.Anys.{none_each, none_here}
+use Rattle.steps.proofs.InputTests.{no_input, used_stands}
+use Rattle.steps.proofs.Standing.{all_none}
 use Rattle.steps.proofs.Levels.{levels_length}
-use Rattle.transform.specs.Derive.{code_is_bad, pick_is_bad, picked_of}
-use Rattle.transform.specs.Refusals.{Readable, RecordPick}
-use Rattle.transform.proofs.PieceTests.{code_by_entries, fit, pick_code, pick_count, pick_none, piece_is, pieces_count, signal_low}
+use Rattle.transform.specs.Derive.{code_is_bad, is_beyond, pick_is_bad, picked_of}
+use Rattle.transform.specs.Refusals.{ReadableInput, ReadableOf, RecordPick, SourcePick, entry_is_uncoded, is_uncoded}
+use Rattle.transform.proofs.PieceTests.{Fit, beyond_by_width, code_by_entries, fit, named, pick_code, pick_count, pick_none}
 
 -- ---- one byte
 
@@ -148,13 +154,42 @@ picked_room e Two h inside b = absurd (omega arith)
 picked_room e Four h inside b = absurd (omega arith)
 picked_room e {w} Nine {levels} h inside b = let l : length levels ≡ (w + 1) / 2 = h.long in omega arith
 
+-- ---- an input
+
+width_narrow : (e : Encoding) → width_stands e ≡ true → width_of e ≤ 4096
+unfolding width_stands
+width_narrow Event h = omega arith
+width_narrow Real h = omega arith
+width_narrow (BitVector w M) h = leb→le w 4096 (and_right (leb 1 w) (leb w 4096) (to_t _ h))
+
+-- an input that is not 2, each of whose marks is a set's
+module _ {s : Sources} {x : Input} (r : ReadableInput s x) where
+  abbrev d : Description
+  d = x.description
+
+  pub input_narrow : width_of d.encoding ≤ 4096
+  input_narrow = width_narrow d.encoding (standing r.stands).width
+
+  module _ {u : List ℕ} (f : u ≡ part x.byte_start (used_size d) s.bytes.now) where
+    pub picking : (e : Extract) → end_of e ≤ width_of d.encoding → RecordPick e d u
+    unfolding kept_in
+    picking e h =
+        rw f
+        (record {
+          stands = used_stands (standing r.stands);
+          marked = λ k l. entries_each (its_record s x) entry_is_bad r.marked k (rw (indices_used (standing r.stands)) l);
+          inside = h;
+        })
+
+    -- what its entries say of a piece
+    pub picks_said : (e : Extract) {b : Bool} → ((l : List ℕ) → length l ≡ d.count → b ≡ any (pick_is_bad e) (entries_in (kept_with d u l)))
+        → b ≡ any (pick_is_bad e) (entries_in (its_record s x))
+    unfolding kept_in
+    picks_said e g =
+        let l = part x.index_start d.count s.indices.now in
+        g l (indices_used (standing r.stands)) ∙ ap (λ (v : List ℕ). any (pick_is_bad e) (entries_in (kept_with d v l))) f
+
 -- ---- all levels of an input
-
-abbrev pub is_uncoded : Indexed → Bool
-is_uncoded x = has_bad_code x.encoding x.bytes
-
-abbrev pub uncoded : List ℕ → List ℕ → Input → Bool
-uncoded bytes indices i = any is_uncoded (entries_in (input_kept bytes indices i))
 
 -- all wires of an input as one piece
 abbrev pub whole_of : ℕ → Extract
@@ -165,57 +200,64 @@ whole_pick w codes l =
     let z : length codes - (0 + w) ≡ 0 = omega arith in
     ap₂ (λ (a n : ℕ). part a n codes) z (sym l) ∙ part_all codes
 
-width_narrow : (e : Encoding) → width_stands e ≡ true → width_of e ≤ 4096
-unfolding width_stands
-width_narrow Event h = omega arith
-width_narrow Real h = omega arith
-width_narrow (BitVector w M) h = leb→le w 4096 (and_right (leb 1 w) (leb w 4096) (to_t _ h))
+-- then no level is no code
+pub whole_coded : (k : Kept) (w : ℕ) → w ≡ width_of k.encoding → any (pick_is_bad (whole_of w)) (entries_in k) ≡ false → is_uncoded k ≡ false
+whole_coded k w q n =
+    entries_none k entry_is_uncoded
+    (λ i h.
+    ap has_no_code (sym (whole_pick w (levels_in k.encoding _) (levels_length k.encoding _ ∙ sym q)))
+    ∙ entries_each k (pick_is_bad (whole_of w)) n i h)
 
-module _ {d : DerivedBitVecSignal} {inputs : Inputs} {bytes indices : List ℕ} (r : Readable d inputs bytes indices) (slots : length inputs.slots ≡ 8) where
-  module _ (j : ℕ) (h : j < min inputs.count 8) where
-    abbrev x : Input
-    x = get_or inputs.slots j no_input
+-- ---- the input of a piece
 
-    pub input_sound : is_bad_input bytes indices x ≡ false
-    input_sound = slot_none inputs slots j h (is_bad_input bytes indices) r.stand
+module _ {e : Extract} {s : Sources} (p : SourcePick e s) where
+  pub source_input : ReadableInput s (get_or (its_inputs s) e.signal no_input)
+  source_input =
+      record {
+        stands = any_none (is_bad_in s) (its_inputs s) p.stand e.signal no_input p.named;
+        marked = any_none (λ i. mark_is_bad (its_record s i)) (its_inputs s) (sym (any_map mark_is_bad (its_record s) (its_inputs s)) ∙ p.marked) e.signal no_input p.named;
+      }
 
-    pub input_narrow : width_of x.description.encoding ≤ 4096
-    input_narrow = width_narrow x.description.encoding (standing input_sound).width
+  pub source_within : end_of e ≤ width_of (get_or (its_inputs s) e.signal no_input).description.encoding
+  source_within = ltb-false _ _ (sym (beyond_by_width s.bytes.now s.indices.now (its_inputs s) e p.named no_input) ∙ p.within)
 
-    module _ (w : ℕ) (q : w ≡ width_of x.description.encoding) (u : List ℕ) (f : u ≡ part x.byte_start (used_size x.description) bytes) where
-      pub whole_picking : RecordPick (whole_of w) x.description u
-      unfolding kept_in
-      whole_picking =
-          let m = slot_none inputs slots j h (λ y. mark_is_bad (input_kept bytes indices y)) (sym (any_map mark_is_bad (input_kept bytes indices) (inputs_of inputs)) ∙ r.marked) in
-          rw f
-          (record {
-            stands = used_stands (standing input_sound);
-            marked = λ k l. entries_each (input_kept bytes indices x) entry_is_bad m k (rw (indices_used (standing input_sound)) l);
-            inside = rw q (omega arith);
-          })
+-- ---- all inputs
 
-      pub whole_coded : (b : Bool) → ((l : List ℕ) → length l ≡ x.description.count → b ≡ any (pick_is_bad (whole_of w)) (entries_in (kept_with x.description u l))) → b ≡ false
-          → uncoded bytes indices x ≡ false
-      unfolding kept_in
-      whole_coded b g z =
-          let l = part x.index_start x.description.count indices in
-          let t = sym (g l (indices_used (standing input_sound)) ∙ ap (λ (v : List ℕ). any (pick_is_bad (whole_of w)) (entries_in (kept_with x.description v l))) f) ∙ z in
-          entries_none (input_kept bytes indices x) is_uncoded
-          (λ k i.
-          ap has_no_code (sym (whole_pick w (levels_in x.description.encoding _) (levels_length x.description.encoding _ ∙ sym q)))
-          ∙ entries_each (input_kept bytes indices x) (pick_is_bad (whole_of w)) t k i)
+-- a derivation of inputs that none of 2, 14 and 9 refuses
+module _ (d : DerivedBitVecSignal) (s : Sources) (r : ReadableOf d s) where
+  abbrev ks : List Kept
+  ks = its_records s
 
-  -- then no piece picks one
-  pub pieces_coded : length d.bits ≡ 64 → any (uncoded bytes indices) (inputs_of inputs) ≡ false → any (code_is_bad (kept_all bytes indices inputs)) (pieces_of d) ≡ false
-  pieces_coded bits n =
-      let good = (fit d inputs.count (kept_all bytes indices inputs) r.fit).sound in
-      any_each (code_is_bad (kept_all bytes indices inputs)) (pieces_of d) (extract_of 0)
-      (λ i l.
-      let h : i < d.piece_count = rw (pieces_count d bits good) at l in
-      let e = extract_of (get_or d.bits i 0) in
-      let low = signal_low r bits slots i h refl in
-      let u = slot_none inputs slots e.signal low (uncoded bytes indices) n in
-      ap (code_is_bad (kept_all bytes indices inputs)) (piece_is d bits good i h e refl)
-      ∙ code_by_entries inputs slots bytes indices e low
-      ∙ entries_none (input_kept bytes indices (get_or inputs.slots e.signal no_input)) (pick_is_bad e)
-      (λ k m. pick_none e _ (entries_each (input_kept bytes indices (get_or inputs.slots e.signal no_input)) is_uncoded u k m)))
+  pub f : Fit d s.inputs.now.count ks
+  f = fit d s.inputs.now.count ks r.fit
+
+  pub readable : (x : Input) (k : ℕ) → k < length (its_inputs s) → x ≡ get_or (its_inputs s) k x → ReadableInput s x
+  readable x k h e =
+      record {
+        stands = none_here (is_bad_in s) (its_inputs s) r.stand x k h e;
+        marked = none_here (λ i. mark_is_bad (its_record s i)) (its_inputs s) (sym (any_map mark_is_bad (its_record s) (its_inputs s)) ∙ r.marked) x k h e;
+      }
+
+  pub pick_at : All (λ e. SourcePick e s) (pieces_of d)
+  pick_at =
+      all_both (λ e. is_bad_piece d.input_count e ≡ false) (λ e. is_beyond ks e ≡ false) (λ e. SourcePick e s)
+      (λ e b w.
+      record {
+        named = rw (length-map (its_inputs s) (its_record s)) at (named ks d.input_count e b w);
+        stand = r.stand;
+        marked = r.marked;
+        within = w;
+      })
+      (pieces_of d) (all_none (is_bad_piece d.input_count) (pieces_of d) (sound d f.sound).pieces) (all_none (is_beyond ks) (pieces_of d) f.within)
+
+  -- where no input has such a level no piece picks one
+  pub pieces_coded : All (λ i. is_uncoded (its_record s i) ≡ false) (its_inputs s) → any (code_is_bad ks) (pieces_of d) ≡ false
+  pieces_coded n =
+      none_each (code_is_bad ks) (pieces_of d)
+      (all_of (λ e. SourcePick e s) (λ e. code_is_bad ks e ≡ false)
+      (λ e p.
+      let x = get_or (its_inputs s) e.signal no_input in
+      let u = all_at (λ i. is_uncoded (its_record s i) ≡ false) (its_inputs s) n e.signal no_input p.named in
+      code_by_entries s.bytes.now s.indices.now (its_inputs s) e p.named no_input
+      ∙ entries_none (its_record s x) (pick_is_bad e) (λ k m. pick_none e _ (entries_each (its_record s x) entry_is_uncoded u k m)))
+      (pieces_of d) pick_at)

@@ -1,11 +1,12 @@
 -- The characters of a step, gathered piece by piece, and the entry that they make.
 -- Assumes nothing.
+use Rattle.std.specs.Prelude.{None}
 use Prim.Native.Nat.{◌+◌, ◌-◌, ◌<◌, ◌^◌, ◌≤◌, suc, zero, ℕ}
+use Rattle.std.proofs.lemmas.List.{get_or-map}
 use lib.ListN.{drop, drop_of_length-le, get_or, length, length-append, length-map, take}
 use lib.Pow.{pow_mono}
 use lib.Seq.{drop-cons}
 use mathlib.Core.List.{List, [], ◌++◌, ◌∷◌, map, map-append}
-use mathlib.Core.Option.{none}
 use mathlib.Core.Path.{◌∙◌, ◌≡◌, ap, ap₂, refl, sym}
 use native.Mathlib.Numerals.{add-one}
 use native.Mathlib.Omega.{arith}
@@ -15,21 +16,22 @@ use Rattle.value.specs.Slice.{overlay, part, sum}
 use Rattle.value.specs.declared.States.{States}
 use Rattle.value.proofs.Digits.{below_append, below_drop, below_mono, below_take}
 use Rattle.value.proofs.Levels.{bits_up, codes_text, fold_text}
+use Rattle.value.proofs.Lists.{at_any}
 use Rattle.value.proofs.Slices.{overlay_nil, overlay_overlay, part_at, part_length, part_overlay}
 use Rattle.layout.specs.Entry.{entry_of, entry_size}
 use Rattle.layout.specs.Writable.{Writable, entry_from}
 use Rattle.fst.specs.Record.{kept_in}
 use Rattle.runs.specs.All.{All}
+use Rattle.runs.proofs.All.{all_at}
 use Rattle.signal.specs.Decode.{codes_at, levels_in, set_in}
 use Rattle.signal.proofs.Decoding.{codes_length}
 use Rattle.derivation.specs.Piece.{end_of, extract_of, piece_width}
 use Rattle.derivation.specs.declared.Extract.{Extract}
-use Rattle.steps.specs.Stepping.{Cursor, Showing, cursor, cursors_of, levels_now, set_now, shown_bytes, width_now}
+use Rattle.steps.specs.Cursor.{Cursor}
+use Rattle.steps.specs.Stepping.{Showing, levels_now, set_now, shown_bytes, width_now}
 use Rattle.steps.specs.Steps.{now_of}
-use Rattle.steps.specs.declared.Inputs.{Inputs}
-use Rattle.steps.proofs.InputTests.{no_input}
+use Rattle.steps.proofs.Anys.{map_here}
 use Rattle.steps.proofs.Levels.{levels_below, levels_length}
-use Rattle.steps.proofs.Loops.{all_map_at, cursor_at, cursors_count, shown_at}
 use Rattle.steps.proofs.Tracks.{Shows, bytes_shown, now_shown, track_of, tracks}
 use Rattle.transform.specs.Derive.{codes_shown, largest_shown, picked, picked_of, set_shown}
 use Rattle.transform.specs.Picking.{Pickable, Picks, PieceIn, Stepped, Under, largest_now, picked_now}
@@ -74,29 +76,25 @@ pub widths_more : (packed : List ℕ) (i : ℕ) → i < length packed → widths
 unfolding sum
 widths_more packed i h = rw (drop-cons packed i 0 h, add-one i)
 
-module _ {inputs : Inputs} {bytes p packed : List ℕ} {room : ℕ}
-    (st : Pickable inputs bytes p packed room) (slots : length inputs.slots ≡ 8) (places : length p ≡ 8)
-    (i : ℕ) (h : i < length packed) (e : Extract) (q : e ≡ extract_of (get_or packed i 0)) where
-  abbrev few : inputs.count ≤ 8
-  few = st.shown.few
+module _ {cs : List Cursor} {bytes packed : List ℕ} {room : ℕ}
+    (st : Pickable cs bytes packed room) (i : ℕ) (h : i < length packed) (e : Extract) (q : e ≡ extract_of (get_or packed i 0)) (d : Cursor) where
+  named : PieceIn cs e
+  named = rw q (map_here (PieceIn cs) extract_of packed st.pieces (get_or packed i 0) i h (at_any packed i 0 (get_or packed i 0) h))
 
-  named : PieceIn (cursors_of inputs p) e
-  named = rw q (all_map_at (PieceIn (cursors_of inputs p)) extract_of packed st.pieces i 0 h)
-
-  pub signal_in : e.signal < inputs.count
-  signal_in = rw (cursors_count inputs few slots p places) at named.0
+  pub signal_in : e.signal < length cs
+  signal_in = named.0
 
   abbrev pub source : Cursor
-  source = cursor (get_or inputs.slots e.signal no_input) (get_or p e.signal 0)
+  source = get_or cs e.signal d
 
   source_wide : end_of e ≤ width_now source
-  source_wide = rw (shown_at inputs few slots e.signal signal_in width_now 0 p places) at named.1
+  source_wide = rw (get_or-map width_now cs e.signal d 0 signal_in) at named.1
 
   module _ (at : ℕ) (l : at + widths (drop i packed) ≤ room) where
     pub piece_picks : Picks bytes source e room at
     piece_picks =
         record {
-          shows = cursor_at inputs few slots e.signal signal_in (Showing bytes) p places st.shown.shown;
+          shows = all_at (Showing bytes) cs st.shown e.signal d signal_in;
           within = source_wide;
           fits = rw q (omega (arith, widths_more packed i h));
         }
@@ -105,18 +103,17 @@ module _ {inputs : Inputs} {bytes p packed : List ℕ} {room : ℕ}
     room_more = rw q (omega (arith, widths_more packed i h))
 
     pub pieces_more : (text new : List ℕ) → length text ≡ room → new ≡ overlay text at (text_of (picked_of e (levels_now bytes source)))
-        → overlay new (at + e.width) (text_of (picked_now bytes (cursors_of inputs p) (map extract_of (drop (i + 1) packed))))
-        ≡ overlay text at (text_of (picked_now bytes (cursors_of inputs p) (map extract_of (drop i packed))))
+        → overlay new (at + e.width) (text_of (picked_now bytes cs (map extract_of (drop (i + 1) packed))))
+        ≡ overlay text at (text_of (picked_now bytes cs (map extract_of (drop i packed))))
     unfolding picked_now
     pieces_more text new long f =
-        let cs = cursors_of inputs p in
         let P = picked_of e (levels_now bytes source) in
         let R = picked_now bytes cs (map extract_of (drop (suc i) packed)) in
         let n : length (text_of P) ≡ e.width = length-map P letter_of ∙ picked_length e (levels_now bytes source) (rw (levels_length source.input.description.encoding (shown_bytes bytes source)) source_wide) in
         let g : picked_now bytes cs (map extract_of (drop i packed)) ≡ P ++ R =
         ap (λ (x : List ℕ). picked_now bytes cs (map extract_of x)) (drop-cons packed i 0 h)
         ∙ ap (λ (x : Extract). picked_of x (get_or (map (levels_now bytes) cs) x.signal []) ++ R) (sym q)
-        ∙ ap (λ (x : List ℕ). picked_of e x ++ R) (shown_at inputs few slots e.signal signal_in (levels_now bytes) [] p places) in
+        ∙ ap (λ (x : List ℕ). picked_of e x ++ R) (get_or-map (levels_now bytes) cs e.signal d [] signal_in) in
         ap₂ (λ (k : ℕ) (x : List ℕ). overlay x (at + e.width) (text_of (picked_now bytes cs (map extract_of (drop k packed))))) (add-one i) f
         ∙ overlay_overlay text at (text_of P) (text_of R) (at + e.width) (rw n) (rw long (omega (arith, piece_picks.fits)))
         ∙ ap (overlay text at) (sym (map-append letter_of P R) ∙ ap text_of (sym g))
@@ -161,14 +158,14 @@ module _ (bytes : List ℕ) (S : States) where
       length-append (picked_of e (get_or (map (levels_now bytes) cs) e.signal [])) (picked_now bytes cs es)
       ∙ ap₂ (λ (a b : ℕ). a + b) (picked_length e (get_or (map (levels_now bytes) cs) e.signal []) (rw (shown_length cs e.signal) p.0.1)) (picked_all cs es p.1)
 
-module _ {inputs : Inputs} {bytes p packed : List ℕ} {S : States} {width : ℕ} (st : Stepped inputs bytes p packed S width) where
+module _ {cs : List Cursor} {bytes packed : List ℕ} {S : States} {width : ℕ} (st : Stepped cs bytes packed S width) where
   abbrev gathered : List ℕ
-  gathered = picked_now bytes (cursors_of inputs p) (map extract_of packed)
+  gathered = picked_now bytes cs (map extract_of packed)
 
   picked_long : length gathered ≡ width
-  picked_long = picked_all bytes S (cursors_of inputs p) (map extract_of packed) st.pieces ∙ st.whole
+  picked_long = picked_all bytes S cs (map extract_of packed) st.pieces ∙ st.whole
 
-  pub pickable : (room : ℕ) → width ≤ room → Pickable inputs bytes p packed room
+  pub pickable : (room : ℕ) → width ≤ room → Pickable cs bytes packed room
   pickable room h = record { shown = st.shown; pieces = st.pieces; fits = rw st.whole h }
 
   -- the characters stand at the front of a text
@@ -187,7 +184,7 @@ module _ {inputs : Inputs} {bytes p packed : List ℕ} {S : States} {width : ℕ
     writable room r =
         record {
           under = up;
-          codes = rw front_codes (record { known = st.letters; below = picked_below bytes S (cursors_of inputs p) st.under (map extract_of packed) });
+          codes = rw front_codes (record { known = st.letters; below = picked_below bytes S cs st.under (map extract_of packed) });
           wide = rw front_long st.wide;
           short = rw front_long st.narrow;
           fits = rw (front_long, r) (omega arith);
@@ -212,7 +209,7 @@ module _ (bytes indices : List ℕ) where
   largest_shown_lem [] s = refl
   largest_shown_lem (c ∷ cs) s = ap₂ join (set_shown_lem c s.0) (largest_shown_lem cs s.1)
 
-  codes_at_lem : (cs : List Cursor) → All (Shows bytes indices) cs → (i : ℕ) → codes_shown (get_or (map now_of (tracks bytes indices cs)) i none) ≡ get_or (map (levels_now bytes) cs) i []
+  codes_at_lem : (cs : List Cursor) → All (Shows bytes indices) cs → (i : ℕ) → codes_shown (get_or (map now_of (tracks bytes indices cs)) i None) ≡ get_or (map (levels_now bytes) cs) i []
   codes_at_lem [] s i = refl
   codes_at_lem (c ∷ cs) s zero = codes_shown_lem c s.0
   codes_at_lem (c ∷ cs) s (suc i) = codes_at_lem cs s.1 i

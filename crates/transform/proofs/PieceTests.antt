@@ -1,43 +1,43 @@
 -- A test over pieces: what a loop over them keeps, and what it says of each.
 -- Assumes nothing.
-use Prim.Native.Nat.{◌+◌, ◌-◌, ◌<◌, ◌≤◌, min, ℕ}
-use borrow.Author.Tests.{eq-eqb, eqb-false, eqb-true, le-ltb, lt-ltb, ltb-false, ne_eqb, not-false}
+use Prim.Native.Nat.{◌+◌, ◌-◌, ◌<◌, ◌≤◌, ℕ}
+use borrow.Author.Tests.{eq-eqb, eqb-false, eqb-true, ltb-false, ne_eqb, not-false}
 use lib.Dec.{eqb, ltb}
-use lib.ListN.{drop, get_or, length}
+use lib.ListN.{get_or-eq_default, get_or, length, length-map}
 use mathlib.Core.Bool.{Bool, ◌||◌, false, not, true, true≢false}
 use mathlib.Core.List.{List, [], ◌∷◌, map}
 use mathlib.Core.Path.{◌∙◌, ◌≡◌, ap, refl, sym}
 use native.Mathlib.Omega.{arith}
-use Rattle.value.specs.Level.{bits_of, has_no_code, len_of, mark_of, set_at}
+use Rattle.value.specs.Level.{bits_of, has_no_code, mark_of, set_at}
 use Rattle.value.specs.Slice.{any, part, sum}
 use Rattle.value.specs.declared.States.{States}
 use Rattle.value.proofs.Digits.{below_drop, below_take}
 use Rattle.value.proofs.Levels.{all_below_lem, bits_up, mark_set, mark_small, none_foreign}
-use Rattle.value.proofs.Lists.{Clear, any_map, clear_all, clear_more}
-use Rattle.value.proofs.Slices.{any_at, any_none, part_at, part_length}
+use Rattle.value.proofs.Slices.{part_at, part_length}
 use Rattle.value.proofs.Tests.{by_le, or_left, or_right}
-use Rattle.fst.specs.Record.{Kept, has_no_text, kept_in, used_size, width_of}
+use Rattle.fst.specs.Record.{Kept, has_no_text, kept_in, largest_in, width_of}
 use Rattle.fst.specs.declared.Description.{Description}
 use Rattle.fst.specs.declared.Encoding.{Encoding}
 use Rattle.fst.specs.declared.Encoding.TheVariants.{BitVector, Event, Real}
-use Rattle.fst.proofs.Records.{indices_used, standing}
-use Rattle.signal.specs.Decode.{codes_at, entries_in, entry_at, has_bad_mark, level_part, levels_in, mark_in}
-use Rattle.signal.specs.Parts.{own_states}
+use Rattle.runs.specs.All.{All}
+use Rattle.runs.proofs.All.{all_of}
+use Rattle.signal.specs.Decode.{codes_at, entries_in, entry_at, has_bad_mark, levels_in, mark_in, set_in}
+use Rattle.signal.specs.Parts.{Unpacked, unpacked}
 use Rattle.signal.proofs.Decoding.{codes_length, few_bits}
-use Rattle.signal.proofs.Entries.{entries_each}
-use Rattle.signal.proofs.Reading.{Owned, owned, vector, whole}
-use Rattle.derivation.specs.Piece.{Sized, end_of, extract_of, is_bad_derivation, is_bad_piece, piece_width, pieces_of}
+use Rattle.signal.proofs.Reading.{codes_are, vector, whole}
+use Rattle.derivation.specs.Piece.{Sized, end_of, is_bad_derivation, is_bad_piece, piece_width, pieces_of}
 use Rattle.derivation.specs.declared.DerivedBitVecSignal.{DerivedBitVecSignal}
 use Rattle.derivation.specs.declared.Extract.{Extract}
-use Rattle.derivation.proofs.Joins.{count_is, piece_at}
+use Rattle.derivation.proofs.Joins.{count_is}
 use Rattle.derivation.proofs.Pieces.{good_piece, sound}
-use Rattle.steps.specs.Inputs.{encoding_of, entry_is_bad, input_kept, inputs_of, is_bad_input, is_no_bit_vector, kept_all, mark_is_bad}
-use Rattle.steps.specs.Refusals.{kept_with}
+use Rattle.steps.specs.Inputs.{encoding_of, input_kept, is_no_bit_vector}
 use Rattle.steps.specs.declared.Input.{Input}
-use Rattle.steps.specs.declared.Inputs.{Inputs}
-use Rattle.steps.proofs.InputTests.{kept_at, no_input, slot_none, used_stands}
+use Rattle.std.specs.List.{list_any, range_with_len}
+use Rattle.steps.proofs.Anys.{any_places}
+use Rattle.steps.proofs.InputTests.{kept_at}
+use Rattle.steps.proofs.Standing.{all_none}
 use Rattle.transform.specs.Derive.{code_is_bad, is_beyond, is_unfit, pick_is_bad, picked_of}
-use Rattle.transform.specs.Refusals.{EntryPick, Readable, RecordPick}
+use Rattle.transform.specs.Refusals.{EntryPick, RecordPick}
 
 -- ---- picked levels
 
@@ -52,33 +52,35 @@ module _ (e : Extract) (w : ℕ) (S : States) (levels : List ℕ) (h : end_of e 
   pick_code i k =
       sym (part_at codes (length codes - end_of e) e.width i 0 k ∙ ap (λ (n : ℕ). get_or codes (n - end_of e + i) 0) (codes_length w S levels))
 
+  -- a test of each of them
+  pub any_picked : (test : ℕ → Bool) → list_any (λ i. test (get_or codes (w - end_of e + i) 0)) (range_with_len 0 e.width) ≡ any test (picked_of e codes)
+  unfolding part
+  any_picked test =
+      let z : w - end_of e + 0 ≡ length codes - end_of e = omega (arith, codes_length w S levels) in
+      any_places test codes (w - end_of e) 0 e.width (rw (codes_length w S levels) (omega arith)) ∙ ap (λ (n : ℕ). any test (part n e.width codes)) z
+
 pub pick_none : (e : Extract) (cs : List ℕ) → has_no_code cs ≡ false → has_no_code (picked_of e cs) ≡ false
 unfolding part
 pick_none e cs h = none_foreign (picked_of e cs) (below_take 9 _ (below_drop 9 cs (all_below_lem cs h) (length cs - end_of e)) e.width)
 
 module _ {e : Extract} {w : ℕ} {M : States} {v : List ℕ} (p : EntryPick e w M v) where
-  pub pick_owned : (S : States) → S ≡ set_at (mark_in M v) → Owned w M v S
-  unfolding has_bad_mark own_states
-  pick_owned S s = owned p.whole (rw (p.marked, s))
+  -- what the levels found say of the picked ones
+  pub pick_levels : {u : Unpacked} → u ≡ unpacked w M v
+      → has_no_code (picked_of e (codes_at u.width u.set u.part)) ≡ has_no_code (picked_of e (levels_in (BitVector w M) v))
+  pick_levels q = ap (λ (cs : List ℕ). has_no_code (picked_of e cs)) (codes_are w M v q)
 
   -- a set of fewer than four bits has no bad code
-  pub pick_few : (S : States) → S ≡ set_at (mark_in M v) → bits_of S < 4 → has_no_code (picked_of e (levels_in (BitVector w M) v)) ≡ false
-  pick_few S s b =
-      let o = pick_owned S s in
-      pick_none e (levels_in (BitVector w M) v) (ap has_no_code (sym o.codes) ∙ sym (few_bits w S (level_part (BitVector w M) v) b))
-
-  pub pick_levels : (S : States) → S ≡ set_at (mark_in M v) → (levels : List ℕ) → levels ≡ drop (length v - len_of w S) v
-      → has_no_code (picked_of e (codes_at w S levels)) ≡ has_no_code (picked_of e (levels_in (BitVector w M) v))
-  pick_levels S s levels l =
-      let o = pick_owned S s in
-      ap (λ (cs : List ℕ). has_no_code (picked_of e cs)) (ap (codes_at w S) (l ∙ o.part) ∙ o.codes)
+  pub pick_few : {u : Unpacked} → u ≡ unpacked w M v → bits_of u.set < 4 → has_no_code (picked_of e (levels_in (BitVector w M) v)) ≡ false
+  pick_few {u} q b =
+      pick_none e (levels_in (BitVector w M) v) (ap has_no_code (sym (codes_are w M v q)) ∙ sym (few_bits u.width u.set u.part b))
 
   pub pick_below : bits_of M < 4 → has_no_code (picked_of e (levels_in (BitVector w M) v)) ≡ false
-  unfolding has_bad_mark
+  unfolding has_bad_mark set_in
   pick_below b =
       let m : mark_in M v ≤ mark_of M = ltb-false _ _ p.marked in
       let k : mark_of (set_at (mark_in M v)) ≡ mark_in M v = mark_set (mark_in M v) (omega (arith, mark_small M)) in
-      pick_few (set_at (mark_in M v)) refl (omega (arith, bits_up (set_at (mark_in M v)) M (omega arith)))
+      let f : bits_of (set_at (mark_in M v)) < 4 = omega (arith, bits_up (set_at (mark_in M v)) M (omega arith)) in
+      pick_few refl f
 
 pub no_levels : (e : Extract) (x : Encoding) (v : List ℕ) → has_no_text x ≡ true → has_no_code (picked_of e (levels_in x v)) ≡ false
 unfolding has_no_text levels_in
@@ -98,6 +100,17 @@ picks e d used p w M q k h =
       marked = ap (λ (x : Encoding). has_bad_mark x (entry_at d.encoding 0 used k)) (sym q) ∙ p.marked k h;
       inside = rw q at p.inside;
     }
+
+-- of a record whose largest set has fewer than four bits
+pub none_below : (e : Extract) (d : Description) (used : List ℕ) → RecordPick e d used → bits_of (largest_in d.encoding) < 4 → (k : ℕ) → k < d.count
+    → has_no_code (picked_of e (levels_in d.encoding (entry_at d.encoding 0 used k))) ≡ false
+unfolding has_no_text
+none_below e d used p b k h = go d.encoding refl
+  where
+    go : (x : Encoding) → d.encoding ≡ x → has_no_code (picked_of e (levels_in d.encoding (entry_at d.encoding 0 used k))) ≡ false
+    go Event q = levels_as e (entry_at d.encoding 0 used k) q (no_levels e Event (entry_at d.encoding 0 used k) refl)
+    go Real q = levels_as e (entry_at d.encoding 0 used k) q (no_levels e Real (entry_at d.encoding 0 used k) refl)
+    go (BitVector w M) q = levels_as e (entry_at d.encoding 0 used k) q (pick_below (picks e d used p w M q k h) (rw q at b))
 
 -- ---- 14
 
@@ -135,102 +148,47 @@ unfit_by_beyond d count ks b g p c v e = rw (g, ne_eqb d.piece_count 0 p, eq-eqb
 
 -- ---- the pieces of a derivation that is not bad
 
-module _ (d : DerivedBitVecSignal) (full : length d.bits ≡ 64) (good : is_bad_derivation d ≡ false) where
-  room : d.piece_count ≤ length d.bits
-  room = omega (arith, (sound d good).few)
+pub pieces_count : {d : DerivedBitVecSignal} → Sized d → is_bad_derivation d ≡ false → length (pieces_of d) ≡ d.piece_count
+pieces_count {d} z good = count_is d.bits d.piece_count (omega (arith, (sound d good).few, z.bits))
 
-  pub pieces_count : length (pieces_of d) ≡ d.piece_count
-  pieces_count = count_is d.bits d.piece_count room
-
-  pub piece_low : (i : ℕ) → i < d.piece_count → i < 64
-  piece_low i h = omega (arith, (sound d good).few)
-
-  pub pieces_all : (i : ℕ) → d.piece_count ≤ i → (test : Extract → Bool) → Clear test (pieces_of d) i → any test (pieces_of d) ≡ false
-  pieces_all i h test c = clear_all (rw pieces_count h) c
-
-  module _ (i : ℕ) (h : i < d.piece_count) (e : Extract) (is : e ≡ extract_of (get_or d.bits i 0)) where
-    pub piece_is : get_or (pieces_of d) i (extract_of 0) ≡ e
-    piece_is = piece_at d.bits d.piece_count room i h ∙ sym is
-
-    pub piece_one : (test : Extract → Bool) → test e ≡ true → any test (pieces_of d) ≡ true
-    piece_one test t = any_at test (pieces_of d) i (extract_of 0) (rw pieces_count h) (ap test piece_is ∙ t)
-
-    pub piece_more : (test : Extract → Bool) → test e ≡ false → Clear test (pieces_of d) i → Clear test (pieces_of d) (i + 1)
-    piece_more test t c = clear_more (extract_of 0) (rw pieces_count h) (ap test piece_is ∙ t) c
-
-    -- the number of its input
-    pub piece_input : (e.signal < d.input_count) × (d.input_count ≤ 8)
-    piece_input =
-        let s = sound d good in
-        let b = any_none (is_bad_piece d.input_count) (pieces_of d) s.pieces i (extract_of 0) (rw pieces_count h) in
-        ((good_piece d.input_count e (ap (is_bad_piece d.input_count) (sym piece_is) ∙ b)).1, s.named)
+-- each names an input
+pub pieces_named : (d : DerivedBitVecSignal) → is_bad_derivation d ≡ false → All (λ e. e.signal < d.input_count) (pieces_of d)
+pieces_named d good =
+    all_of (λ e. is_bad_piece d.input_count e ≡ false) (λ e. e.signal < d.input_count) (λ e b. (good_piece d.input_count e b).1) (pieces_of d)
+    (all_none (is_bad_piece d.input_count) (pieces_of d) (sound d good).pieces)
 
 -- a derivation that fits its inputs has a level
-pub fit_wide : {d : DerivedBitVecSignal} {count : ℕ} {ks : List Kept} → Fit d count ks → Sized d → 1 ≤ d.width
+pub fit_wide : {d : DerivedBitVecSignal} {count : ℕ} {ks : List Kept} → Fit d count ks → 0 < length (pieces_of d) → 1 ≤ d.width
 unfolding any sum
 fit_wide {d} f z =
     let s = sound d f.sound in
-    rw s.whole (go (pieces_of d) (rw (pieces_count d z.bits f.sound) f.pieces) s.pieces)
+    rw s.whole (go (pieces_of d) z s.pieces)
   where
     go : (es : List Extract) → 0 < length es → any (is_bad_piece d.input_count) es ≡ false → 1 ≤ sum (map piece_width es)
     go [] h b = absurd (omega arith)
     go (e ∷ es) h b = omega (arith, (good_piece d.input_count e (or_left (is_bad_piece d.input_count e) (any (is_bad_piece d.input_count) es) b)).0)
 
--- a piece against its input
-module _ (inputs : Inputs) (full : length inputs.slots ≡ 8) (bytes indices : List ℕ) (e : Extract) (h : e.signal < min inputs.count 8) where
+-- ---- a piece against its input
+
+module _ (bytes indices : List ℕ) (is : List Input) (e : Extract) (h : e.signal < length is) (x : Input) where
   abbrev its : Input
-  its = get_or inputs.slots e.signal no_input
+  its = get_or is e.signal x
 
-  pub beyond_by_width : is_beyond (kept_all bytes indices inputs) e ≡ ltb (width_of its.description.encoding) (end_of e)
+  pub beyond_by_width : is_beyond (map (input_kept bytes indices) is) e ≡ ltb (width_of its.description.encoding) (end_of e)
   unfolding kept_in
-  beyond_by_width = ap (λ (x : Encoding). ltb (width_of x) (end_of e)) (kept_at inputs full bytes indices encoding_of Event e.signal no_input h)
+  beyond_by_width = ap (λ (x : Encoding). ltb (width_of x) (end_of e)) (kept_at bytes indices is encoding_of Event e.signal x h)
 
-  pub code_by_entries : code_is_bad (kept_all bytes indices inputs) e ≡ any (pick_is_bad e) (entries_in (input_kept bytes indices its))
-  code_by_entries = ap (any (pick_is_bad e)) (kept_at inputs full bytes indices entries_in [] e.signal no_input h)
+  pub code_by_entries : code_is_bad (map (input_kept bytes indices) is) e ≡ any (pick_is_bad e) (entries_in (input_kept bytes indices its))
+  code_by_entries = ap (any (pick_is_bad e)) (kept_at bytes indices is entries_in [] e.signal x h)
 
-  pub beyond_is : (w n : ℕ) → w ≡ width_of its.description.encoding → n ≡ end_of e → w < n → is_beyond (kept_all bytes indices inputs) e ≡ true
-  beyond_is w n a b k = beyond_by_width ∙ lt-ltb (width_of its.description.encoding) (end_of e) (rw (← a, ← b) k)
-
-  pub beyond_not : (w n : ℕ) → w ≡ width_of its.description.encoding → n ≡ end_of e → n ≤ w → is_beyond (kept_all bytes indices inputs) e ≡ false
-  beyond_not w n a b k = beyond_by_width ∙ le-ltb (width_of its.description.encoding) (end_of e) (rw (← a, ← b) k)
-
-  pub its_test : (test : Input → Bool) → any test (inputs_of inputs) ≡ false → test its ≡ false
-  its_test test n = slot_none inputs full e.signal h test n
-
--- ---- what 10 is tried upon
-
-module _ {d : DerivedBitVecSignal} {inputs : Inputs} {bytes indices : List ℕ} (r : Readable d inputs bytes indices) (bits : length d.bits ≡ 64) (slots : length inputs.slots ≡ 8)
-    (i : ℕ) (h : i < d.piece_count) {e : Extract} (is : e ≡ extract_of (get_or d.bits i 0)) where
-  abbrev f : Fit d inputs.count (kept_all bytes indices inputs)
-  f = fit d inputs.count (kept_all bytes indices inputs) r.fit
-
-  pub signal_low : e.signal < min inputs.count 8
-  signal_low = let p = piece_input d bits f.sound i h e is in omega (arith, f.counted)
-
-  abbrev x : Input
-  x = its inputs slots bytes indices e signal_low
-
-  pub input_good : is_bad_input bytes indices x ≡ false
-  input_good = its_test inputs slots bytes indices e signal_low (is_bad_input bytes indices) r.stand
-
-  pub picking : RecordPick e x.description (part x.byte_start (used_size x.description) bytes)
-  unfolding kept_in
-  picking =
-      let m = its_test inputs slots bytes indices e signal_low (λ y. mark_is_bad (input_kept bytes indices y)) (sym (any_map mark_is_bad (input_kept bytes indices) (inputs_of inputs)) ∙ r.marked) in
-      let n = piece_is d bits f.sound i h e is in
-      let b = any_none (is_beyond (kept_all bytes indices inputs)) (pieces_of d) f.within i (extract_of 0) (rw (pieces_count d bits f.sound) h) in
-      record {
-        stands = used_stands (standing input_good);
-        marked = λ k l. entries_each (input_kept bytes indices x) entry_is_bad m k (rw (indices_used (standing input_good)) l);
-        inside = ltb-false _ _ (sym (beyond_by_width inputs slots bytes indices e signal_low) ∙ ap (is_beyond (kept_all bytes indices inputs)) (sym n) ∙ b);
-      }
-
-  pub code_by_picks : (r b : Bool) (u : List ℕ) → u ≡ part x.byte_start (used_size x.description) bytes
-      → ((l : List ℕ) → length l ≡ x.description.count → r ≡ any (pick_is_bad e) (entries_in (kept_with x.description u l))) → r ≡ b
-      → code_is_bad (kept_all bytes indices inputs) e ≡ b
-  unfolding kept_in
-  code_by_picks r b u q g z =
-      let l = part x.index_start x.description.count indices in
-      code_by_entries inputs slots bytes indices e signal_low
-      ∙ sym (g l (indices_used (standing input_good)) ∙ ap (λ (v : List ℕ). any (pick_is_bad e) (entries_in (kept_with x.description v l))) q)
-      ∙ z
+-- a piece that isn't beyond its input's width names an input
+pub named : (ks : List Kept) (n : ℕ) (e : Extract) → is_bad_piece n e ≡ false → is_beyond ks e ≡ false → e.signal < length ks
+named ks n e b w =
+    let g = good_piece n e b in
+    let l = ltb-false (width_of (get_or (map encoding_of ks) e.signal Event)) (end_of e) w in
+    by_le (length ks) e.signal
+    (λ h.
+    let z : get_or (map encoding_of ks) e.signal Event ≡ Event = get_or-eq_default (map encoding_of ks) Event (rw length-map h) in
+    let y : width_of (get_or (map encoding_of ks) e.signal Event) ≡ 0 = ap width_of z in
+    absurd (omega arith))
+    (λ h. h)

@@ -1,7 +1,6 @@
 -- Document 01, "A derived record", "Derive" and "Derived list".
 -- Assumes nothing.
-use Rattle.std.specs.Prelude.{◌-◌, ℕ, eqb, ltb, get_or, length, Bool, ◌&&◌, ◌||◌, not, List, [], ◌++◌, ◌∷◌, map}
-use Rattle.std.proofs.Math.Option.{Option, none, some}
+use Rattle.std.specs.Prelude.{Option, None, Some, Result, ◌-◌, ℕ, eqb, ltb, get_or, length, Bool, ◌&&◌, ◌||◌, not, List, [], ◌++◌, ◌∷◌, map}
 use Rattle.value.specs.Level.{has_no_code, join_all, mark_of, text_of}
 use Rattle.value.specs.Slice.{any, overlay, part, same}
 use Rattle.value.specs.declared.States.{States}
@@ -11,7 +10,7 @@ use Rattle.fst.specs.Record.{Kept, Lent, largest_in, width_of, lent, described}
 use Rattle.fst.specs.Refusal.{Reply, Test, ◌⇐◌, given, made_of, refused, tried}
 use Rattle.fst.specs.declared.Description.{Description}
 use Rattle.fst.specs.declared.Encoding.TheVariants.{Event}
-use Rattle.fst.specs.declared.Made.{Made}
+use Rattle.fst.specs.declared.Refusal.{Refusal}
 use Rattle.runs.specs.Runs.{Step, laid_out}
 use Rattle.signal.specs.Decode.{Indexed, entries_in, levels_in}
 use Rattle.derivation.specs.Piece.{end_of, is_bad_derivation, pieces_of}
@@ -20,6 +19,7 @@ use Rattle.derivation.specs.declared.Extract.{Extract}
 use Rattle.steps.specs.Inputs.{encoding_of, indices_fall, inputs_of, is_bad_input, is_no_bit_vector, kept_all, mark_is_bad, starts_late}
 use Rattle.steps.specs.Steps.{Moment, Shown, kept_steps}
 use Rattle.steps.specs.declared.Inputs.{Inputs}
+use Rattle.steps.specs.declared.Sources.{Sources}
 
 -- ---- what a step yields
 
@@ -29,17 +29,17 @@ picked_of e codes = part (length codes - end_of e) e.width codes
 
 -- an input that has not begun has none
 abbrev pub codes_shown : Option Shown → List ℕ
-codes_shown none = []
-codes_shown (some s) = s.codes
+codes_shown None = []
+codes_shown (Some s) = s.codes
 
 abbrev pub set_shown : Option Shown → States
-set_shown none = Two
-set_shown (some s) = s.set
+set_shown None = Two
+set_shown (Some s) = s.set
 
 -- "the picked levels, highest piece first"
 unfoldable pub picked : List Extract → List (Option Shown) → List ℕ
 picked [] showing = []
-picked (e ∷ es) showing = picked_of e (codes_shown (get_or showing e.signal none)) ++ picked es showing
+picked (e ∷ es) showing = picked_of e (codes_shown (get_or showing e.signal None)) ++ picked es showing
 
 -- "under the largest of the inputs' current own sets"
 abbrev pub largest_shown : List (Option Shown) → States
@@ -124,8 +124,11 @@ derived_by out (given k) =
 abbrev pub derived_from : DerivedBitVecSignal → Inputs → List ℕ → List ℕ → List Step
 derived_from d inputs bytes indices = derived_list (pieces_of d) (kept_all bytes indices inputs)
 
+abbrev pub derived_of : DerivedBitVecSignal → Sources → List Step
+derived_of d s = derived_from d s.inputs.now s.bytes.now s.indices.now
+
 -- an answer and the output slices as they are then
-abbrev pub left_by_derive : Made → List ℕ → List ℕ → Derived
+abbrev pub left_by_derive : Result Description Refusal → List ℕ → List ℕ → Derived
 left_by_derive made bytes indices = record { answer = made_of made; bytes = bytes; indices = indices }
 
 unfoldable pub derive : DerivedBitVecSignal → Inputs → List ℕ → List ℕ → List ℕ → List ℕ → Derived

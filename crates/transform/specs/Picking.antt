@@ -11,9 +11,11 @@ use Rattle.derivation.specs.Piece.{end_of, extract_of, piece_width}
 use Rattle.derivation.specs.declared.DerivedBitVecSignal.{DerivedBitVecSignal}
 use Rattle.derivation.specs.declared.Extract.{Extract}
 use Rattle.steps.specs.Inputs.{kept_all}
-use Rattle.steps.specs.Stepping.{AllShowing, Cursor, Showing, cursors_of, levels_now, set_now, width_now}
+use Rattle.steps.specs.Cursor.{Cursor}
+use Rattle.steps.specs.Stepping.{Showing, levels_now, set_now, width_now}
 use Rattle.steps.specs.declared.Input.{Input}
 use Rattle.steps.specs.declared.Inputs.{Inputs}
+use Rattle.steps.specs.declared.Sources.{Sources}
 use Rattle.transform.specs.Derive.{largest_among, picked_of}
 use Rattle.transform.specs.Refusals.{Derivable}
 
@@ -36,20 +38,20 @@ abbrev pub PieceIn : List Cursor → Extract → Type 0
 PieceIn cs e = (e.signal < length cs) × (end_of e ≤ get_or (map width_now cs) e.signal 0)
 
 -- each piece lies within its input's width, and there is room for the characters of all
-pub record Pickable (inputs : Inputs) (bytes p packed : List ℕ) (room : ℕ) : Type 0 where
-  pub shown : AllShowing inputs bytes p
-  pub pieces : All (PieceIn (cursors_of inputs p)) (map extract_of packed)
+pub record Pickable (cs : List Cursor) (bytes packed : List ℕ) (room : ℕ) : Type 0 where
+  pub shown : All (Showing bytes) cs
+  pub pieces : All (PieceIn cs) (map extract_of packed)
   pub fits : sum (map piece_width (map extract_of packed)) ≤ room
 
 abbrev pub Under : List ℕ → States → Cursor → Type 0
 Under bytes S c = mark_of (set_now bytes c) ≤ mark_of S
 
 -- the pieces of a step and its set, of which each picked level is a letter's
-pub record Stepped (inputs : Inputs) (bytes p packed : List ℕ) (S : States) (width : ℕ) : Type 0 where
-  pub shown : AllShowing inputs bytes p
-  pub pieces : All (PieceIn (cursors_of inputs p)) (map extract_of packed)
-  pub under : All (Under bytes S) (cursors_of inputs p)
-  pub letters : Below 9 (picked_now bytes (cursors_of inputs p) (map extract_of packed))
+pub record Stepped (cs : List Cursor) (bytes packed : List ℕ) (S : States) (width : ℕ) : Type 0 where
+  pub shown : All (Showing bytes) cs
+  pub pieces : All (PieceIn cs) (map extract_of packed)
+  pub under : All (Under bytes S) cs
+  pub letters : Below 9 (picked_now bytes cs (map extract_of packed))
   pub whole : sum (map piece_width (map extract_of packed)) ≡ width
   pub wide : 1 ≤ width
   pub narrow : width ≤ 4096
@@ -60,6 +62,9 @@ pub record Stepped (inputs : Inputs) (bytes p packed : List ℕ) (S : States) (w
 pub record Walkable (d : DerivedBitVecSignal) (inputs : Inputs) (bytes indices : List ℕ) (M : States) : Type 0 where
   pub derivable : Derivable d inputs bytes indices
   pub largest : M ≡ largest_among (kept_all bytes indices inputs)
+
+abbrev pub WalkableOf : DerivedBitVecSignal → Sources → States → Type 0
+WalkableOf d s M = Walkable d s.inputs.now s.bytes.now s.indices.now M
 
 -- the largest of the inputs' largest sets
 abbrev pub largest_over : List Input → States

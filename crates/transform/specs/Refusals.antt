@@ -1,22 +1,25 @@
 -- Inner: the tests of Derive before its room: what they ask, and what they leave known.
 -- Assumes nothing.
-use Rattle.std.specs.Prelude.{◌<◌, ◌≤◌, ℕ, false, List, [], ◌∷◌, ◌≡◌}
+use Rattle.std.specs.Prelude.{◌<◌, ◌≤◌, ℕ, Bool, false, List, [], ◌∷◌, length, map, ◌≡◌, Result, Ok, Err}
 use Rattle.value.specs.Slice.{any}
 use Rattle.value.specs.declared.States.{States}
-use Rattle.fst.specs.Record.{is_bad_bytes, width_of}
+use Rattle.fst.specs.Record.{Kept, is_bad_bytes, width_of}
 use Rattle.fst.specs.Refusal.{Reply, Test, ◌⇐◌, given, refusal_number, refused}
 use Rattle.fst.specs.declared.Description.{Description}
 use Rattle.fst.specs.declared.Encoding.TheVariants.{BitVector}
-use Rattle.fst.specs.declared.Verdict.{Verdict}
-use Rattle.fst.specs.declared.Verdict.TheVariants.{Accepted, Refused}
-use Rattle.signal.specs.Decode.{entry_at, has_bad_mark}
+use Rattle.fst.specs.declared.Refusal.{Refusal}
+use Rattle.runs.specs.All.{All}
+use Rattle.signal.specs.Decode.{Indexed, entries_in, entry_at, has_bad_code, has_bad_mark}
 use Rattle.signal.specs.Parts.{Whole}
-use Rattle.derivation.specs.Piece.{end_of, is_bad_derivation, pieces_of}
+use Rattle.derivation.specs.Piece.{end_of, extract_of, pieces_of}
 use Rattle.derivation.specs.declared.DerivedBitVecSignal.{DerivedBitVecSignal}
 use Rattle.derivation.specs.declared.Extract.{Extract}
 use Rattle.steps.specs.Inputs.{indices_fall, inputs_of, is_bad_input, kept_all, mark_is_bad, starts_late}
+use Rattle.steps.specs.Refusals.{is_bad_in, its_inputs, its_record, its_records}
+use Rattle.steps.specs.declared.Input.{Input}
 use Rattle.steps.specs.declared.Inputs.{Inputs}
-use Rattle.transform.specs.Derive.{code_is_bad, is_unfit}
+use Rattle.steps.specs.declared.Sources.{Sources}
+use Rattle.transform.specs.Derive.{code_is_bad, is_beyond, is_unfit}
 
 -- ---- one piece
 
@@ -32,12 +35,32 @@ pub record RecordPick (e : Extract) (d : Description) (used : List ℕ) : Type 0
   pub marked : (k : ℕ) → k < d.count → has_bad_mark d.encoding (entry_at d.encoding 0 used k) ≡ false
   pub inside : end_of e ≤ width_of d.encoding
 
+-- ---- an input, and a piece of it
+
+-- an input that is not 2, each of whose marks is a set's
+pub record ReadableInput (s : Sources) (i : Input) : Type 0 where
+  pub stands : is_bad_in s i ≡ false
+  pub marked : mark_is_bad (its_record s i) ≡ false
+
+-- a level that is no code
+abbrev pub entry_is_uncoded : Indexed → Bool
+entry_is_uncoded e = has_bad_code e.encoding e.bytes
+
+abbrev pub is_uncoded : Kept → Bool
+is_uncoded k = any entry_is_uncoded (entries_in k)
+
+-- a piece of one of the inputs, within its width
+pub record SourcePick (e : Extract) (s : Sources) : Type 0 where
+  pub named : e.signal < length (its_inputs s)
+  pub stand : any (is_bad_in s) (its_inputs s) ≡ false
+  pub marked : any mark_is_bad (its_records s) ≡ false
+  pub within : is_beyond (its_records s) e ≡ false
+
 -- ---- all inputs and pieces
 
--- a derivation that is not bad, of as many inputs as there are
-pub record Matched (d : DerivedBitVecSignal) (inputs : Inputs) : Type 0 where
-  pub sound : is_bad_derivation d ≡ false
-  pub counted : inputs.count ≡ d.input_count
+-- each piece is one of so many inputs'
+abbrev pub Named : ℕ → List ℕ → Type 0
+Named n packed = All (λ e. e.signal < n) (map extract_of packed)
 
 -- what 10 is tried upon
 pub record Readable (d : DerivedBitVecSignal) (inputs : Inputs) (bytes indices : List ℕ) : Type 0 where
@@ -54,6 +77,12 @@ pub record Derivable (d : DerivedBitVecSignal) (inputs : Inputs) (bytes indices 
   pub marked : any mark_is_bad (kept_all bytes indices inputs) ≡ false
   pub coded : any (code_is_bad (kept_all bytes indices inputs)) (pieces_of d) ≡ false
 
+abbrev pub ReadableOf : DerivedBitVecSignal → Sources → Type 0
+ReadableOf d s = Readable d s.inputs.now s.bytes.now s.indices.now
+
+abbrev pub DerivableOf : DerivedBitVecSignal → Sources → Type 0
+DerivableOf d s = Derivable d s.inputs.now s.bytes.now s.indices.now
+
 -- the numbers of Derive before 7
 unfoldable pub first_tests : DerivedBitVecSignal → Inputs → List ℕ → List ℕ → List Test
 first_tests d inputs bytes indices =
@@ -67,6 +96,6 @@ first_tests d inputs bytes indices =
     ∷ []
 
 -- a verdict as a reply
-abbrev pub verdict_reply : Verdict → Reply Unit
-verdict_reply Accepted = given tt
-verdict_reply (Refused r) = refused (refusal_number r)
+abbrev pub verdict_reply : Result Unit Refusal → Reply Unit
+verdict_reply (Ok _) = given tt
+verdict_reply (Err r) = refused (refusal_number r)

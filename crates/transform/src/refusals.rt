@@ -1,49 +1,45 @@
 // The numbers of Derive before 7. Each is tried over all inputs before the next.
-ghost use Rattle.std.specs.Prelude.{true, false, List, ◌≡◌, ℕ, ◌≤◌, ◌<◌, length};
+ghost use Rattle.std.specs.Prelude.{true, false, List, ◌≡◌, ℕ, ◌+◌, ◌/◌, ◌≤◌, ◌<◌, length, map};
 ghost use Rattle.value.specs.Slice.{any};
 ghost use Rattle.value.specs.Level.{bits_of, has_no_code};
-ghost use Rattle.fst.specs.declared.Encoding.TheVariants.{BitVector};
-ghost use Rattle.fst.specs.Refusal.{given, tried};
-ghost use Rattle.signal.specs.Decode.{entries_in, levels_in, codes_at};
+ghost use Rattle.value.specs.declared.States.{States};
 ghost use Rattle.signal.specs.Parts.{Levels};
-ghost use Rattle.derivation.specs.Piece.{end_of, pieces_of};
-ghost use Rattle.steps.specs.Inputs.{inputs_of, is_bad_input, kept_all};
-ghost use Rattle.steps.specs.Refusals.{kept_with};
+ghost use Rattle.fst.specs.Refusal.{given, tried};
+ghost use Rattle.signal.specs.Decode.{entries_in, entry_at, levels_in, codes_at};
+ghost use Rattle.derivation.specs.Piece.{end_of, extract_of, pieces_of};
+ghost use Rattle.steps.specs.Inputs.{input_kept};
+ghost use Rattle.steps.specs.Refusals.{its_record, its_records, kept_with};
 ghost use Rattle.transform.specs.Derive.{is_unfit, is_beyond, pick_is_bad, picked_of, code_is_bad};
-ghost use Rattle.transform.specs.Refusals.{EntryPick, RecordPick, Matched, Readable, first_tests, verdict_reply};
+ghost use Rattle.transform.specs.Refusals.{Named, ReadableInput, ReadableOf, RecordPick, SourcePick, first_tests, is_uncoded, verdict_reply};
 
 use derivation::{DerivedBitVecSignal, Extract};
-use fst::{Description, Encoding, Refusal, Verdict};
-use signal::decode::{code_at, has_bad_byte, level_part, states_in};
-use signal::read::entry_at;
-use steps::refusals::{any_fails, used_part, used_slots};
-use steps::{InputTest, Inputs};
-use value::States;
+use fst::{Description, Encoding, Refusal};
+use signal::decode::Vector;
+use signal::packed::{Packed, has_bad_byte};
+use signal::read::Record;
+use steps::{Input, Sources};
 
 // Whether a piece is beyond the width of its input.
-fn any_beyond(derivation: DerivedBitVecSignal, inputs: Inputs) -> bool
-    requires { Matched derivation inputs }
-    ensures { (bytes indices : List ℕ) → result ≡ any (is_beyond (kept_all bytes indices inputs)) (pieces_of derivation) }
+fn is_beyond(extract: Extract, inputs: &[Input]) -> bool
+    requires { extract.signal < length inputs.now }
+    ensures { (bytes indices : List ℕ) → result ≡ is_beyond (map (input_kept bytes indices) inputs.now) extract }
 {
-    let count = derivation.piece_count as usize;
-    let mut i = 0;
-    while i < count {
-        let extract = Extract::from_u64(derivation.bits[i]);
-        let input = inputs.slots[extract.signal as usize];
-        let description = input.description;
-        let encoding = description.encoding;
-        if (encoding.width() as u64) < extract.end() {
-            return true;
-        }
-        i += 1;
-    }
-    false
+    let input = inputs[extract.signal as usize];
+    u64::from(input.description.encoding.width()) < extract.end()
+}
+
+fn any_beyond(pieces: &[u64], inputs: &[Input]) -> bool
+    requires { Named (length inputs.now) pieces.now }
+    ensures { (bytes indices : List ℕ) → result ≡ any (is_beyond (map (input_kept bytes indices) inputs.now)) (map extract_of pieces.now) }
+{
+    pieces
+        .iter()
+        .any(|piece| is_beyond(Extract::from(*piece), inputs))
 }
 
 // Number 14, of inputs that are not 2.
-fn is_unfit(derivation: DerivedBitVecSignal, inputs: Inputs, bytes: &[u8], indices: &[u32]) -> bool
-    requires { any (is_bad_input bytes.now indices.now) (inputs_of inputs) ≡ false }
-    ensures { result ≡ is_unfit derivation inputs.count (kept_all bytes.now indices.now inputs) }
+fn is_unfit(derivation: &DerivedBitVecSignal, sources: &Sources) -> bool
+    ensures { result ≡ is_unfit derivation.now sources.now.inputs.now.count (its_records sources.now) }
 {
     if derivation.is_bad() {
         return true;
@@ -51,55 +47,67 @@ fn is_unfit(derivation: DerivedBitVecSignal, inputs: Inputs, bytes: &[u8], indic
     if derivation.piece_count == 0 {
         return true;
     }
-    if inputs.count != derivation.input_count {
+    if sources.inputs.count != derivation.input_count {
         return true;
     }
-    if any_fails(InputTest::NoBitVector, inputs, bytes, indices) {
+    if sources.any_without_text() {
         return true;
     }
-    any_beyond(derivation, inputs)
+    any_beyond(derivation.pieces(), sources.inputs.used())
 }
 
 // Whether a code of the picked levels is 9 to 15.
-fn any_bad_level(extract: Extract, width: u32, states: States, levels: &[u8]) -> bool
-    requires { Levels width states levels.now × (end_of extract ≤ width) }
-    ensures { result ≡ has_no_code (picked_of extract (codes_at width states levels.now)) }
+fn any_bad_level(extract: Extract, levels: &Packed) -> bool
+    requires { end_of extract ≤ levels.now.width }
+    ensures { result ≡ has_no_code (picked_of extract (codes_at levels.now.width levels.now.states levels.now.bytes.now)) }
 {
-    let from = width - (extract.lsb + extract.width as u32);
-    let mut i = 0;
-    while i < extract.width as u32 {
-        if 9 <= code_at(width, states, levels, from + i) {
-            return true;
-        }
-        i += 1;
-    }
-    false
+    let count = u32::from(extract.width);
+    let from = levels.width - (extract.lsb + count);
+    (0..count).any(|i| 9 <= levels.code_at(from + i))
+}
+
+// Whether the bytes of the picked levels of four bits hold a number that is no code.
+fn has_bad_bytes(extract: Extract, levels: &[u8]) -> bool
+    requires { (end_of extract ≤ 4096) × ((end_of extract + 1) / 2 ≤ length levels.now) }
+    ensures { result ≡ false → (w : ℕ) (S : States) → 4 ≤ bits_of S → Levels w S levels.now → end_of extract ≤ w → has_no_code (picked_of extract (codes_at w S levels.now)) ≡ false }
+{
+    let end = extract.lsb + u32::from(extract.width);
+    let from = levels.len() - ((end + 1) >> 1) as usize;
+    let to = levels.len() - (extract.lsb >> 1) as usize;
+    has_bad_byte(&levels[from..to])
 }
 
 // `any_bad_level` under the set Nine, where the levels are tried one by one only if their bytes hold a number that is no code.
-fn has_bad_level(extract: Extract, width: u32, states: States, levels: &[u8]) -> bool
-    requires { Levels width states levels.now × (end_of extract ≤ width) × (4 ≤ bits_of states) }
-    ensures { result ≡ has_no_code (picked_of extract (codes_at width states levels.now)) }
+fn has_bad_level(extract: Extract, levels: &Packed) -> bool
+    requires { (end_of extract ≤ levels.now.width) × (4 ≤ bits_of levels.now.states) }
+    ensures { result ≡ has_no_code (picked_of extract (codes_at levels.now.width levels.now.states levels.now.bytes.now)) }
 {
-    let end = extract.lsb + extract.width as u32;
-    let from = levels.len() - ((end + 1) >> 1) as usize;
-    let to = levels.len() - (extract.lsb >> 1) as usize;
-    if has_bad_byte(&levels[from..to]) {
-        return any_bad_level(extract, width, states, levels);
-    }
-    false
+    has_bad_bytes(extract, levels.bytes) && any_bad_level(extract, levels)
 }
 
 // Whether a picked level of an entry is no code, as only the set Nine can have it.
-fn has_bad_pick(extract: Extract, width: u32, max_states: States, entry: &[u8]) -> bool
-    requires { EntryPick extract width max_states entry.now }
-    ensures { result ≡ has_no_code (picked_of extract (levels_in (BitVector width max_states) entry.now)) }
+fn has_bad_pick(extract: Extract, description: Description, used: &[u8], k: u32) -> bool
+    requires { RecordPick extract description used.now × (k < description.count) }
+    ensures { result ≡ has_no_code (picked_of extract (levels_in description.encoding (entry_at description.encoding 0 used.now k))) }
 {
-    let states = states_in(max_states.mark() as u32, entry);
-    if states.bits() < 4 {
+    let Encoding::BitVector { width, max_states } = description.encoding else {
+        return false;
+    };
+    let record = Record {
+        description,
+        bytes: used,
+        byte_start: 0,
+    };
+    let entry = Vector {
+        width,
+        max_states,
+        bytes: record.entry_at(k),
+    };
+    let levels = entry.marked_levels();
+    if levels.states.bits() < 4 {
         return false;
     }
-    has_bad_level(extract, width, states, level_part(width, states, entry))
+    has_bad_level(extract, &levels)
 }
 
 // Whether a picked level of an entry of a record is no code.
@@ -107,119 +115,76 @@ fn any_bad_pick(extract: Extract, description: Description, used: &[u8]) -> bool
     requires { RecordPick extract description used.now }
     ensures { (indices : List ℕ) → length indices ≡ description.count → result ≡ any (pick_is_bad extract) (entries_in (kept_with description used.now indices)) }
 {
-    let encoding = description.encoding;
-    let Encoding::BitVector { width, max_states } = encoding else {
+    if description.encoding.largest().bits() < 4 {
         return false;
+    }
+    (0..description.count).any(|k| has_bad_pick(extract, description, used, k))
+}
+
+// Whether a picked level of an entry of a piece's input is no code.
+fn is_coded_badly(extract: Extract, sources: &Sources) -> bool
+    requires { SourcePick extract sources.now }
+    ensures { result ≡ code_is_bad (its_records sources.now) extract }
+{
+    let input = sources.inputs.used()[extract.signal as usize];
+    any_bad_pick(extract, input.description, input.used_bytes(sources.bytes))
+}
+
+// Whether every code of an input is below 9. Where it is wider than `widest`, the answer is no.
+fn is_coded(sources: &Sources, widest: u32, input: &Input) -> bool
+    requires { ReadableInput sources.now input.now }
+    ensures { result ≡ true → is_uncoded (its_record sources.now input.now) ≡ false }
+{
+    let width = input.description.encoding.width();
+    if widest < width {
+        return false;
+    }
+    let whole = Extract {
+        signal: 0,
+        width: width as u16,
+        lsb: 0,
     };
-    if max_states.bits() < 4 {
+    !any_bad_pick(whole, input.description, input.used_bytes(sources.bytes))
+}
+
+// Number 10, of inputs that are not refused before, piece by piece. One look at each input spares one for each piece, but where an input is
+// so wide that trying its pieces is faster.
+fn any_bad_code(derivation: &DerivedBitVecSignal, sources: &Sources) -> bool
+    requires { ReadableOf derivation.now sources.now }
+    ensures { result ≡ any (code_is_bad (its_records sources.now)) (pieces_of derivation.now) }
+{
+    let widest = 64 * derivation.piece_count;
+    let inputs = sources.inputs.used();
+    if inputs.iter().all(|input| is_coded(sources, widest, input)) {
         return false;
     }
-    let count = description.count;
-    let mut k = 0;
-    while k < count {
-        let entry = entry_at(description, used, 0, k);
-        if has_bad_pick(extract, width, max_states, entry) {
-            return true;
-        }
-        k += 1;
-    }
-    false
-}
-
-// Number 10, of inputs that are not refused before, piece by piece.
-fn any_bad_piece(
-    derivation: DerivedBitVecSignal,
-    inputs: Inputs,
-    bytes: &[u8],
-    indices: &[u32],
-) -> bool
-    requires { Readable derivation inputs bytes.now indices.now }
-    ensures { result ≡ any (code_is_bad (kept_all bytes.now indices.now inputs)) (pieces_of derivation) }
-{
-    let count = derivation.piece_count as usize;
-    let mut i = 0;
-    while i < count {
-        let extract = Extract::from_u64(derivation.bits[i]);
-        let input = inputs.slots[extract.signal as usize];
-        let description = input.description;
-        if any_bad_pick(extract, description, used_part(input, bytes)) {
-            return true;
-        }
-        i += 1;
-    }
-    false
-}
-
-// Whether every code of every input is below 9. Where an input is so wide that trying its pieces is faster, the answer is no.
-fn all_coded(derivation: DerivedBitVecSignal, inputs: Inputs, bytes: &[u8], indices: &[u32]) -> bool
-    requires { Readable derivation inputs bytes.now indices.now }
-    ensures { result ≡ true → any (code_is_bad (kept_all bytes.now indices.now inputs)) (pieces_of derivation) ≡ false }
-{
-    let count = used_slots(inputs);
-    let mut i = 0;
-    while i < count {
-        let input = inputs.slots[i];
-        let description = input.description;
-        let encoding = description.encoding;
-        let width = encoding.width();
-        if 64 * derivation.piece_count < width {
-            return false;
-        }
-        let whole = Extract {
-            signal: 0,
-            width: width as u16,
-            lsb: 0,
-        };
-        if any_bad_pick(whole, description, used_part(input, bytes)) {
-            return false;
-        }
-        i += 1;
-    }
-    true
-}
-
-// Number 10, of inputs that are not refused before. One look at each input spares one for each piece.
-fn any_bad_code(
-    derivation: DerivedBitVecSignal,
-    inputs: Inputs,
-    bytes: &[u8],
-    indices: &[u32],
-) -> bool
-    requires { Readable derivation inputs bytes.now indices.now }
-    ensures { result ≡ any (code_is_bad (kept_all bytes.now indices.now inputs)) (pieces_of derivation) }
-{
-    if all_coded(derivation, inputs, bytes, indices) {
-        return false;
-    }
-    any_bad_piece(derivation, inputs, bytes, indices)
+    let pieces = derivation.pieces();
+    pieces
+        .iter()
+        .any(|piece| is_coded_badly(Extract::from(*piece), sources))
 }
 
 // The first number before 7 that refuses a derivation of these inputs.
-pub fn first_refusal(
-    derivation: DerivedBitVecSignal,
-    inputs: Inputs,
-    bytes: &[u8],
-    indices: &[u32],
-) -> Verdict
-    ensures { verdict_reply result ≡ tried (first_tests derivation inputs bytes.now indices.now) (given tt) }
+pub fn first_refusal(derivation: &DerivedBitVecSignal, sources: &Sources) -> Result<(), Refusal>
+    ensures { verdict_reply result ≡ tried (first_tests derivation.now sources.now.inputs.now sources.now.bytes.now sources.now.indices.now) (given tt) }
 {
-    if any_fails(InputTest::BadRecord, inputs, bytes, indices) {
-        return Verdict::Refused(Refusal::BadRecord);
+    if sources.any_bad() {
+        return Err(Refusal::BadRecord);
     }
-    if is_unfit(derivation, inputs, bytes, indices) {
-        return Verdict::Refused(Refusal::BadDerivation);
+    if is_unfit(derivation, sources) {
+        return Err(Refusal::BadDerivation);
     }
-    if any_fails(InputTest::Late, inputs, bytes, indices) {
-        return Verdict::Refused(Refusal::LateInput);
+    if sources.any_late() {
+        return Err(Refusal::LateInput);
     }
-    if any_fails(InputTest::Falling, inputs, bytes, indices) {
-        return Verdict::Refused(Refusal::IndexFalls);
+    if sources.any_falling() {
+        return Err(Refusal::IndexFalls);
     }
-    if any_fails(InputTest::BadMark, inputs, bytes, indices) {
-        return Verdict::Refused(Refusal::BadMark);
+    if sources.any_marked_badly() {
+        return Err(Refusal::BadMark);
     }
-    if any_bad_code(derivation, inputs, bytes, indices) {
-        return Verdict::Refused(Refusal::BadCode);
+    if any_bad_code(derivation, sources) {
+        return Err(Refusal::BadCode);
     }
-    Verdict::Accepted
+    Ok(())
 }

@@ -1,12 +1,11 @@
 -- `steps::step::advance` meets its contract: the inputs passed have moved, and the others not yet.
 -- Assumes nothing.
-use Prim.Native.Nat.{◌≤◌}
-use Rattle.steps.specs.Table.{inputs_in}
-use Rattle.steps.proofs.Loops.{Moved}
+use lib.ListN.{drop, take}
+use mathlib.Core.List.{◌++◌, map}
+use mathlib.Core.Path.{◌≡◌}
+use Rattle.steps.specs.Stepping.{advanced}
 use Rattle.steps.proofs.step.advance.Given as goal
 
-abbrev pub invariant-loop-i : goal.invariant-loop-i
-invariant-loop-i l = (l.i ≤ l.count) × Moved (inputs_in l.count l.numbers l.starts) l.indices l.index l.initial.begun l.begun l.i
-
-abbrev pub decreases-loop-i : goal.decreases-loop-i
-decreases-loop-i l = l.i
+abbrev pub invariant-loop-cursor : goal.invariant-loop-cursor
+invariant-loop-cursor l =
+    l.cursors ≡ map (advanced l.indices l.index) (take l.cursor-index l.initial.cursors) ++ drop l.cursor-index l.initial.cursors

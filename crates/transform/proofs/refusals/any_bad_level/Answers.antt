@@ -1,42 +1,25 @@
 -- `transform::refusals::any_bad_level` meets its contract.
 -- Assumes nothing.
-use lib.Seq.{take_all}
-use mathlib.Core.List.{[]}
-use mathlib.Core.Path.{◌∙◌, sym}
+use Prim.Native.Nat.{◌+◌, ◌-◌, ℕ}
+use borrow.Author.Tests.{tests}
+use lib.ListN.{get_or}
+use mathlib.Core.Bool.{Bool}
+use mathlib.Core.Path.{◌∙◌, refl}
 use native.Mathlib.Omega.{arith}
+use Rattle.std.proofs.Common.{rules}
+use Rattle.std.proofs.lemmas.Iterator.{YieldsList-from_range}
+use Rattle.std.proofs.lemmas.Iterator.Search.{any_from_yields_List}
+use Rattle.value.specs.Level.{is_no_code}
 use Rattle.signal.specs.Decode.{codes_at}
-use Rattle.signal.proofs.Decoding.{bad_at, none_more, none_yet}
-use Rattle.transform.specs.Derive.{picked_of}
-use Rattle.transform.proofs.PieceTests.{pick_code, pick_count}
+use Rattle.derivation.specs.Piece.{end_of}
+use Rattle.transform.proofs.PieceTests.{any_picked}
 use Rattle.transform.proofs.refusals.any_bad_level.Goals as goal
-
-pub loop-i-init : goal.loop-i-init
-loop-i-init c = (omega arith, none_yet [])
-
-pub code_at-requires : goal.code_at-requires
-code_at-requires c = (c.requires.0, omega arith)
-
-pub returns-then-code_at-ge9 : goal.returns-then-code_at-ge9
-returns-then-code_at-ge9 c =
-    let a = c.args in
-    let cs = picked_of a.extract (codes_at a.width a.states a.levels.now) in
-    bad_at cs c.loop-i.i (rw (pick_count a.extract a.width a.states a.levels.now c.requires.1) c.loop-i-test.true) c.code_at.result
-    (c.code_at.ensures ∙ pick_code a.extract a.width a.states a.levels.now c.requires.1 c.loop-i.i c.loop-i-test.true)
-    c.if-code_at-ge9.true
-
-pub loop-i-preserved : goal.loop-i-preserved
-loop-i-preserved c =
-    let a = c.args in
-    let cs = picked_of a.extract (codes_at a.width a.states a.levels.now) in (
-      omega arith,
-      none_more cs c.loop-i.i (rw (pick_count a.extract a.width a.states a.levels.now c.requires.1) c.loop-i-test.true) c.code_at.result
-          (c.code_at.ensures ∙ pick_code a.extract a.width a.states a.levels.now c.requires.1 c.loop-i.i c.loop-i-test.true)
-          c.if-code_at-ge9.false c.loop-i.invariant.1,
-    )
 
 pub returns : goal.returns
 returns c =
     let a = c.args in
-    let cs = picked_of a.extract (codes_at a.width a.states a.levels.now) in
-    let t = take_all c.loop-i.i cs (rw (pick_count a.extract a.width a.states a.levels.now c.requires.1) c.loop-i-test.false) in
-    sym (rw t at c.loop-i.invariant.1)
+    let e = a.extract in
+    let p = a.levels.now in
+    let test : ℕ → Bool = λ i. is_no_code (get_or (codes_at p.width p.states p.bytes.now) (p.width - end_of e + i) 0) in
+    any_from_yields_List test _ _ _ c.any.ensures.ran (YieldsList-from_range 0 c.from-count.result e.width refl (omega (arith, c.from-count.ensures))) (λ x b q k. search (rules, tests))
+    ∙ any_picked e p.width p.states p.bytes.now c.requires is_no_code

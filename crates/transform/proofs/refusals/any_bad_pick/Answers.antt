@@ -1,56 +1,35 @@
 -- `transform::refusals::any_bad_pick` meets its contract.
 -- Assumes nothing.
-use borrow.Author.Count.{below_more}
-use mathlib.Core.Path.{◌∙◌, sym}
+use Prim.Native.Nat.{ℕ}
+use borrow.Author.Tests.{tests}
+use mathlib.Core.Bool.{Bool}
+use mathlib.Core.Path.{◌∙◌, refl, sym}
 use native.Mathlib.Omega.{arith}
-use Rattle.signal.proofs.Entries.{entries_none, entries_one}
-use Rattle.signal.proofs.Reading.{inside, no_text}
+use Rattle.std.proofs.Common.{rules}
+use Rattle.std.proofs.lemmas.Iterator.{YieldsList-from_range, serves_from_Range}
+use Rattle.std.proofs.lemmas.Iterator.Search.{any_from_yields_List}
+use Rattle.value.specs.Level.{has_no_code}
+use Rattle.signal.specs.Decode.{entry_at, levels_in}
+use Rattle.signal.proofs.Entries.{entries_none}
 use Rattle.steps.specs.Refusals.{kept_with}
-use Rattle.transform.specs.Derive.{pick_is_bad}
-use Rattle.transform.proofs.PieceTests.{levels_as, no_levels, pick_below, picks}
+use Rattle.steps.proofs.Anys.{any_entry}
+use Rattle.transform.specs.Derive.{pick_is_bad, picked_of}
+use Rattle.transform.proofs.PieceTests.{none_below}
 use Rattle.transform.proofs.refusals.any_bad_pick.Goals as goal
-
-pub returns-in_default : goal.returns-in_default
-returns-in_default c indices l =
-    let a = c.args in
-    sym (entries_none (kept_with a.description a.used.now indices) (pick_is_bad a.extract) (λ i h. no_levels a.extract a.description.encoding _ (no_text a.description.encoding c.in_default.not-BitVector)))
 
 pub returns-then-bits-lt4 : goal.returns-then-bits-lt4
 returns-then-bits-lt4 c indices l =
     let a = c.args in
-    sym
-    (entries_none (kept_with a.description a.used.now indices) (pick_is_bad a.extract)
-    (λ i h.
-    levels_as a.extract _ c.in-BitVector.is
-    (pick_below (picks a.extract a.description a.used.now c.requires _ _ c.in-BitVector.is i (omega arith)) (rw c.bits.ensures at c.if-bits-lt4.true))))
+    sym (entries_none (kept_with a.description a.used.now indices) (pick_is_bad a.extract)
+    (λ i h. none_below a.extract a.description a.used.now c.requires (omega (arith, rw c.largest.ensures at c.bits.ensures)) i (rw l at h)))
 
-pub loop-k-init : goal.loop-k-init
-loop-k-init c = (omega arith, λ j h. absurd (omega arith))
-
-pub entry_at-entry-requires : goal.entry_at-entry-requires
-entry_at-entry-requires c =
-    inside (record { sound = c.requires.stands; below = c.loop-k-test.true })
-
-pub has_bad_pick-requires : goal.has_bad_pick-requires
-has_bad_pick-requires c =
-    rw c.entry_at-entry.ensures (picks c.args.extract c.args.description c.args.used.now c.requires _ _ c.in-BitVector.is c.loop-k.k c.loop-k-test.true)
-
-pub returns-then-has_bad_pick : goal.returns-then-has_bad_pick
-returns-then-has_bad_pick c indices l =
-    let a = c.args in
-    sym
-    (entries_one (kept_with a.description a.used.now indices) (pick_is_bad a.extract) c.loop-k.k (rw l c.loop-k-test.true)
-    (levels_as a.extract _ c.in-BitVector.is (rw c.entry_at-entry.ensures at (sym c.has_bad_pick.ensures ∙ c.if-has_bad_pick.true))))
-
-pub loop-k-preserved : goal.loop-k-preserved
-loop-k-preserved c =
-    let a = c.args in (
-      omega arith,
-      below_more _ c.loop-k.k c.loop-k.invariant.1
-          (levels_as a.extract _ c.in-BitVector.is (rw c.entry_at-entry.ensures at (sym c.has_bad_pick.ensures ∙ c.if-has_bad_pick.false))),
-    )
+pub any-requires-clause-callable : goal.any-requires-clause-callable
+any-requires-clause-callable c = serves_from_Range (λ x q r. search rules) (λ x l h. let s = c.requires in search rules)
 
 pub returns : goal.returns
 returns c indices l =
     let a = c.args in
-    sym (entries_none (kept_with a.description a.used.now indices) (pick_is_bad a.extract) (λ i h. c.loop-k.invariant.1 i (omega arith)))
+    let d = a.description in
+    let test : ℕ → Bool = λ k. has_no_code (picked_of a.extract (levels_in d.encoding (entry_at d.encoding 0 a.used.now k))) in
+    any_from_yields_List test _ _ _ c.any.ensures.ran (YieldsList-from_range 0 d.count d.count refl (omega arith)) (λ x b q k. search (rules, tests))
+    ∙ any_entry (kept_with d a.used.now indices) (pick_is_bad a.extract) test (λ k i. refl) d.count l

@@ -1,35 +1,50 @@
 -- `transform::refusals::has_bad_pick` meets its contract.
 -- Assumes nothing.
-use mathlib.Core.Path.{◌∙◌, ◌≡◌, ap, refl, sym}
-use Rattle.value.specs.Level.{set_at}
-use Rattle.signal.specs.Decode.{mark_in}
-use Rattle.signal.proofs.Decoding.{mark_by}
-use Rattle.signal.proofs.Reading.{some}
-use Rattle.transform.proofs.PieceTests.{pick_few, pick_levels, pick_owned}
-use Rattle.transform.proofs.refusals.has_bad_pick.Goals.{After-bits}
+use mathlib.Core.Path.{◌∙◌, ◌≡◌, ap, sym}
+use Rattle.signal.proofs.Reading.{inside, no_text}
+use Rattle.signal.specs.Decode.{entry_at}
+use Rattle.signal.specs.Packed.{is_packed}
+use Rattle.signal.specs.Parts.{Unpacked, unpacked}
+use native.Mathlib.Omega.{arith}
+use Rattle.transform.specs.Refusals.{EntryPick}
+use Rattle.transform.proofs.PieceTests.{levels_as, no_levels, pick_few, pick_levels, picks}
+use Rattle.transform.proofs.refusals.has_bad_pick.Goals.{After-entry_at, After-marked_levels-levels}
 use Rattle.transform.proofs.refusals.has_bad_pick.Goals as goal
 
--- the set is the own one
-own : (b : After-bits) → b.states_in-states.result ≡ set_at (mark_in b.args.max_states b.args.entry.now)
-own b = b.states_in-states.ensures ∙ ap set_at (mark_by _ _ _ _ b.mark.ensures refl)
+-- the entry
+module _ (b : After-entry_at) where
+  pick : EntryPick b.args.extract b.in-BitVector.width b.in-BitVector.max_states (entry_at b.args.description.encoding 0 b.args.used.now b.args.k)
+  pick = picks b.args.extract b.args.description b.args.used.now b.requires.0 _ _ b.in-BitVector.is b.args.k b.requires.1
 
-pub states_in-states-requires : goal.states_in-states-requires
-states_in-states-requires c = some c.requires.whole
+pub returns-in_default : goal.returns-in_default
+returns-in_default c = sym (no_levels c.args.extract c.args.description.encoding _ (no_text c.args.description.encoding c.in_default.not-BitVector))
 
-pub returns-then-bits-lt4 : goal.returns-then-bits-lt4
-returns-then-bits-lt4 c =
-    sym (pick_few c.requires c.states_in-states.result (own (goal.at.returns-then-bits-lt4 c).After-bits) (rw c.bits.ensures at c.if-bits-lt4.true))
+pub entry_at-requires : goal.entry_at-requires
+entry_at-requires c = inside (record { sound = c.requires.0.stands; below = c.requires.1 })
 
-pub level_part-requires : goal.level_part-requires
-level_part-requires c =
-    (pick_owned c.requires c.states_in-states.result (own (goal.at.level_part-requires c).After-bits)).within
+pub invariant_of-entry : goal.invariant_of-entry
+invariant_of-entry c = record { whole = rw c.entry_at.ensures (pick (goal.at.invariant_of-entry c).After-entry_at).whole }
+
+pub marked_levels-levels-requires : goal.marked_levels-levels-requires
+marked_levels-levels-requires c = rw c.entry_at.ensures (pick (goal.at.marked_levels-levels-requires c).After-entry_at).marked
+
+-- its levels
+module _ (m : After-marked_levels-levels) where
+  told : is_packed m.marked_levels-levels.result ≡ unpacked m.in-BitVector.width m.in-BitVector.max_states (entry_at m.args.description.encoding 0 m.args.used.now m.args.k)
+  told = m.marked_levels-levels.ensures ∙ ap (unpacked m.in-BitVector.width m.in-BitVector.max_states) m.entry_at.ensures
 
 pub has_bad_level-requires : goal.has_bad_level-requires
 has_bad_level-requires c =
-    let o = pick_owned c.requires c.states_in-states.result (own (goal.at.has_bad_level-requires c).After-bits) in
-    (rw (c.level_part.ensures, o.part) o.levels, c.requires.inside, rw c.bits.ensures at c.if-bits-lt4.false)
+    let at = goal.at.has_bad_level-requires c in
+    let n : c.marked_levels-levels.result.width ≡ c.in-BitVector.width = ap (λ (u : Unpacked). u.width) (told at.After-marked_levels-levels) in
+    (rw n (pick at.After-entry_at).inside, omega (arith, c.bits.ensures, c.if-bits-lt4.false))
+
+pub returns-then-bits-lt4 : goal.returns-then-bits-lt4
+returns-then-bits-lt4 c =
+    let at = goal.at.returns-then-bits-lt4 c in
+    sym (levels_as c.args.extract _ c.in-BitVector.is (pick_few (pick at.After-entry_at) (told at.After-marked_levels-levels) (omega (arith, c.bits.ensures, c.if-bits-lt4.true))))
 
 pub returns : goal.returns
 returns c =
-    c.has_bad_level.ensures
-    ∙ pick_levels c.requires c.states_in-states.result (own (goal.at.returns c).After-bits) _ c.level_part.ensures
+    let at = goal.at.returns c in
+    sym (levels_as c.args.extract _ c.in-BitVector.is (sym (c.has_bad_level.ensures ∙ pick_levels (pick at.After-entry_at) (told at.After-marked_levels-levels))))
