@@ -7,7 +7,7 @@ ghost use Rattle.steps.specs.Inputs.{indices_fall, is_bad_input, is_no_bit_vecto
 ghost use Rattle.steps.specs.Refusals.{Stand, bad_in, is_bad_in, its_inputs, its_record, its_records, kept_with};
 
 use crate::{Input, Sources};
-use fst::record::is_bad;
+use fst::record::{Slices, is_bad};
 use fst::{Description, Encoding};
 use offset::falls;
 use signal::decode::own_mark;
@@ -62,13 +62,13 @@ impl Sources<'_> {
     fn is_bad(&self, input: &Input) -> bool
         ensures { result ≡ is_bad_in self.now input.now }
     {
-        is_bad(
-            input.description,
-            self.bytes,
-            input.byte_start,
-            self.indices,
-            input.index_start,
-        )
+        let slices = Slices {
+            bytes: self.bytes,
+            byte_start: input.byte_start,
+            indices: self.indices,
+            index_start: input.index_start,
+        };
+        is_bad(input.description, slices)
     }
 
     // Whether it is empty or starts past index 0.
