@@ -4,14 +4,17 @@ use mathlib.Core.Path.{◌≡◌, refl, sym, ap, ap₂, ◌∙◌}
 use mathlib.Core.Bool.{Bool, true, false, cond, ◌||◌}
 use mathlib.Core.List.{List, [], ◌∷◌, ◌++◌, map}
 use Prim.Native.Nat.{ℕ, zero, suc, ◌+◌, ◌-◌, ◌*◌, ◌/◌, ◌%◌, ◌^◌, ◌≤◌, ◌<◌}
-use native.Mathlib.Nat.{le_refl, mod-lt, mod-eq_of_lt, div-add-mod', add_comm, zero-add, zero-mul, suc-mul}
+use native.Mathlib.Nat.{le_refl, mod-lt, mod-eq_of_lt, div-add-mod', add_comm, add-zero, mul-zero, mul-suc, zero-add, zero-mul, suc-mul}
 use native.Mathlib.Omega.{arith}
 use borrow.Author.Tests.{lt-ltb}
 use lib.Bits.{bit_and, bit_or, or_shifted}
 use lib.Dec.{T, leb, ltb}
-use lib.ListN.{length, take, drop, replicate}
+use lib.ListN.{length, get_or, take, drop, replicate, length-drop}
 use lib.Pow.{pow_pos, high, ones_lt, ones_split, shl_exact}
-use lib.Seq.{take_all}
+use lib.Seq.{take_all, drop-drop, length-take-le}
+use native.Mathlib.Numerals.{add-one}
+use Rattle.std.specs.Simd.{first_chunks}
+use Rattle.wavemem.proofs.Parts.{chunk_at}
 use Rattle.value.specs.declared.States.{States}
 use Rattle.value.specs.declared.States.TheVariants.{Two, Four, Nine}
 use Rattle.value.specs.Digits.{number, digits, Below}
@@ -260,13 +263,50 @@ module _ {w : ℕ} {levels : List ℕ} {i k : ℕ} where
   more Four b l = record { bytes = omega (arith, b.rest, b.whole); room = omega (arith, b.rest, b.whole); next = record { some = omega arith; within = omega (arith, b.rest, b.whole); rest = omega (arith, b.rest, b.whole); whole = omega (arith, b.rest, b.whole) } }
   more Nine b l = record { bytes = omega (arith, b.rest, b.whole); room = omega (arith, b.rest, b.whole); next = record { some = omega arith; within = omega (arith, b.rest, b.whole); rest = omega (arith, b.rest, b.whole); whole = omega (arith, b.rest, b.whole) } }
 
-  pub all_begun : (S : States) → Begun w S levels i k → w ≤ i → codes_so_far S levels i k ≡ codes_at w S levels
-  all_begun S b l = ap₂ (λ (n : ℕ) (v : List ℕ). digits (2 ^ bits_of S) n (number 256 v)) (go S b).0 (take_all k levels (go S b).1)
+  -- bytes that are left hold levels that are left
+  pub left_begun : (S : States) → Begun w S levels i k → k < length levels → i < w
+  left_begun Two b l = omega (arith, b.rest)
+  left_begun Four b l = omega (arith, b.rest)
+  left_begun Nine b l = omega (arith, b.rest)
+
+  pub all_begun : (S : States) → Begun w S levels i k → length levels ≤ k → codes_so_far S levels i k ≡ codes_at w S levels
+  all_begun S b l = ap₂ (λ (n : ℕ) (v : List ℕ). digits (2 ^ bits_of S) n (number 256 v)) (go S b) (take_all k levels l)
     where
-      go : (S : States) → Begun w S levels i k → (i ≡ w) × (length levels ≤ k)
-      go Two b = (omega (arith, b.rest), omega (arith, b.rest))
-      go Four b = (omega (arith, b.rest), omega (arith, b.rest))
-      go Nine b = (omega (arith, b.rest), omega (arith, b.rest))
+      go : (S : States) → Begun w S levels i k → i ≡ w
+      go Two b = omega (arith, b.rest)
+      go Four b = omega (arith, b.rest)
+      go Nine b = omega (arith, b.rest)
+
+-- no word, and one word more
+pub word_none : (S : States) (i : ℕ) → i + per_word S * 0 ≡ i
+word_none S i = rw mul-zero (add-zero i)
+
+pub word_more : (S : States) (i n : ℕ) → i + per_word S * (n + 1) ≡ i + per_word S * n + per_word S
+word_more S i n = rw (add-one, mul-suc (per_word S) n) (omega arith)
+
+-- whether a word is left behind k bytes and i words
+module _ (levels : List ℕ) (k i : ℕ) (h : k ≤ length levels) where
+  rest_long : length (take (length levels - k) (drop k levels)) ≡ length levels - k
+  rest_long = length-take-le (length levels - k) (drop k levels) (rw length-drop (omega arith))
+
+  pub word_left : i < length (take (length levels - k) (drop k levels)) / 8 → k + i * 8 < length levels
+  word_left l = omega (arith, rest_long)
+
+  pub word_end : length (take (length levels - k) (drop k levels)) / 8 ≤ i → (length levels - (k + i * 8)) % 8 ≡ 0 → length levels ≤ k + i * 8
+  word_end l e = omega (arith, rest_long)
+
+-- the words behind k bytes
+pub word_is : (levels : List ℕ) (k i : ℕ) {words : List (List ℕ)} → k ≤ length levels
+    → let v = take (length levels - k) (drop k levels) in
+    words ≡ first_chunks 8 (length v / 8) v → i < length v / 8 → get_or words i [] ≡ part (k + i * 8) 8 levels
+unfolding part
+word_is levels k i h e l =
+    let v = take (length levels - k) (drop k levels) in
+    let r : v ≡ drop k levels = take_all (length levels - k) (drop k levels) (rw length-drop (omega arith)) in
+    ap (λ (ws : List (List ℕ)). get_or ws i []) e
+    ∙ chunk_at 8 (length v / 8) i v [] l
+    ∙ ap (λ (u : List ℕ). take 8 (drop (i * 8) u)) r
+    ∙ ap (take 8) (drop-drop (i * 8) k levels)
 
 or_true : (b : Bool) → b || true ≡ true
 or_true true = refl

@@ -66,13 +66,11 @@ fn number_of(bytes: &[u8]) -> u64
     requires { length bytes.now ≤ 8 }
     ensures { result ≡ number 256 bytes.now }
 {
-    if bytes.len() == 8 {
-        return word(bytes);
+    match bytes.len() {
+        8 => word(bytes),
+        2 => number_at(bytes, 0, 2),
+        size => number_at(bytes, 0, size),
     }
-    if bytes.len() == 2 {
-        return number_at(bytes, 0, 2);
-    }
-    number_at(bytes, 0, bytes.len())
 }
 
 // The first levels, as many as one word holds at most. Bits above them are none of theirs.
@@ -91,16 +89,13 @@ fn bits_of(states: States, width: u32, levels: &[u8]) -> Option<u64>
     ensures { result ≡ bits_of_levels (codes_at width states levels.now) }
 {
     let per_word = 64 / states.bits();
-    let mut i = (width - 1) % per_word + 1;
-    let mut k = states.bytes_required(i);
-    let first = first_word(states, i, levels);
-    let mut working = bits_of_word(states, first)?;
-    while i < width {
-        let to = k + 8;
-        let more = bits_of_word(states, word(&levels[k..to]))?;
+    let first = (width - 1) % per_word + 1;
+    let k = states.bytes_required(first);
+    let mut working = bits_of_word(states, first_word(states, first, levels))?;
+    let (words, _) = levels[k..].as_chunks::<8>();
+    for bytes in words {
+        let more = bits_of_word(states, word(bytes))?;
         working = (working << per_word) | more;
-        i += per_word;
-        k = to;
     }
     Some(working)
 }

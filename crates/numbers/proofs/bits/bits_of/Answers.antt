@@ -1,25 +1,23 @@
 -- `numbers::bits::bits_of` meets its contract: the bits are those of the levels so far.
 -- Assumes nothing.
-use mathlib.Core.Path.{◌≡◌, refl, sym, ap, ◌∙◌}
-use Prim.Native.Nat.{ℕ, ◌+◌, ◌-◌, ◌/◌, ◌%◌, ◌^◌, ◌≤◌, ◌<◌}
+use mathlib.Core.Path.{◌≡◌, refl, sym, ap, ◌∙◌, subst}
+use native.Mathlib.Nat.{add-zero}
+use lib.Bits.{bit_or}
+use Prim.Native.Nat.{ℕ, ◌+◌, ◌-◌, ◌*◌, ◌/◌, ◌%◌, ◌^◌, ◌≤◌}
 use native.Mathlib.Omega.{arith}
-use lib.ListN.{length, take, drop, length-drop}
-use lib.Seq.{length-take-le}
+use lib.ListN.{length}
 use Rattle.value.specs.Digits.{number, digits}
 use Rattle.value.specs.Slice.{part}
 use Rattle.value.specs.Level.{bits_of}
 use Rattle.value.proofs.Digits.{below_all}
 use Rattle.value.proofs.Levels.{bits_pos}
 use Rattle.numbers.specs.Parts.{bits_of_levels}
-use Rattle.numbers.proofs.Words.{per_word, Begun, More, codes_so_far, bits_known, bits_other, known_bits, other_bits, word_some, word_holds, word_room, per_small, few_bytes, first_begun, first_told, more, known_more, other_begun, other_more, all_begun}
-use Rattle.numbers.proofs.bits.bits_of.Goals.{After-bits-per_word, After-bits_of_word, After-bytes_required-k, After-word, In-loop-i, Start}
+use Rattle.numbers.proofs.Words.{per_word, Begun, More, codes_so_far, bits_known, bits_other, known_bits, other_bits, word_holds, first_begun, first_told, more, left_begun, word_none, word_more, word_left, word_end, word_is, Known, known_more, other_begun, other_more, all_begun}
+use Rattle.numbers.proofs.bits.bits_of.Goals.{After-bits-per_word, After-bits_of_word, After-bytes_required-k, After-word}
 use Rattle.numbers.proofs.bits.bits_of.Goals as goal
 
 per : (c : After-bits-per_word) → 64 / c.bits-per_word.result ≡ per_word c.args.states
 per c = ap (λ (b : ℕ). 64 / b) c.bits-per_word.ensures
-
-few : (c : Start) → length c.args.levels.now ≤ 32
-few c = few_bytes c.args.states c.requires
 
 -- the first levels
 begun : (c : After-bytes_required-k) → 64 / c.bits-per_word.result ≡ per_word c.args.states
@@ -32,48 +30,10 @@ told : (c : After-bits_of_word) → 64 / c.bits-per_word.result ≡ per_word c.a
     bits_of_levels (codes_so_far a.states a.levels.now ((a.width - 1) % (64 / c.bits-per_word.result) + 1) c.bytes_required-k.result) ≡ c.bits_of_word.result
 told c e =
     let a = c.args in
-    first_told a.states a.levels.now (word_holds a.states e (a.width - 1)).1 c.bytes_required-k.ensures c.first_word-first.ensures c.bits_of_word.ensures
-
--- one word more
-turn : (c : In-loop-i)
-    → let a = c.args in
-    More a.width a.states a.levels.now c.loop-i.i c.loop-i.k
-turn c = more c.args.states c.loop-i.invariant.0 c.loop-i-test.true
-
-word_is : (c : After-word)
-    → c.word.result ≡ number 256 (part c.loop-i.k 8 c.args.levels.now)
-unfolding part
-word_is c =
-    let k = c.loop-i.k in
-    let z : k + 8 - k ≡ 8 = omega arith in
-    c.word.ensures ∙ ap (λ (n : ℕ). number 256 (take n (drop k c.args.levels.now))) z
-
--- what is known behind a word
-room : (c : In-loop-i) → let S = c.args.states in (c.loop-i.i + per_word S ≤ c.args.width) × (per_word S < 64)
-room c =
-    let h = (turn c).room in
-    let few = c.requires.few in
-    (h, omega (arith, c.loop-i.invariant.0.some))
+    first_told a.states a.levels.now (word_holds a.states e (a.width - 1)).1 c.bytes_required-k.ensures c.first_word.ensures c.bits_of_word.ensures
 
 pub nonzero_div-per_word : goal.nonzero_div-per_word
 nonzero_div-per_word c = rw c.bits-per_word.ensures (bits_pos c.args.states)
-
-pub overflow_sub-i : goal.overflow_sub-i
-overflow_sub-i c = c.requires.some
-
-pub nonzero_rem-i : goal.nonzero_rem-i
-nonzero_rem-i c = word_some c.args.states (per (goal.at.nonzero_rem-i c).After-bits-per_word)
-
-pub overflow_add-i : goal.overflow_add-i
-overflow_add-i c =
-    let h = word_holds c.args.states (per (goal.at.overflow_add-i c).After-bits-per_word) (c.args.width - 1) in
-    omega (arith, h.1, per_small c.args.states)
-
-pub first_word-first-requires : goal.first_word-first-requires
-first_word-first-requires c =
-    let past = goal.at.first_word-first-requires c in
-    let h = word_holds c.args.states (per past.After-bits-per_word) (c.args.width - 1) in
-    (h.0, word_room c.args.states _ h.1, rw (← c.bytes_required-k.ensures) (begun past.After-bytes_required-k (per past.After-bits-per_word)).within)
 
 pub returns-in_err-working : goal.returns-in_err-working
 returns-in_err-working c =
@@ -81,60 +41,57 @@ returns-in_err-working c =
     rw c.from_residual.ensures
     (bits_other _ (other_begun (begun past.After-bytes_required-k (per past.After-bits-per_word)) (below_all 256 c.args.levels.now (λ i. omega (arith, c.type_inv.levels i))) (other_bits _ (told past.After-bits_of_word (per past.After-bits-per_word) ∙ c.in_err-working.was))))
 
-pub loop-i-init : goal.loop-i-init
-loop-i-init c =
-    let past = goal.at.loop-i-init c in
+pub loop-bytes-init : goal.loop-bytes-init
+loop-bytes-init c =
+    let past = goal.at.loop-bytes-init c in
+    rw (word_none c.args.states, add-zero)
     (begun past.After-bytes_required-k (per past.After-bits-per_word), known_bits _ (told past.After-bits_of_word (per past.After-bits-per_word) ∙ c.in_ok-working.was))
 
-pub overflow_add-to : goal.overflow_add-to
-overflow_add-to c =
-    let past = goal.at.overflow_add-to c in
-    omega (arith, (turn past.In-loop-i).bytes, few past.Start)
+-- the next word
+turn : (c : After-word) → c.bytes_required-k.result ≤ length c.args.levels.now
+    → let S = c.args.states in
+    let n = c.loop-bytes.bytes-index in
+    More c.args.width S c.args.levels.now ((c.args.width - 1) % (64 / c.bits-per_word.result) + 1 + per_word S * n) (c.bytes_required-k.result + n * 8)
+turn c k =
+    let S = c.args.states in
+    let b = c.loop-bytes.invariant.0 in
+    more S b (left_begun S b (word_left c.args.levels.now c.bytes_required-k.result c.loop-bytes.bytes-index k (rw c.as_chunks.ensures.front_len at c.loop-bytes-test.true)))
 
-pub slice_bounds-word-start : goal.slice_bounds-word-start
-slice_bounds-word-start c = omega (arith, (turn (goal.at.slice_bounds-word-start c).In-loop-i).bytes)
-
-pub slice_bounds-word-end : goal.slice_bounds-word-end
-slice_bounds-word-end c = (turn (goal.at.slice_bounds-word-end c).In-loop-i).bytes
-
-pub word-requires : goal.word-requires
-word-requires c =
-    let k = c.loop-i.k in
-    let v = c.args.levels.now in
-    length-take-le (k + 8 - k) (drop k v) (rw length-drop (omega (arith, (turn (goal.at.word-requires c).In-loop-i).bytes))) ∙ omega arith
+next_word : (c : After-word) → c.bytes_required-k.result ≤ length c.args.levels.now
+    → c.word.result ≡ number 256 (part (c.bytes_required-k.result + c.loop-bytes.bytes-index * 8) 8 c.args.levels.now)
+next_word c k =
+    c.word.ensures
+    ∙ ap (number 256) (word_is c.args.levels.now c.bytes_required-k.result c.loop-bytes.bytes-index k c.as_chunks.ensures.front (rw c.as_chunks.ensures.front_len at c.loop-bytes-test.true))
 
 pub returns-in_err-more : goal.returns-in_err-more
 returns-in_err-more c =
     let past = goal.at.returns-in_err-more c in
+    let S = c.args.states in
+    let k = (begun past.After-bytes_required-k (per past.After-bits-per_word)).within in
     rw c.from_residual-in_err-more.ensures
     (bits_other _
-    (other_more (turn past.In-loop-i) (below_all 256 c.args.levels.now (λ i. omega (arith, c.type_inv.levels i))) c.requires.few (other_bits _ (ap (λ (x : ℕ). bits_of_levels (digits (2 ^ bits_of c.args.states) (per_word c.args.states) x)) (sym (word_is past.After-word)) ∙ sym c.bits_of_word-in-loop-i.ensures ∙ c.in_err-more.was))))
+    (other_more (turn past.After-word k) (below_all 256 c.args.levels.now (λ i. omega (arith, c.type_inv.levels i))) c.requires.few
+    (other_bits _ (ap (λ (x : ℕ). bits_of_levels (digits (2 ^ bits_of S) (per_word S) x)) (sym (next_word past.After-word k)) ∙ sym c.bits_of_word-in-loop-bytes.ensures ∙ c.in_err-more.was))))
 
-pub overflow_cast-working : goal.overflow_cast-working
-overflow_cast-working c = omega (arith, per (goal.at.overflow_cast-working c).After-bits-per_word, per_small c.args.states)
-
-pub overflow_shl-working : goal.overflow_shl-working
-overflow_shl-working c =
-    let past = goal.at.overflow_shl-working c in
-    rw (per past.After-bits-per_word) (room past.In-loop-i).1
-
-pub overflow_add-i-in-loop-i : goal.overflow_add-i-in-loop-i
-overflow_add-i-in-loop-i c =
-    let past = goal.at.overflow_add-i-in-loop-i c in
-    rw (per past.After-bits-per_word) (omega (arith, (room past.In-loop-i).0))
-
-pub loop-i-smaller : goal.loop-i-smaller
-loop-i-smaller c =
-    let past = goal.at.loop-i-smaller c in
-    rw (per past.After-bits-per_word) (omega (arith, (room past.In-loop-i).0, word_some c.args.states refl))
-
-pub loop-i-preserved : goal.loop-i-preserved
-loop-i-preserved c =
-    let past = goal.at.loop-i-preserved c in
-    let h = turn past.In-loop-i in
-    rw (per past.After-bits-per_word)
-    (h.next, known_more h (below_all 256 c.args.levels.now (λ i. omega (arith, c.type_inv.levels i))) c.requires.few c.loop-i.invariant.1 (word_is past.After-word) (known_bits _ (sym c.bits_of_word-in-loop-i.ensures ∙ c.in_ok-more.was)))
+pub loop-bytes-preserved : goal.loop-bytes-preserved
+loop-bytes-preserved c =
+    let past = goal.at.loop-bytes-preserved c in
+    let S = c.args.states in
+    let n = c.loop-bytes.bytes-index in
+    let v = c.args.levels.now in
+    let i = (c.args.width - 1) % (64 / c.bits-per_word.result) + 1 in
+    let j = c.bytes_required-k.result in
+    let k = (begun past.After-bytes_required-k (per past.After-bits-per_word)).within in
+    let h = turn past.After-word k in
+    let e : j + (n + 1) * 8 ≡ j + n * 8 + 8 = omega arith in
+    let m = known_more h (below_all 256 v (λ x. omega (arith, c.type_inv.levels x))) c.requires.few c.loop-bytes.invariant.1 (next_word past.After-word k) (known_bits _ (sym c.bits_of_word-in-loop-bytes.ensures ∙ c.in_ok-more.was)) in
+    rw (word_more S i n, e)
+    (h.next, subst (λ (p : ℕ). Known (codes_so_far S v (i + per_word S * n + per_word S) (j + n * 8 + 8)) (bit_or (c.loop-bytes.working * 2 ^ p % 2 ^ 64) c.in_ok-more.more)) (sym (per past.After-bits-per_word)) m)
 
 pub returns : goal.returns
 returns c =
-    bits_known (rw (← all_begun c.args.states c.loop-i.invariant.0 c.loop-i-test.false) c.loop-i.invariant.1)
+    let past = goal.at.returns c in
+    let k = (begun past.After-bytes_required-k (per past.After-bits-per_word)).within in
+    let b = c.loop-bytes.invariant.0 in
+    let z = word_end c.args.levels.now c.bytes_required-k.result c.loop-bytes.bytes-index k (rw c.as_chunks.ensures.front_len at c.loop-bytes-test.false) b.whole in
+    bits_known (rw (← all_begun c.args.states b z) c.loop-bytes.invariant.1)

@@ -13,8 +13,8 @@ use Rattle.numbers.proofs.bits.number_of.Goals as goal
 whole : (v : List ℕ) {r n : ℕ} → r ≡ number 256 (part 0 n v) → length v ≡ n → r ≡ number 256 v
 whole v e l = e ∙ ap (λ (n : ℕ). number 256 (part 0 n v)) (sym l) ∙ ap (number 256) (part_all v)
 
-pub returns-then-bytes-eq2 : goal.returns-then-bytes-eq2
-returns-then-bytes-eq2 c = whole _ c.number_at.ensures c.if-bytes-eq2.true
+pub returns-in-2 : goal.returns-in-2
+returns-in-2 c = whole _ c.number_at.ensures c.in-2.is
 
-pub returns : goal.returns
-returns c = c.number_at-2.ensures ∙ ap (number 256) (part_all _)
+pub returns-in_default : goal.returns-in_default
+returns-in_default c = c.number_at-in_default.ensures ∙ ap (number 256) (part_all _)
