@@ -2,7 +2,7 @@
 -- Assumes nothing.
 use mathlib.Core.Path.{◌≡◌, refl, sym, ap, ap₂, ◌∙◌}
 use Prim.Native.Nat.{ℕ, zero, suc, ◌+◌, ◌-◌, ◌*◌, ◌≤◌, ◌<◌}
-use native.Mathlib.Nat.{suc-mul, add-zero, add_assoc, zero-mul, mul-le-mul_left, mul-le-mul_right, sub_self, sub-zero, mod-eq_of_lt}
+use native.Mathlib.Nat.{suc-mul, add-zero, add_assoc, mul-le-mul_left, mul-le-mul_right, sub_self, mod-eq_of_lt}
 use native.Mathlib.Numerals.{add-one}
 use native.Mathlib.Omega.{arith}
 use mathlib.Core.Bool.{Bool, true, false, cond}
@@ -118,9 +118,6 @@ module _ (m : Move) (grows : Grows m.from_size m.len m.zeros) (d : List ℕ) (st
       ap (λ (v : List ℕ). overlay (expanded m d start n (k + 1)) (start + k * T) (moved_entry m v)) u
       ∙ overlay_front d (start + k * T) (moved_entry m (part p F d)) rest (start + (k + 1) * T) (rw (s, b)) (rw b new)
       ∙ ap (overlay d (start + k * T)) t
-
-  pub all_expanded : expanded m d start n 0 ≡ overlay d start (moved_entries m n (part start (n * m.from_size) d))
-  all_expanded = rw (sub-zero, zero-mul, zero-mul, add-zero)
 
 -- ---- an entry's move is widening
 

@@ -2,7 +2,8 @@
 use Prim.Native.Nat.{◌+◌, ◌≤◌}
 use native.Mathlib.Omega.{arith}
 use Rattle.layout.specs.Expand.{widening_of}
-use Rattle.layout.proofs.Sizes.{len_le, len_pos, size_up, mark_room}
+use Rattle.layout.proofs.Sizes.{mark_room}
+use Rattle.layout.proofs.Expanding.{widening_grows}
 use Rattle.layout.proofs.expand.Widening.new.Goals.{After-entry_size-2}
 use Rattle.layout.proofs.expand.Widening.new.Goals as goal
 
@@ -19,21 +20,10 @@ pub overflow_sub-result-2 : goal.overflow_sub-result-2
 overflow_sub-result-2 c = omega (arith, room (goal.at.overflow_sub-result-2 c).After-entry_size-2)
 
 pub invariant_of-result : goal.invariant_of-result
+unfolding widening_of
 invariant_of-result c =
     let x = c.args in
-    let l = c.get_len_and_meta-old.ensures.0 in
-    record {
-      some = omega (arith, l, len_pos x.bits c.requires.0 x.from);
-      held = omega (arith, l, c.entry_size.ensures, len_le x.bits x.from);
-      wider =
-          omega (
-            arith,
-            c.entry_size.ensures,
-            c.entry_size-2.ensures,
-            size_up x.bits x.from x.to c.requires.1,
-            room (goal.at.invariant_of-result c).After-entry_size-2,
-          );
-    }
+    rw (c.entry_size.ensures, c.entry_size-2.ensures, c.get_len_and_meta-old.ensures.0) (widening_grows x.bits c.requires.0 x.from x.to c.requires.1 c.requires.2)
 
 pub returns : goal.returns
 unfolding widening_of
