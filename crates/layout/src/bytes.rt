@@ -5,7 +5,7 @@ ghost use Rattle.layout.specs.Blocks.{Halves};
 
 use crate::entry::push_zeros;
 
-// N bytes from p on.
+// N bytes from p on. No test is left of the conversion.
 #[inline(always)]
 pub fn read_block<const N: usize>(data: &[u8], p: usize) -> [u8; N]
     requires { p + N ≤ length «data».now }
@@ -14,6 +14,7 @@ pub fn read_block<const N: usize>(data: &[u8], p: usize) -> [u8; N]
     (&data[p..p + N]).try_into().unwrap()
 }
 
+// Not by `copy_from_slice`, which tests whether the two overlap, and so puts a block of 32 bytes on the stack.
 #[inline(always)]
 pub fn write_block<const N: usize>(data: &mut [u8], q: usize, block: &[u8; N])
     requires { q + N ≤ length «data».old }

@@ -111,7 +111,7 @@ impl<'a> NewEntry<'a> {
     }
 }
 
-// The number of the bytes from a place on. One byte, most entries of a wire, is read and stored without a loop.
+// The number of the bytes from a place on. One byte, an entry of a wire, is read without a loop.
 pub fn number_at(bytes: &[u8], at: usize, size: usize) -> u64
     requires { (size ≤ 8) × (at + size ≤ length bytes.now) }
     ensures { result ≡ number 256 (part at size bytes.now) }
@@ -124,7 +124,7 @@ pub fn number_at(bytes: &[u8], at: usize, size: usize) -> u64
         .fold(0, |number, byte| (number << 8) | u64::from(*byte))
 }
 
-// Stores the bytes of a number from a place on.
+// Stores the bytes of a number from a place on. One byte is stored without a loop too.
 pub fn write_number(number: u64, size: usize, out: &mut [u8], at: usize)
     requires { at + size ≤ length out.old }
     ensures { out.new ≡ overlay out.old at (digits 256 size number) }
