@@ -107,14 +107,7 @@ one_wire =
       inputs =
           record {
             count = 1;
-            input_0 = wire;
-            input_1 = wire;
-            input_2 = wire;
-            input_3 = wire;
-            input_4 = wire;
-            input_5 = wire;
-            input_6 = wire;
-            input_7 = wire;
+            inputs = replicate 8 wire;
           };
       bytes = 1 ∷ [];
       indices = 0 ∷ [];

@@ -2,13 +2,12 @@
 -- Assumes nothing.
 use mathlib.Core.Path.{◌≡◌, refl, ap}
 use mathlib.Core.Bool.{true}
-use mathlib.Core.List.{List, [], ◌∷◌}
+use mathlib.Core.List.{List}
 use Prim.Native.Nat.{ℕ}
 use Rattle.fst.specs.declared.Description.{Description}
 use Rattle.fst.specs.Refusal.{Reply}
 use Rattle.fst.specs.Record.{is_bad, width_stands}
 use Rattle.derivation.specs.declared.DerivedBitVecSignal.{DerivedBitVecSignal}
-use Rattle.steps.specs.declared.Input.{Input}
 use Rattle.steps.specs.declared.Inputs.{Inputs}
 use Rattle.steps.specs.Inputs.{is_bad_input}
 use Rattle.transform.specs.Derive.{Derived, derive}
@@ -25,11 +24,6 @@ use Rattle.yoksimert.specs.Derivations.{derivation_of, input_of, inputs_by, made
 pub unknown_is_bad : (f : FlatInput) (bytes indices : List ℕ) → {r : Refusal} → decoded f.description ≡ Err r → is_bad_input bytes indices (input_of f) ≡ true
 unfolding is_bad width_stands
 unknown_is_bad f bytes indices h = rw h refl
-
-pub inputs_by_lem : (f : FlatInputs) {a b c d e g h i : Input} → a ≡ input_of f.input_0 → b ≡ input_of f.input_1 → c ≡ input_of f.input_2
-    → d ≡ input_of f.input_3 → e ≡ input_of f.input_4 → g ≡ input_of f.input_5 → h ≡ input_of f.input_6 → i ≡ input_of f.input_7
-    → ◌≡◌ {A = Inputs} (record { count = f.count; slots = a ∷ b ∷ c ∷ d ∷ e ∷ g ∷ h ∷ i ∷ [] }) (inputs_by f)
-inputs_by_lem f p q r s t u v w = rw (p, q, r, s, t, u, v, w)
 
 module _ (f : FlatDerivation) (names pieces : List ℕ) (inputs : FlatInputs) (bytes indices out_bytes out_indices : List ℕ) where
   pub derive_by : {d : DerivedBitVecSignal} {is : Inputs} → d ≡ derivation_of f names pieces → is ≡ inputs_by inputs

@@ -1,7 +1,6 @@
 -- Descriptions as numbers: each comes back from its numbers, and numbers that are a description are that description's.
 -- Assumes nothing.
 use mathlib.Core.Path.{◌≡◌, refl, sym, ap, ◌∙◌}
-use mathlib.Core.Bool.{true, false}
 use Prim.Native.Nat.{ℕ, ◌≤◌, ◌<◌}
 use native.Mathlib.Omega.{arith}
 use borrow.Author.Tests.{eq-eqb, ne_eqb, le-leb, lt-leb}
@@ -14,14 +13,10 @@ use Rattle.fst.specs.declared.Encoding.{Encoding}
 use Rattle.fst.specs.declared.Encoding.TheVariants.{Event, Real, BitVector}
 use Rattle.fst.specs.declared.Description.{Description}
 use Rattle.fst.specs.Record.{described}
-use Rattle.fst.specs.declared.NextIndex.TheVariants as next
-use Rattle.offset.specs.declared.DataOffset.{DataOffset}
 use Rattle.yoksimert.specs.declared.FlatDescription.{FlatDescription}
-use Rattle.yoksimert.specs.declared.FlatMade.{FlatMade}
-use Rattle.yoksimert.specs.declared.FlatOffset.{FlatOffset}
 use Rattle.std.specs.Prelude.{Ok, Err}
 use Rattle.fst.specs.declared.Refusal.TheVariants.{BadRecord}
-use Rattle.yoksimert.specs.Flat.{known, decoded, flat_of, encoded, placed}
+use Rattle.yoksimert.specs.Flat.{known, decoded, flat_of, encoded}
 
 -- ---- what `decode` finds
 
@@ -56,19 +51,6 @@ module _ (f : FlatDescription) where
         pub no_kind : (f.kind ≡ 0 → ⊥) → (f.kind ≡ 1 → ⊥) → Err BadRecord ≡ decoded f
         unfolding decoded
         no_kind n m = rw (ne_eqb f.kind 2 k, eq-eqb f.width 0 w, eq-eqb f.set 0 s, ne_eqb f.kind 0 n, ne_eqb f.kind 1 m)
-
--- ---- what the numbers say
-
-pub made_of_lem : {f g : FlatDescription} → f ≡ g → ◌≡◌ {A = FlatMade} (record { number = 0; description = f }) (record { number = 0; description = g })
-made_of_lem q = rw q
-
-pub with_next : (o : DataOffset) (i : ℕ) → o.next_index ≡ next.At i
-    → ◌≡◌ {A = FlatOffset} (record { number = 0; found = true; start = o.start; elements = o.elements; time_match = o.time_match; has_next = true; next_index = i }) (placed o)
-with_next o i h = rw h
-
-pub with_none : (o : DataOffset) → o.next_index ≡ next.Absent
-    → ◌≡◌ {A = FlatOffset} (record { number = 0; found = true; start = o.start; elements = o.elements; time_match = o.time_match; has_next = false; next_index = 0 }) (placed o)
-with_none o h = rw h
 
 -- ---- there and back
 

@@ -1,30 +1,27 @@
 -- Where the part that Read gives lies: within its entry, at the entry's end.
 -- Assumes nothing.
 use mathlib.Core.Path.{◌≡◌, refl, sym, ap, ◌∙◌, subst}
-use mathlib.Core.Bool.{false}
 use mathlib.Core.List.{List, [], ◌∷◌}
 use Prim.Native.Nat.{ℕ, ◌+◌, ◌-◌, ◌*◌, ◌≤◌}
 use native.Mathlib.Omega.{arith}
-use borrow.Author.Tests.{ltb-false, leb-false}
+use borrow.Author.Tests.{leb-false}
 use lib.Dec.{leb}
 use lib.ListN.{length, drop, length-drop}
 use Rattle.value.specs.Slice.{part}
-use Rattle.value.specs.Level.{mark_of, set_at, len_of}
-use Rattle.value.proofs.Levels.{mark_set, mark_small}
+use Rattle.value.specs.Level.{len_of}
 use Rattle.value.proofs.Backward.{drop_part}
 use Rattle.layout.specs.Entry.{entry_size}
-use Rattle.layout.proofs.EntryParts.{len_fits}
 use Rattle.fst.specs.declared.Encoding.{Encoding}
 use Rattle.fst.specs.declared.Encoding.TheVariants.{Event, Real, BitVector}
 use Rattle.fst.specs.declared.Description.{Description}
 use Rattle.fst.specs.Refusal.{Test, given, ◌⇐◌}
 use Rattle.fst.specs.Record.{size_of, is_bad_bytes}
 use Rattle.fst.proofs.Refusals.{Result, through, stopped, result}
-use Rattle.signal.specs.Decode.{entry_at, mark_in, set_in, level_part, has_bad_mark}
+use Rattle.signal.specs.Decode.{entry_at, set_in, level_part, has_bad_mark}
 use Rattle.signal.specs.Parts.{Inside}
 use Rattle.signal.specs.Read.{Entry, entry_in, read_entry}
 use Rattle.signal.proofs.Reading.{HasEntry, inside, whole}
-use Rattle.yoksimert.specs.Flat.{level_length, flat_entry}
+use Rattle.yoksimert.specs.Flat.{flat_entry}
 
 -- ---- the levels of an entry
 
@@ -33,17 +30,6 @@ unfolding level_part
 level_short Event v = omega arith
 level_short Real v = omega arith
 level_short (BitVector w M) v = rw length-drop (omega arith)
-
--- behind a good mark they take the bytes that the own set asks
-level_long : (e : Encoding) (v : List ℕ) → length v ≡ size_of e → has_bad_mark e v ≡ false → level_length e (set_in e v) ≡ length (level_part e v)
-unfolding has_bad_mark set_in level_part
-level_long Event v h g = sym h
-level_long Real v h g = sym h
-level_long (BitVector w M) v h g =
-    let m : mark_in M v ≤ mark_of M = ltb-false _ _ g in
-    let s : mark_of (set_at (mark_in M v)) ≡ mark_in M v = mark_set (mark_in M v) (omega (arith, mark_small M)) in
-    let f : len_of w (set_at (mark_in M v)) ≤ entry_size w M = len_fits w (set_at (mark_in M v)) M (omega arith) in
-    rw length-drop (omega (arith, h))
 
 level_end : (e : Encoding) (v : List ℕ) → length v ≡ size_of e → level_part e v ≡ drop (size_of e - length (level_part e v)) v
 unfolding level_part
@@ -62,7 +48,6 @@ module _ (d : Description) (bytes : List ℕ) (start k : ℕ) where
     pub long : length (entry_at d.encoding start bytes k) ≡ size_of d.encoding
     pub part : e.part ≡ level_part d.encoding (entry_at d.encoding start bytes k)
     pub short : length e.part ≤ size_of d.encoding
-    pub own : level_length d.encoding e.set ≡ length e.part
 
   pub placed : (e : Entry) → read_entry d bytes start k ≡ given e → Placed e
   unfolding read_entry
@@ -86,7 +71,6 @@ module _ (d : Description) (bytes : List ℕ) (start k : ℕ) where
             long = l;
             part = refl;
             short = rw (← l) (level_short d.encoding v);
-            own = level_long d.encoding v l p.1.1.0;
           })
 
   -- what the numbers of an accepted Read point at is the part

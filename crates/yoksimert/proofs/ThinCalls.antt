@@ -9,27 +9,19 @@ use Rattle.fst.specs.declared.Encoding.{Encoding}
 use Rattle.fst.specs.declared.Encoding.TheVariants.{Event, Real, BitVector}
 use Rattle.fst.specs.declared.Description.{Description}
 use Rattle.fst.specs.declared.Added.{Added}
-use Rattle.fst.specs.declared.Refusal.{Refusal}
-use Rattle.fst.specs.declared.Made.{Made}
-use Rattle.fst.specs.declared.Made.TheVariants as made
-use Rattle.fst.specs.Refusal.{Reply, given, tried, Outcome, outcome, refusal_number, number_of, made_of}
-use Rattle.fst.specs.Record.{Lent, Kept, Recorder, size_of, width_of, kept_in, fresh}
+use Rattle.fst.specs.Refusal.{Reply, given, tried, Outcome, outcome, number_of}
+use Rattle.fst.specs.Record.{Lent, Kept, Recorder, size_of, width_of, kept_in}
 use Rattle.fst.specs.Change.{Change, text, real, appended, changed, with_change, refusals, in_hand, stored, add_change, left_by}
 use Rattle.entries.specs.Repeats.{repeats}
 use Rattle.fst.proofs.Refusals.{Result, through, stopped, result}
 use Rattle.signal.specs.Read.{kind_of}
 use Rattle.yoksimert.specs.declared.FlatDescription.{FlatDescription}
-use Rattle.yoksimert.specs.declared.recorder.Recorded.{Recorded}
 use Rattle.std.specs.Prelude.{Ok}
 use Rattle.yoksimert.specs.Flat.{decoded, kind_number, encoded}
 use Rattle.yoksimert.specs.Exports.{flat_add, left_by_flat}
-use Rattle.yoksimert.specs.Recorder.{recorded_by, added_to, made_over, flat_fresh}
+use Rattle.yoksimert.specs.Recorder.{recorded_by}
 use Rattle.yoksimert.proofs.Numbers.{forth}
 use Rattle.yoksimert.proofs.Flattened.{add_known}
-
-pub left_equal : {n m : ℕ} {f g : FlatDescription} → n ≡ m → f ≡ g
-    → ◌≡◌ {A = Recorded} (record { number = n; set = f.set; count = f.count }) (record { number = m; set = g.set; count = g.count })
-left_equal p q = rw (p, q)
 
 -- ---- kind and width
 
@@ -77,11 +69,8 @@ added_alike d l i c = go (result (given new) (refusals d l i c) tt)
 
 module _ (f : FlatDescription) (l : Lent) (i : ℕ) (c : Change) where
   pub record_known : {d : Description} → decoded f ≡ Ok d → (a : Added) {bytes indices : List ℕ} → left_by a bytes indices ≡ add_change d l i c
-      → {r : Recorded} → r ≡ recorded_by a → left_by_flat r.number (added_to f r) bytes indices ≡ flat_add f l i c
-  record_known {d} h a {bytes} {indices} e q =
-      ap (λ (r : Recorded). left_by_flat r.number (added_to f r) bytes indices) q
-      ∙ ap (λ (g : FlatDescription). left_by_flat (number_of a.verdict) g bytes indices) same
-      ∙ add_known f l i c h a e
+      → {n : ℕ} → n ≡ number_of a.verdict → {g : FlatDescription} → g ≡ recorded_by f a → left_by_flat n g bytes indices ≡ flat_add f l i c
+  record_known {d} h a {bytes} {indices} e p q = rw (p, q, same) (add_known f l i c h a e)
     where
       was : encoded d ≡ f
       was = forth f d h
@@ -95,16 +84,5 @@ module _ (f : FlatDescription) (l : Lent) (i : ℕ) (c : Change) where
       width : f.width ≡ (encoded a.next).width
       width = ap (λ (g : FlatDescription). g.width) (sym was) ∙ sym stays.width
 
-      same : added_to f (recorded_by a) ≡ encoded a.next
+      same : recorded_by f a ≡ encoded a.next
       same = rw (kind, width)
-
-module _ (f : FlatDescription) (w : ℕ) (m : Made) (e : made_of m ≡ fresh w) where
-  pub fresh_made : (d : Description) → m ≡ made.Record d → (g : FlatDescription) → g ≡ encoded d
-      → ◌≡◌ {A = Outcome FlatDescription} (record { refused = 0; left = g }) (flat_fresh f w)
-  fresh_made d h g q =
-      ap (λ (x : FlatDescription). record { refused = 0; left = x }) q ∙ sym (ap (λ (x : Made). made_over f (made_of x)) h) ∙ ap (made_over f) e
-
-  pub fresh_refused : (x : Refusal) → m ≡ made.Refused x → (n : ℕ) → n ≡ refusal_number x
-      → ◌≡◌ {A = Outcome FlatDescription} (record { refused = n; left = f }) (flat_fresh f w)
-  fresh_refused x h n q =
-      ap (λ (k : ℕ). record { refused = k; left = f }) q ∙ sym (ap (λ (x : Made). made_over f (made_of x)) h) ∙ ap (made_over f) e

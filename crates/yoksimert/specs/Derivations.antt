@@ -1,6 +1,6 @@
 -- Derivations as numbers and two arrays, and what the exported operations on them do with any numbers.
 -- Assumes nothing.
-use Rattle.std.specs.Prelude.{ℕ, List, [], ◌∷◌, map}
+use Rattle.std.specs.Prelude.{ℕ, List, map}
 use Rattle.fst.specs.Refusal.{Outcome}
 use Rattle.derivation.specs.declared.DerivedBitVecSignal.{DerivedBitVecSignal}
 use Rattle.steps.specs.declared.Input.{Input}
@@ -32,24 +32,12 @@ left_by_joined r names pieces = record { refused = r.number; left = derivation_o
 
 -- ---- Derive
 
-abbrev pub slots_of : FlatInputs → List FlatInput
-slots_of f =
-    f.input_0
-    ∷ f.input_1
-    ∷ f.input_2
-    ∷ f.input_3
-    ∷ f.input_4
-    ∷ f.input_5
-    ∷ f.input_6
-    ∷ f.input_7
-    ∷ []
-
 abbrev pub input_of : FlatInput → Input
 input_of f =
     record { description = described_by (decoded f.description); byte_start = f.byte_start; index_start = f.index_start }
 
 abbrev pub inputs_by : FlatInputs → Inputs
-inputs_by f = record { count = f.count; slots = map input_of (slots_of f) }
+inputs_by f = record { count = f.count; slots = map input_of f.inputs }
 
 -- what Derive leaves: the answer, and the output slices
 pub record FlatDerived : Type 0 where

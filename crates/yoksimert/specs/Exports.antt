@@ -1,6 +1,6 @@
 -- What each exported operation does with any numbers: the operation's definition where they are a description, and else 2.
 -- Assumes nothing.
-use Rattle.std.specs.Prelude.{Result, Ok, Err, ℕ, ◌+◌, ◌*◌, List}
+use Rattle.std.specs.Prelude.{Bool, Result, Ok, Err, ℕ, ◌+◌, ◌*◌, List}
 use Rattle.fst.specs.declared.Description.{Description}
 use Rattle.fst.specs.declared.Refusal.{Refusal}
 use Rattle.fst.specs.Refusal.{Reply, Outcome, refused, refusal_number}
@@ -11,8 +11,7 @@ use Rattle.equality.specs.Compare.{compare_records}
 use Rattle.numbers.specs.Number.{Form, Value, read_number}
 use Rattle.yoksimert.specs.declared.FlatDescription.{FlatDescription}
 use Rattle.yoksimert.specs.declared.FlatEntry.{FlatEntry}
-use Rattle.yoksimert.specs.declared.FlatEqual.{FlatEqual}
-use Rattle.yoksimert.specs.Flat.{decoded, encoded, no_entry, flat_entry, flat_equal}
+use Rattle.yoksimert.specs.Flat.{decoded, encoded, no_entry, flat_entry}
 
 -- ---- Add a change
 
@@ -61,10 +60,10 @@ read_number_in f (Err r) bytes start k = refused (refusal_number r)
 unfoldable pub flat_read_number : (f : Form) → FlatDescription → List ℕ → ℕ → ℕ → Reply (Value f)
 flat_read_number f d bytes start k = read_number_in f (decoded d) bytes start k
 
-abbrev pub compared_in : Result Description Refusal → Lent → Result Description Refusal → Lent → FlatEqual
-compared_in (Ok d) l (Ok e) m = flat_equal (compare_records d l e m)
-compared_in (Ok d) l (Err r) m = flat_equal (refused (refusal_number r))
-compared_in (Err r) l e m = flat_equal (refused (refusal_number r))
+abbrev pub compared_in : Result Description Refusal → Lent → Result Description Refusal → Lent → Reply Bool
+compared_in (Ok d) l (Ok e) m = compare_records d l e m
+compared_in (Ok d) l (Err r) m = refused (refusal_number r)
+compared_in (Err r) l e m = refused (refusal_number r)
 
-unfoldable pub flat_compare : FlatDescription → Lent → FlatDescription → Lent → FlatEqual
+unfoldable pub flat_compare : FlatDescription → Lent → FlatDescription → Lent → Reply Bool
 flat_compare f l g m = compared_in (decoded f) l (decoded g) m

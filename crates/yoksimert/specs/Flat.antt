@@ -1,27 +1,25 @@
 -- Descriptions and answers as numbers.
 -- Assumes nothing.
-use Rattle.std.specs.Prelude.{Result, Ok, Err, ℕ, ◌-◌, Bool, true, false, cond, ◌&&◌, eqb, leb, length}
-use Rattle.value.specs.declared.States.{States}
+use Rattle.std.specs.Prelude.{Option, Some, None, is_some, unwrap_or, Result, Ok, Err, ℤ, pos, ℕ, ◌-◌, Bool, true, false, cond, ◌&&◌, eqb, leb, length}
 use Rattle.value.specs.declared.States.TheVariants.{Two}
-use Rattle.value.specs.Level.{mark_of, set_at, len_of}
+use Rattle.value.specs.Level.{mark_of, set_at}
 use Rattle.fst.specs.declared.Encoding.{Encoding}
 use Rattle.fst.specs.declared.Encoding.TheVariants.{Event, Real, BitVector}
 use Rattle.fst.specs.declared.Description.{Description}
 use Rattle.fst.specs.declared.Refusal.{Refusal}
 use Rattle.fst.specs.declared.Refusal.TheVariants.{BadRecord}
-use Rattle.fst.specs.Refusal.{Reply, refused, given}
+use Rattle.fst.specs.Refusal.{Reply, refused, given, refusal_number}
 use Rattle.fst.specs.Record.{width_of, largest_in, described, empty}
 use Rattle.signal.specs.declared.Kind.{Kind}
 use Rattle.signal.specs.declared.Kind.TheVariants as kind
-use Rattle.fst.specs.declared.NextIndex.{NextIndex}
-use Rattle.fst.specs.declared.NextIndex.TheVariants as next
 use Rattle.offset.specs.declared.DataOffset.{DataOffset}
 use Rattle.signal.specs.Read.{Entry, kind_of}
-use Rattle.offset.specs.Offset.{Place, none, at}
 use Rattle.yoksimert.specs.declared.FlatDescription.{FlatDescription}
 use Rattle.yoksimert.specs.declared.FlatMade.{FlatMade}
 use Rattle.yoksimert.specs.declared.FlatEntry.{FlatEntry}
 use Rattle.yoksimert.specs.declared.FlatEqual.{FlatEqual}
+use Rattle.yoksimert.specs.declared.FlatNumber.{FlatNumber}
+use Rattle.yoksimert.specs.declared.FlatSigned.{FlatSigned}
 use Rattle.yoksimert.specs.declared.FlatOffset.{FlatOffset}
 
 -- ---- descriptions
@@ -67,11 +65,10 @@ flat_made (given d) = record { number = 0; description = encoded d }
 abbrev pub no_entry : ℕ → FlatEntry
 no_entry n = record { number = n; kind = 0; set = 0; start = 0; length = 0 }
 
--- how many bytes hold the levels of an entry with an own set
-abbrev pub level_length : Encoding → States → ℕ
-level_length Event S = 0
-level_length Real S = 8
-level_length (BitVector w M) S = len_of w S
+-- by an answer
+abbrev pub told_entry : Result FlatEntry Refusal → FlatEntry
+told_entry (Ok e) = e
+told_entry (Err r) = no_entry (refusal_number r)
 
 -- the part that holds the levels ends where the entry does
 abbrev pub flat_entry : ℕ → Reply Entry → FlatEntry
@@ -82,6 +79,14 @@ flat_entry end (given e) =
 abbrev pub flat_equal : Reply Bool → FlatEqual
 flat_equal (refused n) = record { number = n; equal = false }
 flat_equal (given b) = record { number = 0; equal = b }
+
+abbrev pub flat_number : Reply ℕ → FlatNumber
+flat_number (refused n) = record { number = n; value = 0 }
+flat_number (given v) = record { number = 0; value = v }
+
+abbrev pub flat_signed : Reply ℤ → FlatSigned
+flat_signed (refused n) = record { number = n; value = pos 0 }
+flat_signed (given v) = record { number = 0; value = v }
 
 abbrev pub nowhere : ℕ → FlatOffset
 nowhere n =
@@ -95,14 +100,6 @@ nowhere n =
       next_index = 0;
     }
 
-abbrev pub has_next : NextIndex → Bool
-has_next next.Absent = false
-has_next (next.At i) = true
-
-abbrev pub next_or_zero : NextIndex → ℕ
-next_or_zero next.Absent = 0
-next_or_zero (next.At i) = i
-
 abbrev pub placed : DataOffset → FlatOffset
 placed o =
     record {
@@ -111,11 +108,11 @@ placed o =
       start = o.start;
       elements = o.elements;
       time_match = o.time_match;
-      has_next = has_next o.next_index;
-      next_index = next_or_zero o.next_index;
+      has_next = is_some o.next_index;
+      next_index = unwrap_or o.next_index 0;
     }
 
-abbrev pub flat_offset : Reply Place → FlatOffset
+abbrev pub flat_offset : Reply (Option DataOffset) → FlatOffset
 flat_offset (refused n) = nowhere n
-flat_offset (given none) = nowhere 0
-flat_offset (given (at o)) = placed o
+flat_offset (given None) = nowhere 0
+flat_offset (given (Some o)) = placed o

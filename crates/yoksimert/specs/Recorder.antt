@@ -3,21 +3,16 @@
 use Rattle.std.specs.Prelude.{ℕ, []}
 use Rattle.fst.specs.declared.Description.{Description}
 use Rattle.fst.specs.declared.Added.{Added}
-use Rattle.fst.specs.Refusal.{Reply, refused, given, Outcome, outcome, number_of}
+use Rattle.fst.specs.Refusal.{Reply, refused, given, Outcome, outcome}
 use Rattle.fst.specs.Record.{Lent, Kept, Held, kept_in, fresh}
 use Rattle.runs.specs.Runs.{Records}
 use Rattle.yoksimert.specs.declared.FlatDescription.{FlatDescription}
-use Rattle.yoksimert.specs.declared.recorder.Recorded.{Recorded}
 use Rattle.yoksimert.specs.Flat.{decoded, described_by, encoded}
 use Rattle.yoksimert.specs.Exports.{flat_add}
 
--- what an answer says of a recorder
-abbrev pub recorded_by : Added → Recorded
-recorded_by a = record { number = number_of a.verdict; set = (encoded a.next).set; count = (encoded a.next).count }
-
--- a change alters no more of a recorder than its set and its count
-abbrev pub added_to : FlatDescription → Recorded → FlatDescription
-added_to f r = record { kind = f.kind; width = f.width; set = r.set; count = r.count }
+-- what a change leaves of a recorder: its set and its count are those of the answer, and no more of it alters
+abbrev pub recorded_by : FlatDescription → Added → FlatDescription
+recorded_by f a = record { kind = f.kind; width = f.width; set = (encoded a.next).set; count = (encoded a.next).count }
 
 abbrev pub numbers_of : Reply Description → Reply FlatDescription
 numbers_of (refused n) = refused n

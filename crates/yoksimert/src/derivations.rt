@@ -4,11 +4,10 @@ ghost use Rattle.derivation.specs.declared.Side.TheVariants.{Left, Right};
 ghost use Rattle.derivation.specs.Piece.{joined_of, add_piece, add_full};
 ghost use Rattle.yoksimert.specs.Derivations.{derivation_of, left_by_joined, input_of, inputs_by, made_by, flat_derive};
 
-use crate::flat::{flat_made, verdict_number};
 use crate::{FlatDerivation, FlatInput, FlatInputs, FlatJoined, FlatMade};
 use derivation::{DerivedBitVecSignal, Joined};
-use fst::{Description, Encoding};
-use steps::{Input, Inputs};
+use fst::{Description, Encoding, verdict_number};
+use steps::{Input, Inputs, Sources};
 use transform::derive::derive;
 use value::States;
 
@@ -17,14 +16,12 @@ use value::States;
 fn derivation_of(flat: FlatDerivation, names: &[u32; 8], pieces: &[u64; 64]) -> DerivedBitVecSignal
     ensures { result ≡ derivation_of flat names.now pieces.now }
 {
-    let inputs = *names;
-    let bits = *pieces;
     DerivedBitVecSignal {
         width: flat.width,
         input_count: flat.input_count,
-        inputs,
+        inputs: *names,
         piece_count: flat.piece_count,
-        bits,
+        bits: *pieces,
     }
 }
 
@@ -32,14 +29,13 @@ fn derivation_of(flat: FlatDerivation, names: &[u32; 8], pieces: &[u64; 64]) -> 
 fn store_joined(joined: Joined, names: &mut [u32; 8], pieces: &mut [u64; 64]) -> FlatJoined
     ensures { left_by_joined result names.new pieces.new ≡ joined_of joined }
 {
-    let verdict = joined.verdict;
-    let next = joined.next;
+    let Joined { verdict, next } = joined;
     let inputs = next.inputs;
     let bits = next.bits;
     *names = inputs;
     *pieces = bits;
     FlatJoined {
-        number: verdict_number(verdict),
+        number: u32::from(verdict_number(verdict)),
         next: FlatDerivation {
             width: next.width,
             input_count: next.input_count,
@@ -131,17 +127,13 @@ fn input_of(flat: FlatInput) -> Input
 fn inputs_of(flat: FlatInputs) -> Inputs
     ensures { result ≡ inputs_by flat }
 {
-    let a = input_of(flat.input_0);
-    let b = input_of(flat.input_1);
-    let c = input_of(flat.input_2);
-    let d = input_of(flat.input_3);
-    let e = input_of(flat.input_4);
-    let f = input_of(flat.input_5);
-    let g = input_of(flat.input_6);
-    let h = input_of(flat.input_7);
     Inputs {
         count: flat.count,
-        slots: [a, b, c, d, e, f, g, h],
+        slots: flat.inputs.map(
+            |input: FlatInput| -> Input
+                ensures { result ≡ input_of input }
+            { input_of(input) },
+        ),
     }
 }
 
@@ -160,6 +152,10 @@ pub extern "C" fn yoksimert_derive(
     ensures { made_by result out_bytes.new out_indices.new ≡ flat_derive derivation names.now pieces.now inputs bytes.now indices.now out_bytes.old out_indices.old }
 {
     let known = derivation_of(derivation, names, pieces);
-    let records = inputs_of(inputs);
-    flat_made(derive(known, records, bytes, indices, out_bytes, out_indices))
+    let sources = Sources {
+        inputs: &inputs_of(inputs),
+        bytes,
+        indices,
+    };
+    FlatMade::from(derive(&known, &sources, out_bytes, out_indices))
 }

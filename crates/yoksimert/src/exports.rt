@@ -1,34 +1,30 @@
 // The exported operations. None asks anything of its arguments but that the slices are lent as C and Rust lend them.
-ghost use Rattle.std.specs.Prelude.{◌≡◌, List, ℕ};
-ghost use Rattle.fst.specs.Refusal.{Outcome};
-ghost use Rattle.fst.specs.Record.{lent, fresh, fresh_real};
+ghost use Rattle.std.specs.Prelude.{◌≡◌};
+ghost use Rattle.fst.specs.Refusal.{number_of};
+ghost use Rattle.signal.specs.Read.{text_left};
+ghost use Rattle.equality.specs.Compare.{equal_of};
+ghost use Rattle.fst.specs.Record.{lent, lent_in, fresh, fresh_real};
 ghost use Rattle.offset.specs.Offset.{look_up};
+ghost use Rattle.numbers.specs.Number.{unsigned, signed, decimal};
 ghost use Rattle.search.specs.Quartering.{search};
-ghost use Rattle.numbers.specs.Number.{unsigned, signed, decimal, flat_number, flat_signed};
-ghost use Rattle.yoksimert.specs.Flat.{encoded, flat_made, flat_offset};
+ghost use Rattle.yoksimert.specs.Flat.{encoded, told_entry, flat_made, flat_equal, flat_number, flat_signed, flat_offset};
 ghost use Rattle.yoksimert.specs.Exports.{flat_read, flat_text, flat_read_number, flat_compare};
 
-use crate::flat::{
-    flat_equal, flat_made, flat_offset, kind_number, level_length, no_entry, refusal_number,
-    set_number, verdict_number,
-};
-use crate::{FlatDescription, FlatEntry, FlatEqual, FlatMade, FlatOffset};
-use equality::compare_records;
-use fst::Description;
-use fst::record::{fresh, fresh_real};
+use crate::{FlatDescription, FlatEntry, FlatEqual, FlatMade, FlatNumber, FlatOffset, FlatSigned};
+use equality::{Lent, compare_records};
+use fst::record::{Slices, fresh, fresh_real};
+use fst::{Description, Refusal, verdict_number};
 use numbers::read::{read_decimal, read_signed, read_unsigned};
-use numbers::{FlatNumber, FlatSigned};
 use offset::get_offset;
 use search::search;
-use signal::EntryAnswer;
-use signal::read::{read_entry, read_text};
+use signal::read::Record;
 
 // Fresh: the empty record of a width; width 0 makes an event.
 #[unsafe(no_mangle)]
 pub extern "C" fn yoksimert_fresh(width: u32) -> FlatMade
     ensures { result ≡ flat_made (fresh width) }
 {
-    flat_made(fresh(width))
+    FlatMade::from(fresh(width))
 }
 
 // Fresh: the empty record of reals.
@@ -37,6 +33,34 @@ pub extern "C" fn yoksimert_fresh_real() -> FlatDescription
     ensures { result ≡ encoded fresh_real }
 {
     FlatDescription::from(fresh_real())
+}
+
+#[tactic(auto, unfolding(crate::specs::Exports::flat_read))]
+fn read(
+    flat: FlatDescription,
+    bytes: &[u8],
+    byte_start: usize,
+    entry: u32,
+) -> Result<FlatEntry, Refusal>
+    ensures { told_entry result ≡ flat_read flat bytes.now byte_start entry }
+{
+    let description = Description::try_from(flat)?;
+    let record = Record {
+        description,
+        bytes,
+        byte_start,
+    };
+    let answer = record.read_entry(entry)?;
+    let size = description.encoding.size();
+    let end = byte_start + (entry as usize * size + size);
+    let length = answer.part.len();
+    Ok(FlatEntry {
+        number: 0,
+        kind: answer.kind as u32,
+        set: u32::from(answer.states.mark()),
+        start: end - length,
+        length,
+    })
 }
 
 // Read an entry.
@@ -49,26 +73,26 @@ pub extern "C" fn yoksimert_read(
 ) -> FlatEntry
     ensures { result ≡ flat_read description bytes.now byte_start entry }
 {
-    let known = match Description::try_from(description) {
-        Ok(known) => known,
-        Err(refusal) => return no_entry(refusal_number(refusal)),
+    read(description, bytes, byte_start, entry).unwrap_or_else(FlatEntry::from)
+}
+
+#[tactic(auto, unfolding(crate::specs::Exports::flat_text))]
+fn text(
+    flat: FlatDescription,
+    bytes: &[u8],
+    byte_start: usize,
+    entry: u32,
+    out: &mut [u8],
+) -> Result<(), Refusal>
+    ensures { text_left (number_of result) out.new ≡ flat_text flat bytes.now byte_start entry out.old }
+{
+    let description = Description::try_from(flat)?;
+    let record = Record {
+        description,
+        bytes,
+        byte_start,
     };
-    match read_entry(known, bytes, byte_start, entry) {
-        EntryAnswer::Refused(refusal) => no_entry(refusal_number(refusal)),
-        EntryAnswer::Entry { kind, states } => {
-            let encoding = known.encoding;
-            let size = encoding.size();
-            let length = level_length(encoding, states);
-            let end = byte_start + (entry as usize * size + size);
-            FlatEntry {
-                number: 0,
-                kind: kind_number(kind),
-                set: set_number(states),
-                start: end - length,
-                length,
-            }
-        }
-    }
+    record.read_text(entry, out)
 }
 
 // Text of an entry: the answer is the number alone.
@@ -80,16 +104,13 @@ pub extern "C" fn yoksimert_text(
     entry: u32,
     out: &mut [u8],
 ) -> u32
-    ensures { ◌≡◌ {A = Outcome (List ℕ)} (record { refused = result; left = out.new }) (flat_text description bytes.now byte_start entry out.old) }
+    ensures { text_left result out.new ≡ flat_text description bytes.now byte_start entry out.old }
 {
-    let known = match Description::try_from(description) {
-        Ok(known) => known,
-        Err(refusal) => return refusal_number(refusal),
-    };
-    verdict_number(read_text(known, bytes, byte_start, entry, out))
+    u32::from(verdict_number(text(description, bytes, byte_start, entry, out)))
 }
 
 // An entry as an unsigned number.
+#[tactic(auto, unfolding(crate::specs::Exports::flat_read_number))]
 #[unsafe(no_mangle)]
 pub extern "C" fn yoksimert_unsigned(
     description: FlatDescription,
@@ -99,19 +120,19 @@ pub extern "C" fn yoksimert_unsigned(
 ) -> FlatNumber
     ensures { result ≡ flat_number (flat_read_number unsigned description bytes.now byte_start entry) }
 {
-    let known = match Description::try_from(description) {
-        Ok(known) => known,
-        Err(refusal) => {
-            return FlatNumber {
-                number: refusal_number(refusal),
-                value: 0,
-            };
-        }
-    };
-    read_unsigned(known, bytes, byte_start, entry)
+    let number = Description::try_from(description).and_then(|description| {
+        let record = Record {
+            description,
+            bytes,
+            byte_start,
+        };
+        read_unsigned(&record, entry)
+    });
+    FlatNumber::from(number)
 }
 
 // An entry as a two's complement number.
+#[tactic(auto, unfolding(crate::specs::Exports::flat_read_number))]
 #[unsafe(no_mangle)]
 pub extern "C" fn yoksimert_signed(
     description: FlatDescription,
@@ -121,19 +142,19 @@ pub extern "C" fn yoksimert_signed(
 ) -> FlatSigned
     ensures { result ≡ flat_signed (flat_read_number signed description bytes.now byte_start entry) }
 {
-    let known = match Description::try_from(description) {
-        Ok(known) => known,
-        Err(refusal) => {
-            return FlatSigned {
-                number: refusal_number(refusal),
-                value: 0,
-            };
-        }
-    };
-    read_signed(known, bytes, byte_start, entry)
+    let number = Description::try_from(description).and_then(|description| {
+        let record = Record {
+            description,
+            bytes,
+            byte_start,
+        };
+        read_signed(&record, entry)
+    });
+    FlatSigned::from(number)
 }
 
 // An entry as a packed decimal number.
+#[tactic(auto, unfolding(crate::specs::Exports::flat_read_number))]
 #[unsafe(no_mangle)]
 pub extern "C" fn yoksimert_decimal(
     description: FlatDescription,
@@ -143,16 +164,35 @@ pub extern "C" fn yoksimert_decimal(
 ) -> FlatNumber
     ensures { result ≡ flat_number (flat_read_number decimal description bytes.now byte_start entry) }
 {
-    let known = match Description::try_from(description) {
-        Ok(known) => known,
-        Err(refusal) => {
-            return FlatNumber {
-                number: refusal_number(refusal),
-                value: 0,
-            };
-        }
+    let number = Description::try_from(description).and_then(|description| {
+        let record = Record {
+            description,
+            bytes,
+            byte_start,
+        };
+        read_decimal(&record, entry)
+    });
+    FlatNumber::from(number)
+}
+
+#[tactic(auto, unfolding(crate::specs::Exports::flat_compare))]
+fn compare(
+    a: FlatDescription,
+    a_slices: Slices<'_>,
+    b: FlatDescription,
+    b_slices: Slices<'_>,
+) -> Result<bool, Refusal>
+    ensures { equal_of result ≡ flat_compare a (lent_in a_slices.entry) b (lent_in b_slices.entry) }
+{
+    let first = Lent {
+        description: Description::try_from(a)?,
+        slices: a_slices,
     };
-    read_decimal(known, bytes, byte_start, entry)
+    let second = Lent {
+        description: Description::try_from(b)?,
+        slices: b_slices,
+    };
+    compare_records(&first, &second)
 }
 
 // Compare.
@@ -169,38 +209,21 @@ pub extern "C" fn yoksimert_compare(
     b_indices: &[u32],
     b_index_start: usize,
 ) -> FlatEqual
-    ensures { result ≡ flat_compare a (lent a_bytes.now a_byte_start a_indices.now a_index_start) b (lent b_bytes.now b_byte_start b_indices.now b_index_start) }
+    ensures { result ≡ flat_equal (flat_compare a (lent a_bytes.now a_byte_start a_indices.now a_index_start) b (lent b_bytes.now b_byte_start b_indices.now b_index_start)) }
 {
-    let first = match Description::try_from(a) {
-        Ok(first) => first,
-        Err(refusal) => {
-            return FlatEqual {
-                number: refusal_number(refusal),
-                equal: false,
-            };
-        }
+    let a_slices = Slices {
+        bytes: a_bytes,
+        byte_start: a_byte_start,
+        indices: a_indices,
+        index_start: a_index_start,
     };
-    let second = match Description::try_from(b) {
-        Ok(second) => second,
-        Err(refusal) => {
-            return FlatEqual {
-                number: refusal_number(refusal),
-                equal: false,
-            };
-        }
+    let b_slices = Slices {
+        bytes: b_bytes,
+        byte_start: b_byte_start,
+        indices: b_indices,
+        index_start: b_index_start,
     };
-    flat_equal(compare_records(
-        first,
-        a_bytes,
-        a_byte_start,
-        a_indices,
-        a_index_start,
-        second,
-        b_bytes,
-        b_byte_start,
-        b_indices,
-        b_index_start,
-    ))
+    FlatEqual::from(compare(a, a_slices, b, b_slices))
 }
 
 // Look up.
@@ -208,7 +231,7 @@ pub extern "C" fn yoksimert_compare(
 pub extern "C" fn yoksimert_look_up(indices: &[u32], sought: u32) -> FlatOffset
     ensures { result ≡ flat_offset (look_up indices.now sought) }
 {
-    flat_offset(get_offset(indices, sought))
+    FlatOffset::from(get_offset(indices, sought))
 }
 
 // Search: Look up in a list that is known not to fall, which is not tried.
@@ -216,7 +239,7 @@ pub extern "C" fn yoksimert_look_up(indices: &[u32], sought: u32) -> FlatOffset
 pub extern "C" fn yoksimert_search(indices: &[u32], sought: u32) -> FlatOffset
     ensures { result ≡ flat_offset (search indices.now sought) }
 {
-    flat_offset(search(indices, sought))
+    FlatOffset::from(search(indices, sought))
 }
 
 // The version of this interface, which the name tells too: who links another version finds no such name.

@@ -1,54 +1,16 @@
 // Numbers into descriptions and answers into numbers.
 ghost use Rattle.std.specs.Prelude.{◌≡◌};
-ghost use Rattle.value.specs.Level.{mark_of};
-ghost use Rattle.fst.specs.Refusal.{refusal_number, number_of, made_of};
-ghost use Rattle.signal.specs.Read.{kind_of};
+ghost use Rattle.fst.specs.Refusal.{made_of};
 ghost use Rattle.equality.specs.Compare.{equal_of};
+ghost use Rattle.numbers.specs.Number.{told};
 ghost use Rattle.offset.specs.Offset.{offset_of};
-ghost use Rattle.yoksimert.specs.Flat.{known, decoded, encoded, no_description, kind_number, no_entry, level_length, flat_made, flat_equal, nowhere, placed, flat_offset};
+ghost use Rattle.yoksimert.specs.Flat.{decoded, encoded, no_description, no_entry, flat_made, flat_equal, flat_number, flat_signed, nowhere, placed, flat_offset};
 
-use crate::{FlatDescription, FlatEntry, FlatEqual, FlatMade, FlatOffset};
-use equality::EqualAnswer;
-use fst::{Description, Encoding, Made, NextIndex, Refusal, Verdict};
-use offset::{DataOffset, OffsetAnswer};
+use crate::{FlatDescription, FlatEntry, FlatEqual, FlatMade, FlatNumber, FlatOffset, FlatSigned};
+use fst::{Description, Encoding, Refusal};
+use offset::DataOffset;
 use signal::Kind;
 use value::States;
-
-// ---- numbers of enums
-
-fn as_u32(number: u8) -> u32
-    ensures { result ≡ number }
-{
-    number as u32
-}
-
-pub fn verdict_number(verdict: Verdict) -> u32
-    ensures { result ≡ number_of verdict }
-{
-    as_u32(verdict.number())
-}
-
-pub fn refusal_number(refusal: Refusal) -> u32
-    ensures { result ≡ refusal_number refusal }
-{
-    as_u32(refusal.number())
-}
-
-pub fn set_number(states: States) -> u32
-    ensures { result ≡ mark_of states }
-{
-    as_u32(states.mark())
-}
-
-pub fn kind_number(kind: Kind) -> u32
-    ensures { result ≡ kind_number kind }
-{
-    match kind {
-        Kind::Event => 0,
-        Kind::Real => 1,
-        Kind::BitVector => 2,
-    }
-}
 
 // ---- descriptions
 
@@ -82,28 +44,15 @@ impl TryFrom<FlatDescription> for Description {
     }
 }
 
-fn encoding_number(encoding: Encoding) -> u32
-    ensures { result ≡ kind_number (kind_of encoding) }
-{
-    match encoding {
-        Encoding::Event => 0,
-        Encoding::Real => 1,
-        Encoding::BitVector {
-            width: _,
-            max_states: _,
-        } => 2,
-    }
-}
-
 impl From<Description> for FlatDescription {
     ghost from_gives = { λ d f. f ≡ encoded d };
 
     fn from(description: Description) -> FlatDescription {
         let encoding = description.encoding;
         FlatDescription {
-            kind: encoding_number(encoding),
+            kind: Kind::from(encoding) as u32,
             width: encoding.width(),
-            set: set_number(encoding.largest()),
+            set: u32::from(encoding.largest().mark()),
             count: description.count,
         }
     }
@@ -122,67 +71,82 @@ fn no_description() -> FlatDescription
 
 // ---- answers
 
-pub fn flat_made(made: Made) -> FlatMade
-    ensures { result ≡ flat_made (made_of made) }
-{
-    match made {
-        Made::Record(description) => FlatMade {
-            number: 0,
-            description: FlatDescription::from(description),
-        },
-        Made::Refused(refusal) => FlatMade {
-            number: refusal_number(refusal),
-            description: no_description(),
-        },
+impl From<Result<Description, Refusal>> for FlatMade {
+    ghost from_gives = { λ made f. f ≡ flat_made (made_of made) };
+
+    fn from(made: Result<Description, Refusal>) -> FlatMade {
+        match made {
+            Ok(description) => FlatMade {
+                number: 0,
+                description: FlatDescription::from(description),
+            },
+            Err(refusal) => FlatMade {
+                number: u32::from(refusal.number()),
+                description: no_description(),
+            },
+        }
     }
 }
 
-pub fn no_entry(number: u32) -> FlatEntry
-    ensures { result ≡ no_entry number }
-{
-    FlatEntry {
-        number,
-        kind: 0,
-        set: 0,
-        start: 0,
-        length: 0,
+impl From<Refusal> for FlatEntry {
+    ghost use Rattle.fst.specs.Refusal.{refusal_number};
+
+    ghost from_gives = { λ refusal f. f ≡ no_entry (refusal_number refusal) };
+
+    fn from(refusal: Refusal) -> FlatEntry {
+        FlatEntry {
+            number: u32::from(refusal.number()),
+            kind: 0,
+            set: 0,
+            start: 0,
+            length: 0,
+        }
     }
 }
 
-// How many bytes hold the levels of an entry with an own set.
-pub fn level_length(encoding: Encoding, states: States) -> usize
-    ensures { result ≡ level_length encoding states }
-{
-    match encoding {
-        Encoding::Event => 0,
-        Encoding::Real => 8,
-        Encoding::BitVector {
-            width,
-            max_states: _,
-        } => states.bytes_required(width),
+impl From<Result<bool, Refusal>> for FlatEqual {
+    ghost from_gives = { λ answer f. f ≡ flat_equal (equal_of answer) };
+
+    fn from(answer: Result<bool, Refusal>) -> FlatEqual {
+        match answer {
+            Ok(equal) => FlatEqual { number: 0, equal },
+            Err(refusal) => FlatEqual {
+                number: u32::from(refusal.number()),
+                equal: false,
+            },
+        }
     }
 }
 
-pub fn flat_equal(answer: EqualAnswer) -> FlatEqual
-    ensures { result ≡ flat_equal (equal_of answer) }
-{
-    match answer {
-        EqualAnswer::Equal => FlatEqual {
-            number: 0,
-            equal: true,
-        },
-        EqualAnswer::Unequal => FlatEqual {
-            number: 0,
-            equal: false,
-        },
-        EqualAnswer::Refused(refusal) => FlatEqual {
-            number: refusal_number(refusal),
-            equal: false,
-        },
+impl From<Result<u64, Refusal>> for FlatNumber {
+    ghost from_gives = { λ answer f. f ≡ flat_number (told answer) };
+
+    fn from(answer: Result<u64, Refusal>) -> FlatNumber {
+        match answer {
+            Ok(value) => FlatNumber { number: 0, value },
+            Err(refusal) => FlatNumber {
+                number: u32::from(refusal.number()),
+                value: 0,
+            },
+        }
     }
 }
 
-fn flat_nowhere(number: u32) -> FlatOffset
+impl From<Result<i64, Refusal>> for FlatSigned {
+    ghost from_gives = { λ answer f. f ≡ flat_signed (told answer) };
+
+    fn from(answer: Result<i64, Refusal>) -> FlatSigned {
+        match answer {
+            Ok(value) => FlatSigned { number: 0, value },
+            Err(refusal) => FlatSigned {
+                number: u32::from(refusal.number()),
+                value: 0,
+            },
+        }
+    }
+}
+
+fn nowhere(number: u32) -> FlatOffset
     ensures { result ≡ nowhere number }
 {
     FlatOffset {
@@ -196,33 +160,30 @@ fn flat_nowhere(number: u32) -> FlatOffset
     }
 }
 
-fn flat_placed(offset: DataOffset) -> FlatOffset
-    ensures { result ≡ placed offset }
-{
-    let next = offset.next_index;
-    let mut has_next = false;
-    let mut next_index = 0;
-    if let NextIndex::At(index) = next {
-        has_next = true;
-        next_index = index;
-    }
-    FlatOffset {
-        number: 0,
-        found: true,
-        start: offset.start,
-        elements: offset.elements,
-        time_match: offset.time_match,
-        has_next,
-        next_index,
+impl From<DataOffset> for FlatOffset {
+    ghost from_gives = { λ offset f. f ≡ placed offset };
+
+    fn from(offset: DataOffset) -> FlatOffset {
+        FlatOffset {
+            number: 0,
+            found: true,
+            start: offset.start,
+            elements: offset.elements,
+            time_match: offset.time_match,
+            has_next: offset.next_index.is_some(),
+            next_index: offset.next_index.unwrap_or(0),
+        }
     }
 }
 
-pub fn flat_offset(answer: OffsetAnswer) -> FlatOffset
-    ensures { result ≡ flat_offset (offset_of answer) }
-{
-    match answer {
-        OffsetAnswer::Nothing => flat_nowhere(0),
-        OffsetAnswer::At(offset) => flat_placed(offset),
-        OffsetAnswer::Refused(refusal) => flat_nowhere(refusal_number(refusal)),
+impl From<Result<Option<DataOffset>, Refusal>> for FlatOffset {
+    ghost from_gives = { λ answer f. f ≡ flat_offset (offset_of answer) };
+
+    fn from(answer: Result<Option<DataOffset>, Refusal>) -> FlatOffset {
+        match answer {
+            Ok(Some(offset)) => FlatOffset::from(offset),
+            Ok(None) => nowhere(0),
+            Err(refusal) => nowhere(u32::from(refusal.number())),
+        }
     }
 }

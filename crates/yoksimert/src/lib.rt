@@ -27,13 +27,6 @@ pub struct FlatMade {
     pub description: FlatDescription,
 }
 
-// What a call leaves of a recorder. On a refusal it is the given one.
-#[derive(Clone, Copy)]
-pub struct FlatAdded {
-    pub number: u32,
-    pub next: FlatDescription,
-}
-
 // The answer of Read: the part that holds the levels is `length` of the lent bytes from `start` on. On a refusal all but the number is 0.
 #[repr(C)]
 #[derive(Clone, Copy)]
@@ -51,6 +44,21 @@ pub struct FlatEntry {
 pub struct FlatEqual {
     pub number: u32,
     pub equal: bool,
+}
+
+// An entry as a number. On a refusal the value is 0.
+#[repr(C)]
+#[derive(Clone, Copy)]
+pub struct FlatNumber {
+    pub number: u32,
+    pub value: u64,
+}
+
+#[repr(C)]
+#[derive(Clone, Copy)]
+pub struct FlatSigned {
+    pub number: u32,
+    pub value: i64,
 }
 
 // The answer of Look up. Where nothing is found, all but the number is 0, and where there is no next index, that is 0.
@@ -92,17 +100,10 @@ pub struct FlatInput {
     pub index_start: usize,
 }
 
-// The input records of Derive, in C an array of eight. Those from `count` on are not looked at.
+// The input records of Derive. Those from `count` on are not looked at.
 #[repr(C)]
 #[derive(Clone, Copy)]
 pub struct FlatInputs {
     pub count: u32,
-    pub input_0: FlatInput,
-    pub input_1: FlatInput,
-    pub input_2: FlatInput,
-    pub input_3: FlatInput,
-    pub input_4: FlatInput,
-    pub input_5: FlatInput,
-    pub input_6: FlatInput,
-    pub input_7: FlatInput,
+    pub inputs: [FlatInput; 8],
 }

@@ -143,26 +143,13 @@ fn c_struct(name: &str) -> String {
     format!("Flat{}{}", name[..1].to_uppercase(), &name[1..])
 }
 
-/// Eight fields `input_0` to `input_7` lie as the array `inputs` of eight does.
-fn as_array(fields: Vec<(String, String)>) -> Vec<(String, String)> {
-    let (eight, mut rest): (Vec<_>, Vec<_>) = fields
-        .into_iter()
-        .partition(|(name, _)| name.starts_with("input_") && name.len() == 7);
-    if let Some((_, kind)) = eight.first() {
-        let expected = (0..8).map(|at| (format!("input_{at}"), kind.clone()));
-        assert!(eight.iter().cloned().eq(expected), "{eight:?}");
-        rest.push(("inputs".to_string(), format!("[{kind} by 8]")));
-    }
-    rest
-}
-
 fn structs(text: &str) -> Items {
     let items = between(text, "#[repr(C)]", "}");
     let fields = items.iter().map(|item| {
         let item = item.split_once("pub struct ").expect("a struct").1;
         let (name, fields) = item.split_once('{').expect("fields");
         let fields = entries(fields, ',').flat_map(named).collect();
-        (name.trim().to_string(), as_array(fields))
+        (name.trim().to_string(), fields)
     });
     fields.collect()
 }
@@ -185,7 +172,6 @@ fn functions(text: &str, before: &str, after: &[&str]) -> Items {
 fn of_rattle() -> Items {
     let text = flattened(&folder("crates/yoksimert/src"));
     let mut items = structs(&text);
-    items.extend(structs(&flattened(&folder("crates/numbers/src"))));
     let exported = functions(&text, EXPORTED, &[" ensures"]);
     assert_eq!(
         exported.len(),
@@ -250,17 +236,21 @@ fn the_benchmarks_texts_agree() {
     assert_eq!(of_rust(&file("rust/bench/src/inner.rs")), rattle);
 }
 
-/// `Refusal::Name => number` of Rattle, wherever in the crate it stands.
+/// The variants of Rattle's enum: one with no number has that of the one before and 1.
 fn refusals_of_rattle() -> Vec<(u32, String)> {
     let text = folder("crates/fst/src");
-    let arms = text.split("Refusal::").skip(1).filter_map(|arm| {
-        let line = arm.lines().next()?.trim_end_matches(',');
-        let (name, number) = line.split_once(" => ")?;
-        Some((number.parse().ok()?, name.to_string()))
+    let variants = between(&text, "pub enum Refusal {", "}").concat();
+    let mut number = 0;
+    let numbered = variants
+        .split(',')
+        .map(str::trim)
+        .filter(|name| !name.is_empty());
+    let numbered = numbered.map(|variant| {
+        let (name, given) = variant.split_once(" = ").unwrap_or((variant, ""));
+        number = given.parse().unwrap_or(number + 1);
+        (number, name.to_string())
     });
-    let mut out: Vec<_> = arms.collect();
-    out.sort();
-    out
+    numbered.collect()
 }
 
 fn refusals() -> Vec<(u32, String)> {

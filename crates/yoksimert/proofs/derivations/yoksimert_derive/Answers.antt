@@ -6,4 +6,4 @@ use Rattle.yoksimert.proofs.derivations.yoksimert_derive.Goals as goal
 pub returns : goal.returns
 returns c =
     let a = c.args in
-    derive_by a.derivation a.names.now a.pieces.now a.inputs a.bytes.now a.indices.now a.out_bytes.now a.out_indices.now c.derivation_of-known.ensures c.inputs_of-records.ensures c.flat_made.ensures c.derive.ensures
+    derive_by a.derivation a.names.now a.pieces.now a.inputs a.bytes.now a.indices.now a.out_bytes.now a.out_indices.now c.derivation_of-known.ensures c.inputs_of.ensures c.from.ensures c.derive.ensures

@@ -1,0 +1,33 @@
+-- `yoksimert::exports::read` meets its contract.
+-- Assumes nothing.
+use mathlib.Core.Path.{sym, ap, ◌∙◌}
+use Prim.Native.Nat.{◌+◌, ◌*◌, ◌≤◌}
+use native.Mathlib.Omega.{arith}
+use lib.ListN.{length}
+use Rattle.signal.specs.Read.{reply_of}
+use Rattle.yoksimert.proofs.Places.{placed}
+use Rattle.yoksimert.proofs.exports.read.Goals.{After-size-size}
+use Rattle.yoksimert.proofs.exports.read.Goals as goal
+
+-- the entry lies within the bytes, and its part is no longer than it
+at : (c : After-size-size) → (let a = c.args in
+    let z = c.size-size.result in
+    (a.byte_start + (a.entry * z + z) ≤ length a.bytes.now) × (length c.in_ok-answer.answer.part.now ≤ z))
+at c =
+    let a = c.args in
+    let p = placed _ a.bytes.now a.byte_start a.entry _ (sym c.read_entry.ensures ∙ ap reply_of c.in_ok-answer.was) in
+    rw c.size-size.ensures (p.inside, p.short)
+
+pub overflow_mul-end : goal.overflow_mul-end
+overflow_mul-end c = omega (arith, (at (goal.at.overflow_mul-end c).After-size-size).0)
+
+pub overflow_add-end : goal.overflow_add-end
+overflow_add-end c = omega (arith, (at (goal.at.overflow_add-end c).After-size-size).0)
+
+pub overflow_add-end-2 : goal.overflow_add-end-2
+overflow_add-end-2 c = omega (arith, (at (goal.at.overflow_add-end-2 c).After-size-size).0)
+
+pub overflow_sub-result : goal.overflow_sub-result
+overflow_sub-result c =
+    let past = at (goal.at.overflow_sub-result c).After-size-size in
+    omega (arith, past.0, past.1)
