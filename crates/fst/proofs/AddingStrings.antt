@@ -223,12 +223,6 @@ module _ {d : Description} {l : Lent} {i : ℕ} {s : List ℕ} {M own : States} 
     pub same_repeatable : Repeatable M M own s (length l.bytes) l.byte_start d.count
     same_repeatable = repeatable joined
 
-    -- the string's entry by itself
-    entry_writable : Writable M own s (entry_size (length s) M) 0
-    entry_writable =
-        let p = same_repeatable in
-        record { under = p.under; codes = p.codes; wide = p.wide; short = p.short; fits = omega arith }
-
     pub size_here : {size : ℕ} → size ≡ entry_size (length s) M → size_of d.encoding ≡ size
     size_here e = ap size_of v.vector ∙ sym e
 

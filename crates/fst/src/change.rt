@@ -72,6 +72,7 @@ enum Addition<'a> {
 #[derive(Drop)]
 struct Event;
 
+#[tactic(auto, using(value::proofs::Slices::overlay_nil))]
 impl Entry for Event {
     ghost use Rattle.std.specs.Prelude.{[], false};
 
@@ -91,6 +92,7 @@ impl Entry for Event {
 }
 
 impl Slices<'_> {
+    #[tactic(auto, using(crate::proofs::Adding::last_none, crate::proofs::Adding::last_some))]
     fn last_index(self, count: u32) -> Option<u32>
         requires { self.index_start + count ≤ length self.indices.now }
         ensures { result ≡ last_in count (part self.entry.index_start count self.entry.indices.now) }
@@ -99,6 +101,7 @@ impl Slices<'_> {
         Some(self.indices[self.index_start + before as usize])
     }
 
+    #[tactic(auto, using(crate::proofs::Adding::below_none, crate::proofs::Adding::below_some))]
     pub(crate) fn is_below_last(self, index: u32, count: u32) -> bool
         requires { self.index_start + count ≤ length self.indices.now }
         ensures { result ≡ is_below_last index count (part self.entry.index_start count self.entry.indices.now) }

@@ -48,9 +48,6 @@ not_above Nine Two h = omega arith
 not_above Nine Four h = omega arith
 not_above Nine Nine h = omega arith
 
-pub is_bad_vector-requires : goal.is_bad_vector-requires
-is_bad_vector-requires c = record { largest = c.args.max_states; vector = c.requires; sized = c.entry_size-size.ensures }
-
 pub returns-then-is_bad_vector : goal.returns-then-is_bad_vector
 returns-then-is_bad_vector c = gives_2 _ _ _ _ (sym c.if-is_bad_vector.ensures)
 

@@ -1,6 +1,6 @@
 -- `fst::Description::raise` meets its contract.
 -- Assumes nothing.
-use mathlib.Core.Path.{◌≡◌, refl, sym, ap, ap₂, subst, ◌∙◌}
+use mathlib.Core.Path.{◌≡◌, sym, ap, ap₂, subst, ◌∙◌}
 use mathlib.Core.Bool.{false, cond, not}
 use mathlib.Core.List.{List}
 use Prim.Native.Nat.{ℕ, ◌+◌, ◌*◌, ◌≤◌, ◌<◌}
@@ -68,11 +68,6 @@ place : (c : After-entry_size) (joint : States) → c.entry_size.result ≡ entr
     → Roomier c.args.self (lent_mut c.args.slices) (entry_size (length c.args.value.now) joint)
     → c.args.slices.byte_start + c.args.self.count * c.entry_size.result + c.entry_size.result ≤ length c.args.slices.bytes.now
 place c joint e room = rw e room.bytes
-
-pub overflow_cast-width : goal.overflow_cast-width
-overflow_cast-width c =
-    let p = (repeatable c.requires refl).short in
-    omega arith
 
 pub repeats_last-repeat-requires : goal.repeats_last-repeat-requires
 repeats_last-repeat-requires c =
