@@ -11,7 +11,7 @@ use lib.Seq.{set_at, take-append-le, drop-append-le, take-take, take_at, drop_at
 use Rattle.value.specs.Slice.{part, overlay}
 use Rattle.value.specs.Digits.{Below}
 use Rattle.value.proofs.Digits.{below_take, below_drop}
-use Rattle.value.proofs.Slices.{part_length, part_add, part_nil, overlay_length, overlay_one, overlay_store}
+use Rattle.value.proofs.Slices.{part_length, part_add, overlay_length, overlay_one}
 
 pub below_part : (B : ℕ) (ds : List ℕ) → Below B ds → (start n : ℕ) → Below B (part start n ds)
 unfolding part
@@ -89,16 +89,6 @@ module _ {A : Type 0} where
       ap (overlay (overlay l (q + (k + b)) ys) (q + k)) (part_before l ys (q + (k + b)) (p + k) b (omega arith) (omega arith))
       ∙ overlay_front l (q + k) (part (p + k) b l) ys (q + (k + b)) (rw s (omega arith)) (omega arith)
       ∙ ap (overlay l (q + k)) (rw (e, part_add l (p + k) b (n - (k + b)), add_assoc p k b))
-
-  -- ---- elements copied from another list, the first one first
-
-  pub copied_more : (l s : List A) (start p i : ℕ) (d : A) → start + i < length l → p + i < length s
-      → set (overlay l start (part p i s)) (start + i) (get_or s (p + i) d) ≡ overlay l start (part p (i + 1) s)
-  copied_more l s start p i d h k =
-      let n : length (part p i s) ≡ i = part_length s p i (omega arith) in
-      overlay_store l start (part p i s) (start + i) (get_or s (p + i) d) (rw n) h
-      ∙ ap (overlay l start)
-      (sym (part_add s p i 1 ∙ ap (λ (r : List A). part p i s ++ r) (part_cons s (p + i) 0 d k ∙ ap (λ (r : List A). get_or s (p + i) d ∷ r) (part_nil s (p + i + 1)))))
 
   -- over the whole list
   pub overlay_whole : (l new : List A) → length new ≡ length l → overlay l 0 new ≡ new

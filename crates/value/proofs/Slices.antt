@@ -8,7 +8,7 @@ use native.Mathlib.Nat.{add-zero}
 use native.Mathlib.Numerals.{add-one}
 use native.Mathlib.Omega.{arith}
 use lib.Dec.{T, eqb, eqb→eq, eqb_refl}
-use lib.ListN.{length, take, drop, get_or, set, replicate, length-append, length-drop, length-replicate, replicate-append-replicate, take-append-drop}
+use lib.ListN.{length, take, drop, get_or, set, length-append, length-drop, take-append-drop}
 use lib.Seq.{take_at, drop_at, take-add, take-take, drop-drop, drop-append-add, drop-append_seam, get_or-take, get_or-drop, length-take-le, set_split}
 use Rattle.value.specs.Slice.{part, overlay, same, any}
 use Rattle.value.proofs.Tests.{and_left, and_right, and_both, or_left, or_right, both_ways}
@@ -126,13 +126,6 @@ module _ {A : Type 0} where
       let z : start + length (part start n l) ≡ start + n = ap (λ (k : ℕ). start + k) (part_length l start n (omega arith)) in
       sym (overlay_store l start (part start n l) (start + n) v z h)
       ∙ ap (λ (r : List A). set r (start + n) v) (overlay_part l start n (omega arith))
-
-  -- a turn of a loop that stores one value again and again
-  pub overlay_fill : (l : List A) (start j : ℕ) (v : A) → start + j < length l
-      → set (overlay l start (replicate j v)) (start + j) v ≡ overlay l start (replicate (j + 1) v)
-  overlay_fill l start j v h =
-      overlay_store l start (replicate j v) (start + j) v (rw length-replicate) h
-      ∙ ap (overlay l start) (replicate-append-replicate j 1 v)
 
   -- ---- a test over all elements
 

@@ -5,7 +5,7 @@ use mathlib.Core.List.{List, []}
 use Prim.Native.Nat.{ℕ, ◌+◌, ◌*◌, ◌%◌, ◌/◌, ◌≤◌, ◌<◌}
 use native.Mathlib.Omega.{arith}
 use lib.ListN.{length, get_or, take, drop, length-drop}
-use lib.Seq.{take_all, length-take-le, drop-drop}
+use lib.Seq.{length-take-le, drop-drop}
 use Rattle.value.specs.Digits.{number, digits}
 use Rattle.value.specs.Slice.{part}
 use Rattle.value.proofs.Digits.{below_all, below_take, below_drop}
@@ -71,9 +71,3 @@ loop-chars-preserved c =
     eight_more (codes_of (fold_all v)) c.requires.codes.below (rw length_codes (omega (arith, c.requires.short))) f c.loop-chars.working _ (rw length_codes (within past)) c.loop-chars.invariant
     (c.two_of_word.ensures ∙ ap (λ (u : List ℕ). number 2 (codes_of (fold_all u))) (characters past) ∙ ap (number 2) (codes_take 8 (drop f v) ∙ ap (take 8) (codes_drop f v)))
     ∙ ap (λ (k : ℕ). number 2 (take k (codes_of (fold_all v)))) (omega arith)
-
-pub returns : goal.returns
-returns c =
-    let v = c.args.value.now in
-    let f = length v % 8 + c.loop-chars.chars-index * 8 in
-    c.loop-chars.invariant ∙ ap (number 2) (take_all f (codes_of (fold_all v)) (rw length_codes (omega (arith, c.loop-chars-test.false, c.as_rchunks.ensures.back_len))))

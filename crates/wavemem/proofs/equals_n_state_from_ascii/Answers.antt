@@ -8,34 +8,15 @@ use borrow.Author.Tests.{eq-eqb, ne_eqb}
 use lib.Dec.{eqb}
 use lib.Bits.{bit_or}
 use lib.ListN.{length, get_or, drop}
-use lib.Seq.{length-take-le}
 use Rattle.value.specs.Slice.{part, same}
 use Rattle.value.specs.Level.{len_of}
 use Rattle.wavemem.specs.Packed.{packed_from, first_count}
-use Rattle.wavemem.proofs.Packing.{per_byte, all_whole, no_meta, first_fits, place_fits, first_byte, rest_whole, rest_is, first_compared, only_compared}
+use Rattle.wavemem.proofs.Packing.{per_byte, first_byte, rest_whole, rest_is, first_compared, only_compared}
 use Rattle.wavemem.proofs.equals_n_state_from_ascii.Goals.{After-byte_from_ascii, Else-first-bits_in_a_byte, Then-first-bits_in_a_byte}
 use Rattle.wavemem.proofs.equals_n_state_from_ascii.Goals as goal
 
-full : (c : Then-first-bits_in_a_byte) → first_count c.args.states (length c.args.value.now) ≡ per_byte c.args.states
-full c = sym c.first_count-first.ensures ∙ c.if-first-bits_in_a_byte.true ∙ c.bits_in_a_byte.ensures
-
 short : (c : Else-first-bits_in_a_byte) → first_count c.args.states (length c.args.value.now) ≡ per_byte c.args.states → ⊥
 short c e = c.if-first-bits_in_a_byte.false (c.first_count-first.ensures ∙ e ∙ sym c.bits_in_a_byte.ensures)
-
-pub equals_whole-requires : goal.equals_whole-requires
-equals_whole-requires c = all_whole c.requires (full (goal.at.equals_whole-requires c).Then-first-bits_in_a_byte)
-
-pub returns-then-first-bits_in_a_byte : goal.returns-then-first-bits_in_a_byte
-returns-then-first-bits_in_a_byte c =
-    rw (no_meta c.requires (full (goal.at.returns-then-first-bits_in_a_byte c).Then-first-bits_in_a_byte)) c.equals_whole.ensures
-
-pub bounds-bytes-at : goal.bounds-bytes-at
-bounds-bytes-at c =
-    omega (arith, place_fits c.requires (short (goal.at.bounds-bytes-at c).Else-first-bits_in_a_byte))
-
-pub slice_bounds-byte_from_ascii-end : goal.slice_bounds-byte_from_ascii-end
-slice_bounds-byte_from_ascii-end c =
-    sym (length-take-le _ _ (rw c.first_count-first.ensures (first_fits c.requires (short (goal.at.slice_bounds-byte_from_ascii-end c).Else-first-bits_in_a_byte))))
 
 pub byte_from_ascii-requires : goal.byte_from_ascii-requires
 byte_from_ascii-requires c =
@@ -63,14 +44,6 @@ returns-then-first-value c =
     (sym
     (only_compared c.requires (short past.Else-first-bits_in_a_byte) c.args.bytes.now refl c.byte_from_ascii.result (omega arith) (rw c.first_count-first.ensures at c.byte_from_ascii.ensures)
     (rw c.first_count-first.ensures at c.if-first-value.true))))
-
-pub slice_bounds-equals_whole-count : goal.slice_bounds-equals_whole-count
-slice_bounds-equals_whole-count c =
-    rw c.first_count-first.ensures (first_fits c.requires (short (goal.at.slice_bounds-equals_whole-count c).Else-first-bits_in_a_byte))
-
-pub slice_bounds-equals_whole-start : goal.slice_bounds-equals_whole-start
-slice_bounds-equals_whole-start c =
-    rw c.first_count-first.ensures (first_fits c.requires (short (goal.at.slice_bounds-equals_whole-start c).Else-first-bits_in_a_byte))
 
 pub equals_whole-requires-2 : goal.equals_whole-requires-2
 equals_whole-requires-2 c =

@@ -3,10 +3,8 @@
 use mathlib.Core.Path.{refl, ◌∙◌}
 use native.Mathlib.Omega.{arith}
 use Prim.Native.Nat.{◌<◌}
-use lib.ListN.{length, get_or, length-map}
-use lib.Seq.{take_all}
+use lib.ListN.{length, get_or}
 use Rattle.value.specs.Digits.{number}
-use Rattle.value.specs.Level.{fold_all, codes_of}
 use Rattle.value.proofs.Classes.{binary_bit}
 use Rattle.wavemem.proofs.Packing.{code_below, next_code}
 use Rattle.wavemem.proofs.few_bits.Goals as goal
@@ -23,8 +21,3 @@ loop-c-preserved c =
     next_code ok i more 1 c.loop-c.working _ refl c.loop-c.invariant
     (c.from-bit.ensures
     ∙ binary_bit (get_or c.args.value.now i 0) (omega (arith, c.type_inv.value i)) (code_below ok i more 2 ok.codes.below))
-
-pub returns : goal.returns
-returns c =
-    let v = c.args.value.now in
-    c.loop-c.invariant ∙ rw (take_all c.loop-c.c-index (codes_of (fold_all v)) (rw (length-map, length-map) (omega arith)))

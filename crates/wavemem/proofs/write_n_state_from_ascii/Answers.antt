@@ -4,38 +4,19 @@ use mathlib.Core.Path.{◌≡◌, refl, sym, ap, ◌∙◌}
 use Prim.Native.Nat.{ℕ, ◌+◌}
 use native.Mathlib.Omega.{arith}
 use lib.ListN.{length, length-set}
-use lib.Seq.{length-take-le}
 use Rattle.value.specs.Slice.{overlay}
 use Rattle.value.proofs.Slices.{overlay_length}
 use Rattle.wavemem.specs.Packed.{packed_from, first_count}
-use Rattle.wavemem.proofs.Packing.{per_byte, packed_from_length, all_whole, no_meta, first_fits, place_fits, first_byte, rest_whole, rest_size, rest_is, first_stored, only_size, only_stored}
+use Rattle.wavemem.proofs.Packing.{per_byte, packed_from_length, first_byte, rest_whole, rest_size, rest_is, first_stored, only_size, only_stored}
 use Rattle.wavemem.proofs.write_n_state_from_ascii.Goals.{After-write_whole-2, Else-first-bits_in_a_byte, Then-first-bits_in_a_byte}
 use Rattle.wavemem.proofs.write_n_state_from_ascii.Goals as goal
-
-full : (c : Then-first-bits_in_a_byte) → first_count c.args.states (length c.args.value.now) ≡ per_byte c.args.states
-full c = sym c.first_count-first.ensures ∙ c.if-first-bits_in_a_byte.true ∙ c.bits_in_a_byte.ensures
 
 short : (c : Else-first-bits_in_a_byte) → first_count c.args.states (length c.args.value.now) ≡ per_byte c.args.states → ⊥
 short c e = c.if-first-bits_in_a_byte.false (c.first_count-first.ensures ∙ e ∙ sym c.bits_in_a_byte.ensures)
 
-pub write_whole-requires : goal.write_whole-requires
-write_whole-requires c = all_whole c.requires (full (goal.at.write_whole-requires c).Then-first-bits_in_a_byte)
-
-pub returns-then-first-bits_in_a_byte : goal.returns-then-first-bits_in_a_byte
-returns-then-first-bits_in_a_byte c =
-    rw (no_meta c.requires (full (goal.at.returns-then-first-bits_in_a_byte c).Then-first-bits_in_a_byte)) c.write_whole.ensures
-
-pub slice_bounds-byte_from_ascii-end : goal.slice_bounds-byte_from_ascii-end
-slice_bounds-byte_from_ascii-end c =
-    sym (length-take-le _ _ (rw c.first_count-first.ensures (first_fits c.requires (short (goal.at.slice_bounds-byte_from_ascii-end c).Else-first-bits_in_a_byte))))
-
 pub byte_from_ascii-requires : goal.byte_from_ascii-requires
 byte_from_ascii-requires c =
     rw c.first_count-first.ensures (first_byte c.requires (short (goal.at.byte_from_ascii-requires c).Else-first-bits_in_a_byte))
-
-pub bounds-out-at : goal.bounds-out-at
-bounds-out-at c =
-    omega (arith, place_fits c.requires (short (goal.at.bounds-out-at c).Else-first-bits_in_a_byte))
 
 pub returns-then-first-value : goal.returns-then-first-value
 returns-then-first-value c =
@@ -46,14 +27,6 @@ returns-then-first-value c =
       value = ap (λ (n : ℕ). c.args.at + n) (sym (only_size c.requires (short past.Else-first-bits_in_a_byte) c.args.out.now refl c.byte_from_ascii.result (omega arith) is only));
       out_after = only_stored c.requires (short past.Else-first-bits_in_a_byte) c.args.out.now refl c.byte_from_ascii.result (omega arith) is only;
     }
-
-pub slice_bounds-write_whole-count : goal.slice_bounds-write_whole-count
-slice_bounds-write_whole-count c =
-    rw c.first_count-first.ensures (first_fits c.requires (short (goal.at.slice_bounds-write_whole-count c).Else-first-bits_in_a_byte))
-
-pub slice_bounds-write_whole-start : goal.slice_bounds-write_whole-start
-slice_bounds-write_whole-start c =
-    rw c.first_count-first.ensures (first_fits c.requires (short (goal.at.slice_bounds-write_whole-start c).Else-first-bits_in_a_byte))
 
 pub write_whole-requires-2 : goal.write_whole-requires-2
 write_whole-requires-2 c =
