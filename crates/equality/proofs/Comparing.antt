@@ -1,15 +1,16 @@
 -- Comparing entries, from what the steps of a comparison say.
 -- Assumes nothing.
-use mathlib.Core.Path.{◌≡◌, refl, sym, ap, ap₂, ◌∙◌}
+use mathlib.Core.Path.{◌≡◌, refl, sym, ap, ap₂, ◌∙◌, subst}
 use mathlib.Core.Bool.{Bool, true, false, cond, ◌&&◌}
 use mathlib.Core.List.{List, [], ◌∷◌, ◌++◌, reverse}
 use Prim.Native.Nat.{ℕ, min, ◌+◌, ◌≤◌, ◌<◌}
 use native.Mathlib.Numerals.{add-one}
 use native.Mathlib.Omega.{arith}
-use lib.Dec.{eqb}
+use lib.Dec.{T, eqb, eqb→eq}
+use lib.Bits.{bit_or, bit_xor, or_add_and, xor_add_and, xor_self, and_le_l, and_le_r}
 use borrow.Author.Tests.{eq-eqb, ne_eqb}
 use lib.ListN.{length, get_or, take}
-use lib.Seq.{take-suc, take_all}
+use lib.Seq.{take-suc, take-take, take_all, get_or-take}
 use Rattle.value.specs.declared.States.{States}
 use Rattle.std.specs.Int.{w64, from_le_bytes}
 use Rattle.value.specs.Digits.{number}
@@ -17,7 +18,7 @@ use Rattle.value.specs.Slice.{same, any}
 use Rattle.value.specs.Level.{text_of}
 use Rattle.value.proofs.Levels.{text_inj, all_below_lem}
 use Rattle.value.proofs.Slices.{same_sound, same_refl, same_by}
-use Rattle.value.proofs.Tests.{from_t, both_ways, by_eq, by_le}
+use Rattle.value.proofs.Tests.{to_t, from_t, both_ways, by_eq, by_le}
 use Rattle.fst.specs.declared.Encoding.{Encoding}
 use Rattle.fst.specs.declared.Encoding.TheVariants.{Event, Real, BitVector}
 use Rattle.fst.specs.declared.Description.{Description}
@@ -58,6 +59,30 @@ module _ (xs ys : List ℕ) where
       let e : xs ≡ ys = sym (take_all i xs h) ∙ t ∙ take_all i ys k in
       sym (from_t (same xs ys) (rw e (same_refl ys)))
 
+  -- the union of all differences
+  pub alike_union : (i u : ℕ) → i < length xs → i < length ys → eqb u 0 ≡ same (take i xs) (take i ys)
+      → eqb (bit_or u (bit_xor (get_or xs i 0) (get_or ys i 0))) 0 ≡ same (take (i + 1) xs) (take (i + 1) ys)
+  alike_union i u h k e =
+      let x = get_or xs i 0 in
+      let y = get_or ys i 0 in
+      let z = bit_xor x y in
+      let n : i ≤ i + 1 = omega arith in
+      let l : i < i + 1 = omega arith in
+      both_ways (eqb (bit_or u z) 0) (same (take (i + 1) xs) (take (i + 1) ys))
+      (λ t.
+      let o : bit_or u z ≡ 0 = eqb→eq (bit_or u z) 0 t in
+      let p : u ≡ 0 = omega (arith, or_add_and u z, and_le_r u z) in
+      let q : z ≡ 0 = omega (arith, or_add_and u z, and_le_l u z) in
+      let v : x ≡ y = omega (arith, xor_add_and x y, and_le_l x y, and_le_r x y) in
+      let s : take i xs ≡ take i ys = same_sound (take i xs) (take i ys) (subst T e (to_t (eqb u 0) (eq-eqb u 0 p))) in
+      rw (alike_more i x y h k refl refl v s) (same_refl (take (i + 1) ys)))
+      (λ t.
+      let q : take (i + 1) xs ≡ take (i + 1) ys = same_sound (take (i + 1) xs) (take (i + 1) ys) t in
+      let s : take i xs ≡ take i ys = sym (take-take i (i + 1) xs n) ∙ ap (take i) q ∙ take-take i (i + 1) ys n in
+      let v : x ≡ y = sym (get_or-take (i + 1) xs i 0 l) ∙ ap (λ (m : List ℕ). get_or m i 0) q ∙ get_or-take (i + 1) ys i 0 l in
+      let p : u ≡ 0 = eqb→eq u 0 (subst T (sym e) (rw s (same_refl (take i ys)))) in
+      to_t (eqb (bit_or u z) 0) (eq-eqb (bit_or u z) 0 (ap₂ bit_or p (ap (bit_xor x) (sym v) ∙ xor_self x))))
+
 -- ---- levels
 
 -- of other widths
@@ -67,8 +92,8 @@ apart {w} {x} S R v u n =
     (λ t. absurd (n (sym (codes_length w S v) ∙ ap length (same_sound (codes_at w S v) (codes_at x R u) t) ∙ codes_length x R u)))
 
 -- of equal bytes under equal sets
-pub alike : {w x : ℕ} {S R : States} {v u : List ℕ} → w ≡ x → S ≡ R → v ≡ u → true ≡ same (codes_at w S v) (codes_at x R u)
-alike {w} {x} {S} {R} {v} {u} e f g = sym (from_t (same (codes_at w S v) (codes_at x R u)) (rw (e, f, g) (same_refl (codes_at x R u))))
+pub alike : {w x : ℕ} {S R : States} (v u : List ℕ) → w ≡ x → S ≡ R → same v u ≡ true → true ≡ same (codes_at w S v) (codes_at x R u)
+alike {w} {x} {S} {R} v u e f g = sym (from_t (same (codes_at w S v) (codes_at x R u)) (rw (e, f, same_sound v u (to_t (same v u) g)) (same_refl (codes_at x R u))))
 
 -- ---- two entries
 

@@ -12,9 +12,12 @@ use signal::read::Record;
 
 // ---- unsigned
 
-// A refusal that 10 comes before.
-fn refused_levels(levels: &Packed, refusal: Refusal) -> Refusal
-    ensures { refused (refusal_number result) ≡ refused_levels (codes_at levels.now.width levels.now.states levels.now.bytes.now) refusal }
+// A refusal that 10 comes before. Kept out of what reads a number, where the registers of its loop would be saved, and lent no reference,
+// for which the levels would be stored.
+#[cold]
+#[inline(never)]
+fn refused_levels(levels: Packed<'_>, refusal: Refusal) -> Refusal
+    ensures { refused (refusal_number result) ≡ refused_levels (codes_at levels.entry.width levels.entry.states levels.entry.bytes.now) refusal }
 {
     if levels.has_bad_code() {
         Refusal::BadCode
@@ -30,11 +33,11 @@ fn binary_of(levels: &Packed) -> Result<u64, Refusal>
     ensures { told result ≡ binary_of levels.now.width (codes_at levels.now.width levels.now.states levels.now.bytes.now) }
 {
     if 64 < levels.width {
-        return Err(refused_levels(levels, Refusal::WrongWidth));
+        return Err(refused_levels(*levels, Refusal::WrongWidth));
     }
     match bits_in(levels.states, levels.width, levels.bytes) {
         Some(number) => Ok(number),
-        None => Err(refused_levels(levels, Refusal::NotBinary)),
+        None => Err(refused_levels(*levels, Refusal::NotBinary)),
     }
 }
 

@@ -76,6 +76,7 @@ pub struct Vector<'a> {
 
 impl<'a> Vector<'a> {
     // Its levels under a set that is its own.
+    #[inline(always)]
     fn levels_of(&self, states: States) -> Packed<'a>
         requires { own_states self.now.max_states self.now.bytes.now ≡ Ok states }
         ensures { is_packed result ≡ unpacked self.now.width self.now.max_states self.now.bytes.now }
@@ -96,6 +97,7 @@ impl<'a> Vector<'a> {
     }
 
     // Its levels, or 9.
+    #[inline(always)]
     pub fn levels(&self) -> Result<Packed<'a>, Refusal>
         ensures { packed_of result ≡ marked self.now.width self.now.max_states self.now.bytes.now }
     {

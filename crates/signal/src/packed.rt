@@ -84,7 +84,6 @@ fn has_bad_code(width: u32, states: States, levels: &[u8]) -> bool
 }
 
 // Stores the characters of the lowest levels of a byte from a place on.
-#[inline(always)]
 fn write_levels(states: States, byte: u8, count: u32, out: &mut [u8], at: usize)
     requires { (count * bits_of states ≤ 8) × (at + count ≤ length out.old) }
     ensures { out.new ≡ overlay out.old at (text_of (digits (2 ^ bits_of states) count byte)) }

@@ -33,6 +33,7 @@ impl<'a> Record<'a> {
     }
 
     // An entry of a bit vector, or 2, or 3, or 8.
+    #[inline(always)]
     pub fn vector_at(&self, entry: u32) -> Result<Vector<'a>, Refusal>
         ensures { vector_of result ≡ vector_in self.now.description self.now.bytes.now self.now.byte_start entry }
     {
