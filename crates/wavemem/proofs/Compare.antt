@@ -3,15 +3,12 @@
 use mathlib.Core.Path.{◌≡◌, refl, sym, ap, ◌∙◌}
 use mathlib.Core.Bool.{Bool, true, false, ◌&&◌}
 use mathlib.Core.List.{List, [], ◌∷◌, ◌++◌}
-use Prim.Native.Nat.{ℕ, ◌+◌, ◌<◌}
+use Prim.Native.Nat.{ℕ}
 use native.Mathlib.Nat.{suc_inj, suc-ne-zero}
-use native.Mathlib.Omega.{arith}
-use native.Mathlib.Numerals.{add-one}
 use lib.Dec.{eqb}
 use lib.Pointwise.{pointwise}
-use lib.ListN.{length, get_or, drop, length-drop}
-use lib.Seq.{take-suc, get_or-drop}
-use Rattle.value.specs.Slice.{part, same}
+use lib.ListN.{length}
+use Rattle.value.specs.Slice.{same}
 use Rattle.value.proofs.Tests.{from_t, both_ways}
 use Rattle.value.proofs.Slices.{same_sound, same_refl}
 
@@ -32,11 +29,6 @@ same_append (x ∷ a) b (y ∷ c) d e = ap (λ (t : Bool). eqb x y && t) (same_a
     assoc : (p q r : Bool) → (p && q) && r ≡ p && (q && r)
     assoc true q r = refl
     assoc false q r = refl
-
--- one element more
-pub part_more : (l : List ℕ) (start n : ℕ) → start + n < length l → part start (n + 1) l ≡ part start n l ++ (get_or l (start + n) 0 ∷ [])
-unfolding part
-part_more l start n h = rw (add-one, take-suc (drop start l) n 0 (rw length-drop (omega arith)), get_or-drop)
 
 -- the comparison of slices by std
 pub pointwise_same : (a b : List ℕ) → pointwise eqb a b ≡ same a b

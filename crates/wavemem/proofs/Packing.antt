@@ -261,19 +261,6 @@ module _ {s : States} {v : List ℕ} {room at meta : ℕ} (ok : Packable s v roo
   abbrev first : ℕ
   first = first_count s (length v)
 
-  module _ (e : first ≡ per_byte s) where
-    pub all_whole : WholeBytes s v room at
-    all_whole = record { codes = ok.codes; short = ok.short; fits = ok.fits; full = omega (arith, spans (length v) s, e) }
-
-    -- no bits are free for meta data
-    pub no_meta : meta ≡ 0
-    no_meta =
-        by_le 1 meta
-        (λ h.
-        let l : length v ≡ len_of (length v) s * per_byte s = omega (arith, spans (length v) s, e) in
-        absurd (omega (arith, ok.free h, full_bits s (length v) (len_of (length v) s) l)))
-        (λ h. omega arith)
-
   module _ (e : first ≡ per_byte s → ⊥) where
     -- how many bytes are behind the first
     abbrev later : ℕ
