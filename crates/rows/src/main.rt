@@ -4,212 +4,169 @@
 // index, an edge of document 02, writes their number alone. Last come the codes that the match over the byte gives.
 #![tactic(auto)]
 
-ghost use Rattle.std.specs.Prelude.{◌<◌};
-
 use derivation::DerivedBitVecSignal;
-use fst::{Added, Description, Encoding, Made, NextIndex};
-use offset::{DataOffset, OffsetAnswer};
+use fst::{Added, Description, Encoding, Refusal, verdict_number};
+use offset::DataOffset;
 use std::alloc::Global;
 use std::io;
 use std::io::{BufWriter, Write};
-use steps::{Input, Inputs};
-use value::CharCode;
+use steps::{Input, Inputs, Sources};
+use value::States;
 
-// The character of a hexadecimal digit.
-fn digit(n: u8) -> u8
-    requires { n < 16 }
-{
-    if n < 10 { b'0' + n } else { b'a' + (n - 10) }
-}
-
-fn write_byte(out: &mut impl Write, n: u8) -> io::Result<()> {
-    let text = [b' ', digit(n / 16), digit(n % 16)];
-    out.write_all(&text)
-}
-
-fn write_bytes(out: &mut impl Write, bytes: &[u8]) -> io::Result<()> {
-    for byte in bytes {
-        write_byte(out, *byte)?;
+// Each number by two digits, since none that is written here needs more.
+fn write_numbers<N: Copy + Into<u32>>(out: &mut impl Write, numbers: &[N]) -> io::Result<()> {
+    for number in numbers {
+        let number: u32 = (*number).into();
+        write!(out, " {number:02x}")?;
     }
     Ok(())
 }
 
-fn low_byte(n: u32) -> u8 {
-    (n % 256) as u8
+fn write_slices(out: &mut impl Write, bytes: &[u8], indices: &[u32]) -> io::Result<()> {
+    write_numbers(out, bytes)?;
+    write!(out, " |")?;
+    write_numbers(out, indices)?;
+    writeln!(out)
 }
 
-fn write_indices(out: &mut impl Write, indices: &[u32]) -> io::Result<()> {
-    for index in indices {
-        write_byte(out, low_byte(*index))?;
+// ---- changes
+
+// A record that is written to. It starts at 2 and 3.
+#[derive(Clone, Copy)]
+struct Record<const BYTES: usize, const INDICES: usize> {
+    description: Description,
+    bytes: [u8; BYTES],
+    indices: [u32; INDICES],
+}
+
+impl<const BYTES: usize, const INDICES: usize> Record<BYTES, INDICES> {
+    fn new(description: Description) -> Self {
+        Record {
+            description,
+            bytes: [0xaa; BYTES],
+            indices: [0x46; INDICES],
+        }
     }
-    Ok(())
+
+    fn take(&mut self, out: &mut impl Write, added: Added) -> io::Result<()> {
+        self.description = added.next;
+        let number = verdict_number(added.verdict);
+        let count = added.next.count;
+        let set = added.next.encoding.largest().mark();
+        write!(out, " {number:02x} {count:02x} {set:02x} |")?;
+        write_slices(out, &self.bytes, &self.indices)
+    }
+
+    fn string(&mut self, out: &mut impl Write, index: u32, value: &str) -> io::Result<()> {
+        let Record {
+            description,
+            bytes,
+            indices,
+        } = self;
+        let added = description.add_change(bytes, 2, indices, 3, index, value.as_bytes());
+        self.take(out, added)
+    }
+
+    fn real(&mut self, out: &mut impl Write, index: u32, bits: u64) -> io::Result<()> {
+        let Record {
+            description,
+            bytes,
+            indices,
+        } = self;
+        let added = description.add_real(bytes, 2, indices, 3, index, bits);
+        self.take(out, added)
+    }
+
+    fn strings(&mut self, out: &mut impl Write, changes: &[(u32, &str)]) -> io::Result<()> {
+        for (index, value) in changes {
+            self.string(out, *index, value)?;
+        }
+        Ok(())
+    }
 }
 
-fn largest(description: Description) -> u8 {
-    let encoding = description.encoding;
-    let states = encoding.largest();
-    states.mark()
-}
-
-fn write_call(out: &mut impl Write, added: Added, bytes: &[u8], indices: &[u32]) -> io::Result<()> {
-    let verdict = added.verdict;
-    let next = added.next;
-    write_byte(out, verdict.number())?;
-    write_byte(out, low_byte(next.count))?;
-    write_byte(out, largest(next))?;
-    out.write_all(b" |")?;
-    write_bytes(out, bytes)?;
-    out.write_all(b" |")?;
-    write_indices(out, indices)?;
-    out.write_all(b"\n")
-}
-
-fn title(out: &mut impl Write, text: &[u8]) -> io::Result<()> {
-    out.write_all(text)?;
-    out.write_all(b"\n")
-}
-
-// A call with a string, for a record that starts at 2 and 3.
-fn string(
-    out: &mut impl Write,
-    description: Description,
-    bytes: &mut [u8],
-    indices: &mut [u32],
-    index: u32,
-    value: &[u8],
-) -> io::Result<Description> {
-    let added = description.add_change(bytes, 2, indices, 3, index, value);
-    write_call(out, added, bytes, indices)?;
-    Ok(added.next)
-}
-
-fn real(
-    out: &mut impl Write,
-    description: Description,
-    bytes: &mut [u8],
-    indices: &mut [u32],
-    index: u32,
-    bits: u64,
-) -> io::Result<Description> {
-    let added = description.add_real(bytes, 2, indices, 3, index, bits);
-    write_call(out, added, bytes, indices)?;
-    Ok(added.next)
-}
-
-// A record of a width that stands. Of any other it is an event.
+// A description of a width that stands. Of any other it is that of an event.
 fn fresh(width: u32) -> Description {
-    let Made::Record(description) = fst::record::fresh(width) else {
-        return Description::new(Encoding::Event, 0);
-    };
-    description
-}
-
-// A change to a new record of a width, between bytes aa and indices 46.
-fn one(out: &mut impl Write, name: &[u8], width: u32, value: &[u8]) -> io::Result<()> {
-    let mut bytes = [0xaau8; 8];
-    let mut indices = [0x46u32; 6];
-    title(out, name)?;
-    string(out, fresh(width), &mut bytes, &mut indices, 0, value)?;
-    Ok(())
-}
-
-// A change at 0, and then another.
-fn two(
-    out: &mut impl Write,
-    name: &[u8],
-    width: u32,
-    first: &[u8],
-    index: u32,
-    second: &[u8],
-) -> io::Result<()> {
-    let mut bytes = [0xaau8; 8];
-    let mut indices = [0x46u32; 6];
-    title(out, name)?;
-    let d = string(out, fresh(width), &mut bytes, &mut indices, 0, first)?;
-    string(out, d, &mut bytes, &mut indices, index, second)?;
-    Ok(())
+    fst::record::fresh(width).unwrap_or(Description::new(Encoding::Event, 0))
 }
 
 fn rows_1_to_7(out: &mut impl Write) -> io::Result<()> {
-    one(out, b"row 1", 1, b"1")?;
-    two(out, b"row 2", 1, b"x", 1, b"X")?;
-    two(out, b"rows 3 and 4", 3, b"x01", 0, b"hz1")?;
-    two(out, b"row 5", 4, b"1010", 2, b"10xz")?;
-    one(out, b"row 6", 5, b"0000x")?;
-    one(out, b"row 7", 2, b"u-")
+    writeln!(out, "row 1")?;
+    Record::<8, 6>::new(fresh(1)).strings(out, &[(0, "1")])?;
+    writeln!(out, "row 2")?;
+    Record::<8, 6>::new(fresh(1)).strings(out, &[(0, "x"), (1, "X")])?;
+    writeln!(out, "rows 3 and 4")?;
+    Record::<8, 6>::new(fresh(3)).strings(out, &[(0, "x01"), (0, "hz1")])?;
+    writeln!(out, "row 5")?;
+    Record::<8, 6>::new(fresh(4)).strings(out, &[(0, "1010"), (2, "10xz")])?;
+    writeln!(out, "row 6")?;
+    Record::<8, 6>::new(fresh(5)).strings(out, &[(0, "0000x")])?;
+    writeln!(out, "row 7")?;
+    Record::<8, 6>::new(fresh(2)).strings(out, &[(0, "u-")])
 }
 
 fn row_8(out: &mut impl Write) -> io::Result<()> {
-    let mut bytes = [0xaau8; 6];
-    let mut indices = [0x46u32; 7];
-    title(out, b"row 8")?;
-    let d = fresh(1);
-    let e = string(out, d, &mut bytes, &mut indices, 5, b"0")?;
-    let f = string(out, e, &mut bytes, &mut indices, 10, b"0")?;
-    let g = string(out, f, &mut bytes, &mut indices, 7, b"1")?;
-    string(out, g, &mut bytes, &mut indices, 6, b"0")?;
-    Ok(())
+    writeln!(out, "row 8")?;
+    let changes = [(5, "0"), (10, "0"), (7, "1"), (6, "0")];
+    Record::<6, 7>::new(fresh(1)).strings(out, &changes)
 }
 
-fn write_absent(out: &mut impl Write) -> io::Result<()> {
-    out.write_all(b" -")
-}
+// ---- look-ups
 
 fn write_offset(out: &mut impl Write, offset: DataOffset) -> io::Result<()> {
-    write_byte(out, 0)?;
-    write_byte(out, (offset.start % 256) as u8)?;
-    write_byte(out, (offset.elements % 256) as u8)?;
-    if offset.time_match {
-        out.write_all(b" equal")?;
+    let start = offset.start;
+    let elements = offset.elements;
+    let time_match = if offset.time_match {
+        "equal"
     } else {
-        out.write_all(b" unequal")?;
+        "unequal"
+    };
+    write!(out, " 00 {start:02x} {elements:02x} {time_match}")?;
+    match offset.next_index {
+        Some(index) => writeln!(out, " {index:02x}"),
+        None => writeln!(out, " -"),
     }
-    let next = offset.next_index;
-    match next {
-        NextIndex::At(index) => write_byte(out, low_byte(index))?,
-        NextIndex::Absent => write_absent(out)?,
-    }
-    out.write_all(b"\n")
-}
-
-// The number of entries by four bytes, the highest first.
-fn write_elements(out: &mut impl Write, n: u32) -> io::Result<()> {
-    write_byte(out, low_byte(n / 16777216))?;
-    write_byte(out, low_byte(n / 65536))?;
-    write_byte(out, low_byte(n / 256))?;
-    write_byte(out, low_byte(n))?;
-    out.write_all(b"\n")
 }
 
 fn look_up(out: &mut impl Write, indices: &[u32], sought: u32) -> io::Result<()> {
     match offset::get_offset(indices, sought) {
-        OffsetAnswer::At(offset) => write_offset(out, offset),
-        OffsetAnswer::Nothing => title(out, b" none"),
-        OffsetAnswer::Refused(refusal) => {
-            write_byte(out, refusal.number())?;
-            out.write_all(b"\n")
-        }
+        Ok(Some(offset)) => write_offset(out, offset),
+        Ok(None) => writeln!(out, " none"),
+        Err(refusal) => write_refusal(out, refusal),
     }
 }
 
+fn write_refusal(out: &mut impl Write, refusal: Refusal) -> io::Result<()> {
+    let number = refusal.number();
+    writeln!(out, " {number:02x}")
+}
+
 fn rows_9_to_11(out: &mut impl Write) -> io::Result<()> {
-    title(out, b"rows 9 to 11")?;
+    writeln!(out, "rows 9 to 11")?;
     look_up(out, &[0, 5, 5, 9], 6)?;
     look_up(out, &[0, 5, 5, 9], 9)?;
     look_up(out, &[3], 2)
 }
 
-// A slice of bit 0 of a record at 2 and 3, into five bytes bb and five indices 50.
-fn slice_of_bit_0(
-    out: &mut impl Write,
-    description: Description,
-    bytes: &[u8],
-    indices: &[u32],
-) -> io::Result<()> {
-    let mut out_bytes = [0xbbu8; 5];
-    let mut out_indices = [0x50u32; 5];
+// ---- a derivation
+
+// The mark of the largest set, or the number of the refusal.
+fn write_made(out: &mut impl Write, made: Result<Description, Refusal>) -> io::Result<()> {
+    match made {
+        Ok(description) => {
+            let set = description.encoding.largest().mark();
+            writeln!(out, " {set:02x}")
+        }
+        Err(refusal) => write_refusal(out, refusal),
+    }
+}
+
+// A slice of bit 0 of a record, into five bytes bb and five indices 50.
+fn slice_of_bit_0(out: &mut impl Write, record: &Record<6, 7>) -> io::Result<()> {
+    let mut bytes = [0xbb; 5];
+    let mut indices = [0x50; 5];
     let input = Input {
-        description,
+        description: record.description,
         byte_start: 2,
         index_start: 3,
     };
@@ -217,156 +174,102 @@ fn slice_of_bit_0(
         count: 1,
         slots: [input; 8],
     };
-    let joined = DerivedBitVecSignal::new_slice(7, 0, 0);
-    let slice = joined.next;
-    let made = transform::derive::derive(
-        slice,
-        inputs,
-        bytes,
-        indices,
-        &mut out_bytes,
-        &mut out_indices,
-    );
-    write_fresh(out, made)?;
-    write_bytes(out, &out_bytes)?;
-    out.write_all(b" |")?;
-    write_indices(out, &out_indices)?;
-    out.write_all(b"\n")
+    let sources = Sources {
+        inputs: &inputs,
+        bytes: &record.bytes,
+        indices: &record.indices,
+    };
+    let slice = DerivedBitVecSignal::new_slice(7, 0, 0).next;
+    let made = transform::derive::derive(&slice, &sources, &mut bytes, &mut indices);
+    write_made(out, made)?;
+    write_slices(out, &bytes, &indices)
 }
 
 fn row_12(out: &mut impl Write) -> io::Result<()> {
-    let mut bytes = [0xaau8; 6];
-    let mut indices = [0x46u32; 7];
-    title(out, b"row 12")?;
-    let d = fresh(2);
-    let e = string(out, d, &mut bytes, &mut indices, 0, b"x1")?;
-    let f = string(out, e, &mut bytes, &mut indices, 4, b"01")?;
-    slice_of_bit_0(out, f, &bytes, &indices)
+    writeln!(out, "row 12")?;
+    let mut record = Record::<6, 7>::new(fresh(2));
+    record.strings(out, &[(0, "x1"), (4, "01")])?;
+    slice_of_bit_0(out, &record)
 }
 
-// Row 5 in 4 bytes, and in 3.
+// ---- edges
+
+// Row 5 in 4 bytes, and then in 3 with the indices that it left.
 fn edge_room(out: &mut impl Write) -> io::Result<()> {
-    let mut four = [0xaau8; 6];
-    let mut three = [0xaau8; 5];
-    let mut indices = [0x46u32; 5];
-    title(out, b"row 5 in 4 bytes")?;
-    let d = fresh(4);
-    let e = string(out, d, &mut four, &mut indices, 0, b"1010")?;
-    string(out, e, &mut four, &mut indices, 2, b"10xz")?;
-    title(out, b"row 5 in 3 bytes")?;
-    let f = string(out, d, &mut three, &mut indices, 0, b"1010")?;
-    string(out, f, &mut three, &mut indices, 2, b"10xz")?;
-    Ok(())
+    let changes = [(0, "1010"), (2, "10xz")];
+    writeln!(out, "row 5 in 4 bytes")?;
+    let mut four = Record::<6, 5>::new(fresh(4));
+    four.strings(out, &changes)?;
+    writeln!(out, "row 5 in 3 bytes")?;
+    let mut three = Record::<5, 5>::new(fresh(4));
+    three.indices = four.indices;
+    three.strings(out, &changes)
 }
 
 // Two entries that overlap their new places, in full slices.
 fn edge_widened(out: &mut impl Write) -> io::Result<()> {
-    let mut bytes = [0xaau8; 8];
-    let mut indices = [0x46u32; 6];
-    title(out, b"two entries widened")?;
-    let d = fresh(4);
-    let e = string(out, d, &mut bytes, &mut indices, 0, b"1010")?;
-    let f = string(out, e, &mut bytes, &mut indices, 1, b"0101")?;
-    string(out, f, &mut bytes, &mut indices, 2, b"10xz")?;
-    Ok(())
+    writeln!(out, "two entries widened")?;
+    let changes = [(0, "1010"), (1, "0101"), (2, "10xz")];
+    Record::<8, 6>::new(fresh(4)).strings(out, &changes)
 }
 
 fn edge_real(out: &mut impl Write) -> io::Result<()> {
-    let mut bytes = [0xaau8; 20];
-    let mut indices = [0x46u32; 6];
-    title(out, b"0.0, 0.0 again, -0.0, a string")?;
-    let d = fst::record::fresh_real();
-    let e = real(out, d, &mut bytes, &mut indices, 1, 0)?;
-    let f = real(out, e, &mut bytes, &mut indices, 2, 0)?;
-    let g = real(out, f, &mut bytes, &mut indices, 2, 0x8000000000000000)?;
-    string(out, g, &mut bytes, &mut indices, 3, b"1")?;
-    Ok(())
+    writeln!(out, "0.0, 0.0 again, -0.0, a string")?;
+    let mut record = Record::<20, 6>::new(fst::record::fresh_real());
+    record.real(out, 1, 0)?;
+    record.real(out, 2, 0)?;
+    record.real(out, 2, 0x8000000000000000)?;
+    record.string(out, 3, "1")
 }
 
 fn edge_event(out: &mut impl Write) -> io::Result<()> {
-    let mut bytes = [0xaau8; 3];
-    let mut indices = [0x46u32; 5];
-    title(out, b"an event, a real, two bytes, no room")?;
-    let d = fresh(0);
-    let e = string(out, d, &mut bytes, &mut indices, 4, b"?")?;
-    let f = real(out, e, &mut bytes, &mut indices, 4, 0)?;
-    let g = string(out, f, &mut bytes, &mut indices, 4, b"11")?;
-    let h = string(out, g, &mut bytes, &mut indices, 4, b"")?;
-    string(out, h, &mut bytes, &mut indices, 4, b"")?;
-    Ok(())
+    writeln!(out, "an event, a real, two bytes, no room")?;
+    let mut record = Record::<3, 5>::new(fresh(0));
+    record.string(out, 4, "?")?;
+    record.real(out, 4, 0)?;
+    record.strings(out, &[(4, "11"), (4, ""), (4, "")])
 }
 
 // A repeat that raises the set, on a byte that no writer made; a foreign character; another length.
 fn edge_byte(out: &mut impl Write) -> io::Result<()> {
-    let mut bytes = [0xaa, 0xaa, 0x42];
-    let mut indices = [0x46u32; 4];
-    title(out, b"42 then x, y, xx")?;
+    writeln!(out, "42 then x, y, xx")?;
     let wire = Encoding::BitVector {
         width: 1,
-        max_states: value::States::Two,
+        max_states: States::Two,
     };
-    let d = Description::new(wire, 1);
-    let e = string(out, d, &mut bytes, &mut indices, 0x50, b"x")?;
-    let f = string(out, e, &mut bytes, &mut indices, 0x50, b"y")?;
-    string(out, f, &mut bytes, &mut indices, 0x50, b"xx")?;
-    Ok(())
-}
-
-fn write_fresh(out: &mut impl Write, made: Made) -> io::Result<()> {
-    match made {
-        Made::Record(description) => write_byte(out, largest(description))?,
-        Made::Refused(refusal) => write_byte(out, refusal.number())?,
-    }
-    out.write_all(b"\n")
+    let mut record = Record::<3, 4>::new(Description::new(wire, 1));
+    record.bytes[2] = 0x42;
+    record.strings(out, &[(0x50, "x"), (0x50, "y"), (0x50, "xx")])
 }
 
 fn edge_width(out: &mut impl Write) -> io::Result<()> {
-    title(out, b"widths 4096 and 4097")?;
-    write_fresh(out, fst::record::fresh(4096))?;
-    write_fresh(out, fst::record::fresh(4097))
+    writeln!(out, "widths 4096 and 4097")?;
+    write_made(out, fst::record::fresh(4096))?;
+    write_made(out, fst::record::fresh(4097))
 }
 
-// How many entries carry index 5, of the first `n`.
-fn count_first(out: &mut impl Write, indices: &[u32], n: usize) -> io::Result<()> {
-    if n > indices.len() {
-        return Ok(());
-    }
-    if let OffsetAnswer::At(offset) = offset::get_offset(&indices[0..n], 5) {
-        write_elements(out, offset.elements)?;
-    }
-    Ok(())
-}
-
-fn count_each(out: &mut impl Write, indices: &[u32]) -> io::Result<()> {
-    title(
-        out,
-        b"65535, 65536, 70000, 131072 and 1048576 entries on one index",
-    )?;
-    count_first(out, indices, 65535)?;
-    count_first(out, indices, 65536)?;
-    count_first(out, indices, 70000)?;
-    count_first(out, indices, 131072)?;
-    count_first(out, indices, 1048576)
-}
-
+// How many entries carry index 5, by four bytes, the highest first.
 fn edge_equal_indices(alloc: Global, out: &mut impl Write) -> io::Result<()> {
-    let indices = vec![in alloc; 5u32; 1048576]?;
-    count_each(out, &indices)
-}
-
-fn write_code(out: &mut impl Write, value: u8) -> io::Result<()> {
-    if let CharCode::Code(code) = value::bit_char_to_num(value) {
-        write_byte(out, value)?;
-        write_byte(out, code)?;
-        out.write_all(b"\n")?;
+    writeln!(
+        out,
+        "65535, 65536, 70000, 131072 and 1048576 entries on one index"
+    )?;
+    for count in [65535, 65536, 70000, 131072, 1048576] {
+        let indices = vec![in alloc; 5u32; count]?;
+        if let Ok(Some(offset)) = offset::get_offset(&indices, 5) {
+            write_numbers(out, &offset.elements.to_be_bytes())?;
+            writeln!(out)?;
+        }
     }
     Ok(())
 }
 
 fn edge_letters(out: &mut impl Write) -> io::Result<()> {
-    title(out, b"each byte that is not foreign, and its code")?;
+    writeln!(out, "each byte that is not foreign, and its code")?;
     for value in 0..=255 {
-        write_code(out, value)?;
+        if let Some(code) = value::bit_char_to_num(value) {
+            writeln!(out, " {value:02x} {code:02x}")?;
+        }
     }
     Ok(())
 }
