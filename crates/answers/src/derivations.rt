@@ -1,148 +1,99 @@
 // The calls of stored answers on derivations: Add a piece and Derive.
-ghost use Rattle.std.specs.Prelude.{◌<◌};
-
-use calls::{byte_buffer, description, has_made, index_buffer};
+use calls::{Room, description, write_made};
 use derivation::{DerivedBitVecSignal, Joined};
-use fst::Made;
-use lines::{
-    has_indices, has_number, has_pieces, has_slices, is_framed, number_32, place, read_bytes,
-    read_indices, read_pieces,
-};
-use steps::{Input, Inputs};
+use fst::{Description, Encoding, verdict_number};
+use lines::{Elements, Line, Otherwise};
+use std::fmt::Write;
+use steps::{Input, Inputs, Sources};
 
-// ---- derivations
-
-fn derivation(line: &[u8]) -> DerivedBitVecSignal {
-    let mut inputs = [0u32; 8];
-    let mut bits = [0u64; 64];
-    read_indices(line, 4, &mut inputs);
-    read_pieces(line, 6, &mut bits);
-    DerivedBitVecSignal {
-        width: number_32(line, 2),
-        input_count: number_32(line, 3),
+fn derivation(line: &mut Line) -> Result<DerivedBitVecSignal, Otherwise> {
+    let width = line.number()?;
+    let input_count = line.number()?;
+    let mut inputs = [0; 8];
+    line.list(&mut inputs)?;
+    let piece_count = line.number()?;
+    let mut bits = [0; 64];
+    line.list(&mut bits)?;
+    Ok(DerivedBitVecSignal {
+        width,
+        input_count,
         inputs,
-        piece_count: number_32(line, 5),
+        piece_count,
         bits,
-    }
+    })
 }
 
-// The number, then the derivation.
-fn has_joined(line: &[u8], joined: Joined) -> bool {
-    let verdict = joined.verdict;
-    let next = joined.next;
-    let inputs = next.inputs;
-    let bits = next.bits;
-    has_number(line, 11, verdict.number() as u64)
-        && has_number(line, 12, next.width as u64)
-        && has_number(line, 13, next.input_count as u64)
-        && has_indices(line, 14, &inputs)
-        && has_number(line, 15, next.piece_count as u64)
-        && has_pieces(line, 16, &bits)
-}
-
-// ---- operations
-
-pub fn left(line: &[u8]) -> bool {
-    let before = derivation(line);
-    let signal = number_32(line, 7);
-    let joined = before.concat_left(signal, number_32(line, 8), number_32(line, 9));
-    is_framed(line, 10, 17) && has_joined(line, joined)
-}
-
-pub fn right(line: &[u8]) -> bool {
-    let before = derivation(line);
-    let signal = number_32(line, 7);
-    let joined = before.concat_right(signal, number_32(line, 8), number_32(line, 9));
-    is_framed(line, 10, 17) && has_joined(line, joined)
-}
-
-fn input(line: &[u8], field: usize) -> Input
-    requires { field < 100 }
+fn add_piece<F: FnOnce(DerivedBitVecSignal, u32, u32, u32) -> Joined>(
+    line: &mut Line,
+    concat: F,
+) -> Result<(), Otherwise>
+    requires { F.IsAlwaysCallable concat }
 {
-    Input {
-        description: description(line, field),
-        byte_start: place(line, field + 4),
-        index_start: place(line, field + 5),
-    }
-}
-
-// Slots past the count are free: there they have what other fields make.
-fn inputs(line: &[u8]) -> Inputs {
-    Inputs {
-        count: number_32(line, 7),
-        slots: [
-            input(line, 8),
-            input(line, 14),
-            input(line, 20),
-            input(line, 26),
-            input(line, 32),
-            input(line, 38),
-            input(line, 44),
-            input(line, 50),
-        ],
-    }
-}
-
-fn derived(
-    line: &[u8],
-    bytes: &[u8],
-    indices: &[u32],
-    out_bytes: &mut [u8],
-    out_indices: &mut [u32],
-) -> Made {
-    let known = derivation(line);
-    let records = inputs(line);
-    transform::derive::derive(known, records, bytes, indices, out_bytes, out_indices)
-}
-
-// `from` is the first field after the inputs.
-fn is_derived(
-    line: &[u8],
-    from: usize,
-    bytes: &[u8],
-    indices: &[u32],
-    out_bytes: &mut [u8],
-    out_indices: &mut [u32],
-) -> bool
-    requires { from < 60 }
-{
-    let made = derived(line, bytes, indices, out_bytes, out_indices);
-    has_made(line, from + 5, made) && has_slices(line, from + 10, out_bytes, out_indices)
-}
-
-fn derive_into(line: &[u8], from: usize, bytes: &[u8], indices: &[u32]) -> bool
-    requires { from < 60 }
-{
-    let mut out_bytes = byte_buffer();
-    let mut out_indices = index_buffer();
-    let b = read_bytes(line, from + 2, &mut out_bytes);
-    let i = read_indices(line, from + 3, &mut out_indices);
-    is_derived(
+    let before = derivation(line)?;
+    let joined = concat(before, line.number()?, line.number()?, line.number()?);
+    let number = verdict_number(joined.verdict);
+    let DerivedBitVecSignal {
+        width,
+        input_count,
+        inputs,
+        piece_count,
+        bits,
+    } = joined.next;
+    write!(
         line,
-        from,
-        bytes,
-        indices,
-        &mut out_bytes[..b],
-        &mut out_indices[..i],
-    )
+        "= {number} {width} {input_count} {} ",
+        Elements(&inputs)
+    )?;
+    write!(line, "{piece_count} {}", Elements(&bits))?;
+    Ok(())
 }
 
-fn derive_from(line: &[u8], from: usize) -> bool
-    requires { from < 60 }
-{
-    let mut bytes = byte_buffer();
-    let mut indices = index_buffer();
-    let b = read_bytes(line, from, &mut bytes);
-    let i = read_indices(line, from + 1, &mut indices);
-    derive_into(line, from, &bytes[..b], &indices[..i])
+pub fn left(line: &mut Line) -> Result<(), Otherwise> {
+    add_piece(line, DerivedBitVecSignal::concat_left)
 }
 
-// A line with more inputs than there are slots counts as one that came out otherwise.
-pub fn derive(line: &[u8]) -> bool {
-    let count = number_32(line, 7);
-    if 8 < count {
-        return false;
+pub fn right(line: &mut Line) -> Result<(), Otherwise> {
+    add_piece(line, DerivedBitVecSignal::concat_right)
+}
+
+fn input(line: &mut Line) -> Result<Input, Otherwise> {
+    Ok(Input {
+        description: description(line)?,
+        byte_start: line.number()?,
+        index_start: line.number()?,
+    })
+}
+
+// What lies in slots past the count is free. A line with more inputs than there are slots can't be read.
+fn inputs(line: &mut Line) -> Result<Inputs, Otherwise> {
+    let count: u32 = line.number()?;
+    let free = Input {
+        description: Description::new(Encoding::Event, 0),
+        byte_start: 0,
+        index_start: 0,
+    };
+    let mut slots = [free; 8];
+    let (used, _) = slots.split_at_mut_checked(count as usize).ok_or(Otherwise)?;
+    for slot in used {
+        *slot = input(line)?;
     }
-    let from = 8 + 6 * count as usize;
-    is_framed(line, from + 4, from + 12) && derive_from(line, from)
+    Ok(Inputs { count, slots })
+}
+
+pub fn derive(line: &mut Line) -> Result<(), Otherwise> {
+    let mut lent = Room::new();
+    let mut out = Room::new();
+    let known = derivation(line)?;
+    let inputs = inputs(line)?;
+    let sources = Sources {
+        inputs: &inputs,
+        bytes: line.list(&mut lent.bytes)?,
+        indices: line.list(&mut lent.indices)?,
+    };
+    let out_bytes = line.list(&mut out.bytes)?;
+    let out_indices = line.list(&mut out.indices)?;
+    let made = transform::derive::derive(&known, &sources, out_bytes, out_indices);
+    write_made(line, made)?;
+    write!(line, " {} {}", Elements(out_bytes), Elements(out_indices))?;
+    Ok(())
 }

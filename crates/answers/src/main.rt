@@ -5,186 +5,155 @@
 
 mod derivations;
 
-use lines::has_word;
-use std::io;
-use std::io::{Input, Read, Write};
+use lines::{Line, Otherwise};
+use std::fmt::{Display, Formatter};
+use std::{fmt, io};
 
-// A longer line counts as one that came out otherwise, so that every list fits its buffer.
-const LONGEST: usize = 32768;
-
-// The place of a line's operation among the thirteen, and 13 for any other.
-fn operation(line: &[u8]) -> usize {
-    if has_word(line, 1, b"fresh") {
-        return 0;
-    }
-    if has_word(line, 1, b"add") {
-        return 1;
-    }
-    if has_word(line, 1, b"read") {
-        return 2;
-    }
-    if has_word(line, 1, b"text") {
-        return 3;
-    }
-    if has_word(line, 1, b"compare") {
-        return 4;
-    }
-    if has_word(line, 1, b"lookup") {
-        return 5;
-    }
-    if has_word(line, 1, b"left") {
-        return 6;
-    }
-    if has_word(line, 1, b"right") {
-        return 7;
-    }
-    if has_word(line, 1, b"derive") {
-        return 8;
-    }
-    later_operation(line)
+#[derive(Clone, Copy, PartialEq, Eq)]
+enum Operation {
+    Fresh,
+    Add,
+    Read,
+    Text,
+    Compare,
+    LookUp,
+    Left,
+    Right,
+    Derive,
+    Unsigned,
+    Signed,
+    Decimal,
+    Search,
+    Other,
 }
 
-// The same of those that document 01 doesn't have.
-fn later_operation(line: &[u8]) -> usize {
-    if has_word(line, 1, b"unsigned") {
-        return 9;
-    }
-    if has_word(line, 1, b"signed") {
-        return 10;
-    }
-    if has_word(line, 1, b"decimal") {
-        return 11;
-    }
-    if has_word(line, 1, b"search") {
-        return 12;
-    }
-    13
-}
+impl Operation {
+    const ALL: [Operation; 14] = [
+        Operation::Fresh,
+        Operation::Add,
+        Operation::Read,
+        Operation::Text,
+        Operation::Compare,
+        Operation::LookUp,
+        Operation::Left,
+        Operation::Right,
+        Operation::Derive,
+        Operation::Unsigned,
+        Operation::Signed,
+        Operation::Decimal,
+        Operation::Search,
+        Operation::Other,
+    ];
 
-// Whether the call of a line comes out as stored.
-fn agrees(operation: usize, line: &[u8]) -> bool {
-    if LONGEST < line.len() {
-        return false;
+    // Reads who answered, and the operation.
+    fn read(line: &mut Line) -> Result<Operation, Otherwise> {
+        line.field()?;
+        let name = line.field()?;
+        Operation::ALL
+            .into_iter()
+            .find(|operation| operation.name() == name)
+            .ok_or(Otherwise)
     }
-    match operation {
-        0 => calls::fresh(line),
-        1 => calls::add(line),
-        2 => calls::read(line),
-        3 => calls::text(line),
-        4 => calls::compare(line),
-        5 => calls::look_up(line),
-        6 => derivations::left(line),
-        7 => derivations::right(line),
-        8 => derivations::derive(line),
-        9 => calls::unsigned(line),
-        10 => calls::signed(line),
-        11 => calls::decimal(line),
-        12 => calls::search(line),
-        _ => false,
-    }
-}
 
-fn get(numbers: &[u64], place: usize) -> u64 {
-    if place < numbers.len() {
-        numbers[place]
-    } else {
-        0
-    }
-}
-
-fn put(numbers: &mut [u64], place: usize, number: u64) {
-    if place < numbers.len() {
-        numbers[place] = number;
-    }
-}
-
-// Counts a line that agrees. Of those that don't, the first of each operation is kept by its number.
-fn replay_line(line: &[u8], number: usize, agreed: &mut [u64], first: &mut [u64]) {
-    if 0 < line.len() && line[0] == b'#' {
-        return;
-    }
-    let place = operation(line);
-    if agrees(place, line) {
-        let count = get(agreed, place);
-        put(agreed, place, count.wrapping_add(1));
-    } else if get(first, place) == 0 {
-        put(first, place, number as u64);
-    }
-}
-
-// Replays the line that a text begins with, and gives its length with the line's end.
-fn replay_first(text: &[u8], number: usize, agreed: &mut [u64], first: &mut [u64]) -> usize {
-    let end = text.iter().position(|character| *character == b'\n');
-    let length = end.unwrap_or(text.len());
-    replay_line(&text[..length], number, agreed, first);
-    length.wrapping_add(1)
-}
-
-// Replays the line at a place of the text, and gives its length; 0 past the text's end.
-fn replay_at(
-    text: &[u8],
-    place: usize,
-    number: usize,
-    agreed: &mut [u64],
-    first: &mut [u64],
-) -> usize {
-    if text.len() <= place {
-        return 0;
-    }
-    replay_first(&text[place..], number, agreed, first)
-}
-
-// No text has so many lines that the loop ends by their number.
-fn replay(text: &[u8], agreed: &mut [u64], first: &mut [u64]) {
-    let mut place = 0;
-    for number in 1..18446744073709551615 {
-        let length = replay_at(text, place, number, agreed, first);
-        if length == 0 {
-            return;
+    fn name(self) -> &'static str {
+        match self {
+            Operation::Fresh => "fresh",
+            Operation::Add => "add",
+            Operation::Read => "read",
+            Operation::Text => "text",
+            Operation::Compare => "compare",
+            Operation::LookUp => "lookup",
+            Operation::Left => "left",
+            Operation::Right => "right",
+            Operation::Derive => "derive",
+            Operation::Unsigned => "unsigned",
+            Operation::Signed => "signed",
+            Operation::Decimal => "decimal",
+            Operation::Search => "search",
+            Operation::Other => "other",
         }
-        place = place.wrapping_add(length);
+    }
+
+    // Makes the call of a line, behind its operation.
+    fn replay(self, line: &mut Line) -> Result<(), Otherwise> {
+        match self {
+            Operation::Fresh => calls::fresh(line),
+            Operation::Add => calls::add(line),
+            Operation::Read => calls::read(line),
+            Operation::Text => calls::text(line),
+            Operation::Compare => calls::compare(line),
+            Operation::LookUp => calls::look_up(line),
+            Operation::Left => derivations::left(line),
+            Operation::Right => derivations::right(line),
+            Operation::Derive => derivations::derive(line),
+            Operation::Unsigned => calls::unsigned(line),
+            Operation::Signed => calls::signed(line),
+            Operation::Decimal => calls::decimal(line),
+            Operation::Search => calls::search(line),
+            Operation::Other => Err(Otherwise),
+        }
     }
 }
 
-fn report(
-    out: &mut impl Write,
-    operation: &[u8],
-    agreed: &[u64],
-    first: &[u64],
-    place: usize,
-) -> io::Result<()> {
-    out.write_all(operation)?;
-    let line = get(first, place);
-    if line == 0 {
-        let count = get(agreed, place);
-        writeln!(out, ": {count} as stored")
-    } else {
-        writeln!(out, ": line {line} comes out otherwise")
+// What came of an operation's lines.
+#[derive(Drop)]
+struct Tally {
+    operation: Operation,
+    agreed: u64,
+    // The number of the first line that comes out otherwise.
+    otherwise: Option<u64>,
+}
+
+impl Tally {
+    fn new(operation: Operation) -> Tally {
+        Tally {
+            operation,
+            agreed: 0,
+            otherwise: None,
+        }
+    }
+
+    fn count(&mut self, number: u64, agrees: bool) {
+        if agrees {
+            self.agreed = self.agreed.saturating_add(1);
+        } else {
+            self.otherwise.get_or_insert(number);
+        }
     }
 }
 
-fn report_all(out: &mut impl Write, agreed: &[u64], first: &[u64]) -> io::Result<()> {
-    report(out, b"fresh", agreed, first, 0)?;
-    report(out, b"add", agreed, first, 1)?;
-    report(out, b"read", agreed, first, 2)?;
-    report(out, b"text", agreed, first, 3)?;
-    report(out, b"compare", agreed, first, 4)?;
-    report(out, b"lookup", agreed, first, 5)?;
-    report(out, b"left", agreed, first, 6)?;
-    report(out, b"right", agreed, first, 7)?;
-    report(out, b"derive", agreed, first, 8)?;
-    report(out, b"unsigned", agreed, first, 9)?;
-    report(out, b"signed", agreed, first, 10)?;
-    report(out, b"decimal", agreed, first, 11)?;
-    report(out, b"search", agreed, first, 12)?;
-    report(out, b"other", agreed, first, 13)
+impl Display for Tally {
+    fn fmt<W: fmt::Write>(&self, f: &mut Formatter<W>) -> fmt::Result {
+        let operation = self.operation.name();
+        let agreed = self.agreed;
+        match self.otherwise {
+            None => write!(f, "{operation}: {agreed} as stored"),
+            Some(number) => write!(f, "{operation}: line {number} comes out otherwise"),
+        }
+    }
+}
+
+fn replay_line(text: &str, number: u64, tallies: &mut [Tally]) {
+    let mut line = Line::new(text);
+    let operation = Operation::read(&mut line).unwrap_or(Operation::Other);
+    let agrees = operation.replay(&mut line).is_ok() && line.end().is_ok();
+    for tally in tallies {
+        if tally.operation == operation {
+            tally.count(number, agrees);
+        }
+    }
 }
 
 fn main(rt: HostRuntime) -> io::Result<()> {
-    let mut text = Vec::new(rt.alloc());
-    rt.reader().read_to_end(&mut text)?;
-    let mut agreed = [0u64; 14];
-    let mut first = [0u64; 14];
-    replay(&text, &mut agreed, &mut first);
-    report_all(&mut io::writer(&rt), &agreed, &first)
+    let text = io::read_to_string(rt.alloc(), rt.reader())?;
+    let mut tallies = Operation::ALL.map(Tally::new);
+    for (number, line) in (1..).zip(text.lines()) {
+        if !line.starts_with('#') {
+            replay_line(line, number, &mut tallies);
+        }
+    }
+    for tally in &tallies {
+        println!(rt; "{tally}")?;
+    }
+    Ok(())
 }
