@@ -6,7 +6,7 @@ ghost use Rattle.steps.specs.Stepping.{ReachesNow, Showing, advanced, at_start, 
 
 use crate::{Input, Inputs};
 use fst::Encoding;
-use signal::decode::Vector;
+use signal::decode::{Vector, states_in};
 use signal::packed::Packed;
 use std::marker::Model;
 use value::States;
@@ -108,7 +108,10 @@ impl Cursor {
         requires { Showing bytes.now self.now }
         ensures { result ≡ set_now bytes.now self.now }
     {
-        self.levels(bytes).states
+        states_in(
+            u32::from(self.encoding().largest().mark()),
+            self.shown(bytes),
+        )
     }
 }
 

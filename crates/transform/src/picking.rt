@@ -37,6 +37,41 @@ fn write_levels(levels: &Packed, first: u32, count: u32, text: &mut [u8], at: us
     }
 }
 
+// `write_levels` for each set apart, so that it is compiled for its own number of bits.
+fn write_levels_of(levels: &Packed, first: u32, count: u32, text: &mut [u8], at: usize)
+    requires { (first + count ≤ levels.now.width) × (at + count ≤ length text.old) }
+    ensures { text.new ≡ overlay text.old at (text_of (part first count (codes_at levels.now.width levels.now.states levels.now.bytes.now))) }
+{
+    let width = levels.width;
+    let bytes = levels.bytes;
+    match levels.states {
+        States::Two => {
+            let two = Packed {
+                width,
+                states: States::Two,
+                bytes,
+            };
+            write_levels(&two, first, count, text, at)
+        }
+        States::Four => {
+            let four = Packed {
+                width,
+                states: States::Four,
+                bytes,
+            };
+            write_levels(&four, first, count, text, at)
+        }
+        States::Nine => {
+            let nine = Packed {
+                width,
+                states: States::Nine,
+                bytes,
+            };
+            write_levels(&nine, first, count, text, at)
+        }
+    }
+}
+
 // Stores the characters of one piece from a place on.
 fn write_piece(extract: Extract, cursor: &Cursor, bytes: &[u8], text: &mut [u8], at: usize)
     requires { Picks bytes.now cursor.now extract (length text.old) at }
@@ -45,7 +80,7 @@ fn write_piece(extract: Extract, cursor: &Cursor, bytes: &[u8], text: &mut [u8],
     let levels = cursor.levels(bytes);
     let count = u32::from(extract.width);
     let first = levels.width - (extract.lsb + count);
-    write_levels(&levels, first, count, text, at);
+    write_levels_of(&levels, first, count, text, at);
 }
 
 // Stores the characters of all pieces.

@@ -25,6 +25,6 @@ pub returns : goal.returns
 returns c =
     let p = c.levels-levels.result in
     let e = c.args.extract in
-    c.write_levels.ensures
+    c.write_levels_of.ensures
     ∙ ap (λ (x : List ℕ). overlay c.args.text.now c.args.at (text_of x))
     (rw c.from-count.ensures (picked_is p.width p.states p.bytes.now e (levels_now c.args.bytes.now c.args.cursor.now) (told (goal.at.returns c).After-levels-levels)))
