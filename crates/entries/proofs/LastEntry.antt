@@ -13,19 +13,12 @@ use Rattle.value.specs.Slice.{part, overlay, same}
 use Rattle.value.specs.Level.{mark_of}
 use Rattle.value.proofs.Slices.{part_length, part_all, part_part, part_overlay}
 use Rattle.layout.specs.Entry.{entry_size, widen_entry, widen_all}
-use Rattle.layout.specs.Writable.{Writable, entry_from}
+use Rattle.layout.specs.Writable.{entry_from}
 use Rattle.entries.specs.Repeats.{repeats}
 use Rattle.entries.specs.Repeatable.{Repeatable, equals_widened, repeats_widened}
 use Rattle.layout.proofs.Sizes.{widen_length, widen_same}
 
 -- ---- the last of n entries of one size
-
--- it ends where they end
-pub last_place : (n size start room : ℕ) → (n ≡ 0 → ⊥) → start + n * size ≤ room → start + (n - 1) * size + size ≤ room
-last_place zero size start room h r = absurd (h refl)
-last_place (suc m) size start room h r =
-    let e : suc m - 1 ≡ m = omega arith in
-    rw e (omega (arith, suc-mul m size))
 
 -- there is none to repeat
 pub none_repeated : (size n : ℕ) (bytes new : List ℕ) → n ≡ 0 → false ≡ repeats size n bytes new
@@ -105,24 +98,6 @@ module _ (w : ℕ) (pos : 1 ≤ w) (from to : States) (up : mark_of from ≤ mar
 -- ---- the last of entries that a string may repeat
 
 module _ {M J own : States} {v : List ℕ} {room start n : ℕ} (p : Repeatable M J own v room start n) (some : n ≡ 0 → ⊥) {size : ℕ} (sized : size ≡ entry_size (length v) M) where
-  pub last_within : start + (n - 1) * size + size ≤ room
-  last_within = rw sized (last_place n _ start _ some p.fits)
-
-  -- what is asked of it, under a set of which it has the size
-  pub last_writable : size ≡ entry_size (length v) J → Writable J own v room (start + (n - 1) * size)
-  last_writable e = record { under = p.under; codes = p.codes; wide = p.wide; short = p.short; fits = omega (arith, last_within) }
-
-  pub last_repeatable : Repeatable M J own v room (start + (n - 1) * size) 1
-  last_repeatable =
-      record {
-        under = p.under;
-        up = p.up;
-        codes = p.codes;
-        wide = p.wide;
-        short = p.short;
-        fits = omega (arith, one-mul (entry_size (length v) M), last_within);
-      }
-
   module _ (bytes : List ℕ) (long : length bytes ≡ room) where
     -- whether the string repeats it, laid out anew
     pub last_widened : equals_widened M J own v (start + (n - 1) * size) bytes ≡ repeats_widened M J own v start n bytes
