@@ -29,9 +29,10 @@ use Rattle.signal.specs.Parts.{Unpacked, unpacked, marked}
 use Rattle.signal.specs.Read.{unreadable}
 use Rattle.signal.proofs.Reading.{HasEntry, marked_given, codes_are}
 use Rattle.numbers.specs.Number.{unsigned, signed, decimal, signed_of, digits_of, has_part_digit, is_wrong_width, has_other, has_high_digit, read_number}
-use Rattle.numbers.specs.Parts.{refused_levels, binary_of, binary_in, signed_by, signed_from, decimal_by, decimal_from}
+use Rattle.numbers.specs.Parts.{refused_levels, binary_of, binary_in, signed_by, signed_from, decimal_by, decimal_from, bits_of_levels}
+use Rattle.std.specs.Prelude.{Option, Some, None, IfSome}
 use Rattle.numbers.proofs.Forms.{signed_unsigned}
-use Rattle.numbers.proofs.Words.{Known, known_lt}
+use Rattle.numbers.proofs.Words.{Known, known_lt, known_bits}
 
 -- ---- levels
 
@@ -281,3 +282,9 @@ module _ (w : ℕ) where
 pub not_other : (r : Refusal) → (r ≡ NotBinary → ⊥) → refusal_number r ≡ 17 → ⊥
 not_other NotBinary o h = o refl
 not_other r o h = absurd (omega arith)
+
+-- ---- a number that is told where nothing is refused
+
+pub quick_told : (w : ℕ) (cs : List ℕ) → w ≤ 64 → {r : Reply ℕ} → binary_of w cs ≡ r → (o : Option ℕ) → o ≡ bits_of_levels cs → IfSome o (λ n. given n ≡ r)
+quick_told w cs h e None q = tt
+quick_told w cs h e (Some n) q = binary_known w cs h (known_bits cs (sym q)) ∙ e

