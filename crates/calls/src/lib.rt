@@ -2,8 +2,6 @@
 // of the line, where it has to stand already.
 #![tactic(auto)]
 
-ghost use Rattle.std.specs.Prelude.{◌≡◌};
-
 use equality::Lent;
 use fst::record::Slices;
 use fst::{Description, Encoding, Refusal, verdict_number};
