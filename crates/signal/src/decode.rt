@@ -106,6 +106,7 @@ impl<'a> Vector<'a> {
     }
 
     // Its levels, or 9, or 10.
+    #[inline(always)]
     pub fn coded_levels(&self) -> Result<Packed<'a>, Refusal>
         ensures { packed_of result ≡ coded self.now.width self.now.max_states self.now.bytes.now }
     {
