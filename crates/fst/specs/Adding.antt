@@ -44,6 +44,10 @@ added d l i new again =
 unfoldable pub left_with : Description → Lent → Kept → Outcome (Recorder Description)
 left_with d l k = outcome (in_hand d l) (tried (7 ⇐ lacks_room k l ∷ []) (given (stored l k)))
 
+-- with some bytes, unless they repeat the last entry of those from a start on
+abbrev pub left_adding : Description → Lent → ℕ → List ℕ → (ℕ → ℕ → List ℕ → Bool) → Outcome (Recorder Description)
+left_adding d l i new repeats = left_with d l (added d l i new (repeats l.byte_start d.count l.bytes))
+
 -- a change that adds some bytes, or none where they repeat the last entry
 pub record Adds (d : Description) (l : Lent) (i : ℕ) (c : Change) (new : List ℕ) (again : Bool) : Type 0 where
   pub admitted : Admitted d l i c

@@ -4,7 +4,7 @@ ghost use Rattle.value.specs.Slice.{part};
 ghost use Rattle.fst.specs.declared.Encoding.TheVariants as encoding;
 ghost use Rattle.fst.specs.Record.{maximum, size_of, is_bad, lent, lent_in, lent_mut};
 ghost use Rattle.fst.specs.Change.{text, is_below_last, add_change, left_by, answered};
-ghost use Rattle.fst.specs.Adding.{last_in, added, left_with, Admits, AdmittedString};
+ghost use Rattle.fst.specs.Adding.{last_in, left_adding, Admits, AdmittedString};
 
 use crate::record::{Slices, SlicesMut, is_bad, is_bad_vector, lacks_room};
 use crate::{Added, Description, Encoding, Refusal};
@@ -139,7 +139,7 @@ impl Description {
         entry: &E,
     ) -> Result<Description, Refusal>
         requires { (is_bad self (lent_mut slices) ≡ false) × (length (E.stored entry.now) ≡ size_of self.encoding) }
-        ensures { left_by (answered self result) slices.exit.0.now slices.exit.1.0.now ≡ left_with self (lent_mut slices.entry) (added self (lent_mut slices.entry) index (E.stored entry.now) (E.again entry.now slices.entry.byte_start self.count slices.entry.bytes.now)) }
+        ensures { left_by (answered self result) slices.exit.0.now slices.exit.1.0.now ≡ left_adding self (lent_mut slices.entry) index (E.stored entry.now) (E.again entry.now) }
     {
         let seen = slices.shared();
         if entry.repeats(seen.bytes, seen.byte_start, self.count) {

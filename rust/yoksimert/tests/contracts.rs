@@ -31,7 +31,8 @@ impl Function {
     /// A clause, whose kind may have a name behind it where a function has several of the kind.
     fn take_clause(&mut self, kind: &str, rest: &str) {
         let fact = rest.split_once('{').map(|(_, fact)| fact);
-        let fact = fact.and_then(|fact| fact.strip_suffix('}'));
+        // A trait's clause ends its method.
+        let fact = fact.and_then(|fact| fact.trim_end_matches(';').strip_suffix('}'));
         let fact = fact.expect("a clause stands on one line").trim();
         let characters = if kind == "requires" {
             &mut self.required
@@ -62,7 +63,7 @@ fn functions(path: &Path) -> Vec<Function> {
     for (number, line) in text.lines().enumerate() {
         let line = line.trim_start();
         let is_public = line.starts_with("pub fn ") || line.starts_with("pub extern \"C\" fn ");
-        if is_public || line.starts_with("fn ") {
+        if is_public || line.starts_with("fn ") || line.starts_with("pub(crate) fn ") {
             functions.push(Function {
                 place: format!("{}:{}", path.display(), number + 1),
                 is_public,
