@@ -2,36 +2,38 @@
 ghost use Rattle.std.specs.Prelude.{◌≡◌, ◌≤◌, map};
 ghost use Rattle.runs.specs.All.{All};
 ghost use Rattle.signal.specs.Packed.{is_packed};
-ghost use Rattle.steps.specs.Stepping.{ReachesNow, Showing, advanced, at_start, cursor, next_in, set_now, shown_bytes, shown_levels, soonest};
+ghost use Rattle.steps.specs.Stepping.{ReachesNow, Showing, advanced, at_start, cursor, next_in, set_now, shown_bytes, shown_levels, soonest, width_now};
+ghost use Rattle.fst.specs.Record.{largest_in};
 
 use crate::{Input, Inputs};
-use fst::Encoding;
 use signal::decode::{Vector, states_in};
 use signal::packed::Packed;
 use std::marker::Model;
 use value::States;
 
-// An input of which so many entries have begun: it shows the last of these, and the entry of that number is its next one. The size of its
-// entries is worked out once.
+// An input of which so many entries have begun: it shows the last of these, and the entry of that number is its next one. Its width, its
+// largest set and the size of its entries are worked out once.
 #[derive(Clone, Copy)]
 pub struct Cursor {
     input: Input,
+    width: u32,
+    max_states: States,
     size: usize,
     begun: u32,
 }
 
 impl Model for Cursor {
     ghost use Rattle.std.specs.Prelude.{◌≡◌};
-    ghost use Rattle.fst.specs.Record.{size_of};
+    ghost use Rattle.fst.specs.Record.{largest_in, size_of, width_of};
     ghost use Rattle.steps.specs.Cursor as specs;
 
     ghost Value = { specs.Cursor };
 
     ghost view = { λ c. record { input = c.input; begun = c.begun } };
 
-    ghost invariant = { λ c. c.size ≡ size_of c.input.description.encoding };
+    ghost invariant = { λ c. (c.size ≡ size_of c.input.description.encoding) × (c.width ≡ width_of c.input.description.encoding) × (c.max_states ≡ largest_in c.input.description.encoding) };
 
-    ghost inverse = { λ v. record { input = v.input; size = size_of v.input.description.encoding; begun = v.begun } };
+    ghost inverse = { λ v. record { input = v.input; width = width_of v.input.description.encoding; max_states = largest_in v.input.description.encoding; size = size_of v.input.description.encoding; begun = v.begun } };
 }
 
 impl Cursor {
@@ -41,6 +43,8 @@ impl Cursor {
     {
         Cursor {
             input,
+            width: input.description.encoding.width(),
+            max_states: input.description.encoding.largest(),
             size: input.description.encoding.size(),
             begun: 0,
         }
@@ -71,10 +75,16 @@ impl Cursor {
         }
     }
 
-    fn encoding(&self) -> Encoding
-        ensures { result ≡ self.now.input.description.encoding }
+    fn width(&self) -> u32
+        ensures { result ≡ width_now self.now }
     {
-        self.input.description.encoding
+        self.width
+    }
+
+    fn largest(&self) -> States
+        ensures { result ≡ largest_in self.now.input.description.encoding }
+    {
+        self.max_states
     }
 
     // The bytes of the entry that it shows.
@@ -93,10 +103,9 @@ impl Cursor {
         requires { Showing bytes.now self.now }
         ensures { is_packed result ≡ shown_levels bytes.now self.now }
     {
-        let encoding = self.encoding();
         let entry = Vector {
-            width: encoding.width(),
-            max_states: encoding.largest(),
+            width: self.width(),
+            max_states: self.largest(),
             bytes: self.shown(bytes),
         };
         entry.marked_levels()
@@ -108,10 +117,7 @@ impl Cursor {
         requires { Showing bytes.now self.now }
         ensures { result ≡ set_now bytes.now self.now }
     {
-        states_in(
-            u32::from(self.encoding().largest().mark()),
-            self.shown(bytes),
-        )
+        states_in(u32::from(self.largest().mark()), self.shown(bytes))
     }
 }
 

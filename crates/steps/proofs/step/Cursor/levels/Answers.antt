@@ -10,12 +10,12 @@ use Rattle.steps.proofs.step.Cursor.levels.Goals as goal
 
 pub invariant_of-entry : goal.invariant_of-entry
 invariant_of-entry c =
-    record { whole = rw (c.width.ensures, c.largest.ensures, c.encoding-encoding.ensures, c.shown.ensures) (vector (vector_is _ c.requires.vector) c.requires.whole) }
+    record { whole = rw (c.width.ensures, c.largest.ensures, c.shown.ensures) (vector (vector_is _ c.requires.vector) c.requires.whole) }
 
 pub marked_levels-requires : goal.marked_levels-requires
 marked_levels-requires c =
-    rw (c.width.ensures, c.largest.ensures, c.encoding-encoding.ensures, c.shown.ensures)
+    rw (c.width.ensures, c.largest.ensures, c.shown.ensures)
     (ap (λ (e : Encoding). has_bad_mark e (shown_bytes c.args.bytes.now c.args.self.now)) (sym (vector_is _ c.requires.vector)) ∙ c.requires.marked)
 
 pub returns : goal.returns
-returns c = c.marked_levels.ensures ∙ rw (c.width.ensures, c.largest.ensures, c.encoding-encoding.ensures, c.shown.ensures)
+returns c = c.marked_levels.ensures ∙ rw (c.width.ensures, c.largest.ensures, c.shown.ensures)

@@ -7,4 +7,4 @@ use Rattle.steps.proofs.step.Cursor.shown.Goals as goal
 
 pub returns : goal.returns
 unfolding part entry_at
-returns c = rw (← c.self.view_is, c.self.invariant, add-sub_cancel_left)
+returns c = rw (← c.self.view_is, c.self.invariant.0, add-sub_cancel_left)
