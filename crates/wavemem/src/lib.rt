@@ -95,7 +95,8 @@ fn write_whole(states: States, value: &[u8], out: &mut [u8], at: usize) -> usize
     }
 }
 
-// Whether the bytes from a place on are those that `write_whole` would store there.
+// Whether the bytes from a place on are those that `write_whole` would store there. A string of Nine is compared byte by byte: most strings
+// differ early, where a whole block would have been packed for nothing.
 fn equals_whole(states: States, value: &[u8], bytes: &[u8], at: usize) -> bool
     requires { WholeBytes states value.now (length bytes.now) at }
     ensures { result ≡ same (part at (len_of (length value.now) states) bytes.now) (packed_from states 0 value.now) }
@@ -109,13 +110,7 @@ fn equals_whole(states: States, value: &[u8], bytes: &[u8], at: usize) -> bool
             bytes,
             at,
         ),
-        States::Nine => equals_parts::<2, 32, 16, _, _>(
-            &Table::new(),
-            &NineByBlocks,
-            value,
-            bytes,
-            at,
-        ),
+        States::Nine => equals_turns::<2, 1, _>(&Table::new(), value, bytes, at),
     }
 }
 
