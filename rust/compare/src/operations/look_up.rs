@@ -25,7 +25,7 @@ impl Operation for LookUp {
     const NUMBERS: &'static [u8] = &[2, 11];
     const DEFINITIONS: &'static [Module] = &[
         Module::library("Rattle.std.specs.Prelude", "Some None", ""),
-        Module::new("Rattle.offset.specs.Offset", "none at"),
+        Module::new("Rattle.offset.specs.Offset", ""),
     ];
 
     fn by_oracle(&self, _: Slices) -> Result<Option<Offset>, Refusal> {
@@ -137,7 +137,7 @@ pub(super) fn equation(
 ) -> String {
     let value = |answer: &Option<Offset>| {
         let place = answer.as_ref().map(data_offset);
-        place.map_or("none".to_string(), |offset| format!("(at {offset})"))
+        place.map_or("None".to_string(), |offset| format!("(Some {offset})"))
     };
     let (list, reply) = (terms::list(indices), terms::reply(outcome, value));
     format!("{definition} {list} {sought} ≡ {reply}")
