@@ -30,7 +30,7 @@ use Rattle.signal.specs.declared.Kind.{Kind}
 use Rattle.signal.specs.Decode.{entry_at, mark_in, set_in, level_part, levels_in, has_bad_mark, has_bad_code, text_in, codes_at}
 use Rattle.fst.specs.declared.Refusal.{Refusal}
 use Rattle.fst.specs.declared.Refusal.TheVariants.{BadMark}
-use Rattle.signal.specs.Read.{kind_of, entry_in, read_entry, text_left, read_text}
+use Rattle.signal.specs.Read.{Entry, kind_of, entry_in, read_entry, text_left, read_text}
 use Rattle.signal.specs.Parts.{own_states, Levels, Whole, Inside, Unpacked, unpacked, marked, coded, vector_in, answer_in, text_stored}
 
 -- ---- one entry of a bit vector
@@ -273,6 +273,14 @@ module _ (d : Description) (bytes : List ℕ) (start k : ℕ) where
       go false true c h = cc
       go false false true h = cc
       go false false false h = cc
+
+  pub entry_refused : {w : ℕ} {M : States} → d.encoding ≡ BitVector w M → {n : ℕ} → refused n ≡ vector_in d bytes start k → refused n ≡ read_entry d bytes start k
+  unfolding read_entry tried has_no_text
+  entry_refused q h = vector_refused h _ _ ∙ passed _ (has_no_text d.encoding) (rw q) _ _
+    where
+      passed : (a b : Bool) → b ≡ false → (tests : List Test) (r : Reply Entry) → tried (2 ⇐ a ∷ 3 ⇐ b ∷ tests) r ≡ tried (2 ⇐ a ∷ tests) r
+      passed true b e tests r = refl
+      passed false b e tests r = rw e
 
   pub text_refused : (out : List ℕ) {n : ℕ} → refused n ≡ vector_in d bytes start k → text_left n out ≡ read_text d bytes start k out
   unfolding read_text

@@ -2,7 +2,7 @@
 ghost use Rattle.std.specs.Prelude.{◌≡◌};
 ghost use Rattle.fst.specs.Refusal.{number_of};
 ghost use Rattle.signal.specs.Decode.{entry_at};
-ghost use Rattle.signal.specs.Parts.{Whole, Inside, answer_in, vector_in, text_stored};
+ghost use Rattle.signal.specs.Parts.{Whole, Inside, vector_in, text_stored};
 ghost use Rattle.signal.specs.Vectors.{vector_of};
 ghost use Rattle.signal.specs.Read.{read_entry, reply_of, part_of, text_left, read_text};
 
@@ -56,13 +56,26 @@ impl<'a> Record<'a> {
     pub fn read_entry(&self, entry: u32) -> Result<Entry<'a>, Refusal>
         ensures { reply_of result ≡ read_entry self.now.description self.now.bytes.now self.now.byte_start entry }
     {
+        if let Encoding::BitVector { .. } = self.description.encoding {
+            let vector = self.vector_at(entry)?;
+            let levels = vector.levels()?;
+            return Ok(Entry {
+                kind: Kind::BitVector,
+                states: levels.states,
+                part: levels.bytes,
+            });
+        }
         if is_bad_bytes(self.description, self.bytes, self.byte_start) {
             return Err(Refusal::BadRecord);
         }
         if self.description.count <= entry {
             return Err(Refusal::NoSuchEntry);
         }
-        entry_answer(self.description.encoding, self.entry_at(entry))
+        Ok(Entry {
+            kind: Kind::from(self.description.encoding),
+            states: States::Two,
+            part: self.entry_at(entry),
+        })
     }
 
     // The part of the lent bytes that holds the levels, and nothing where reading is refused.
@@ -82,32 +95,6 @@ impl<'a> Record<'a> {
         let vector = self.vector_at(entry)?;
         store_text(&vector, out)
     }
-}
-
-// The answer by an entry's bytes, or 9.
-fn entry_answer<'a>(encoding: Encoding, bytes: &'a [u8]) -> Result<Entry<'a>, Refusal>
-    requires { Whole encoding bytes.now }
-    ensures { reply_of result ≡ answer_in encoding bytes.now }
-{
-    let kind = Kind::from(encoding);
-    let Encoding::BitVector { width, max_states } = encoding else {
-        return Ok(Entry {
-            kind,
-            states: States::Two,
-            part: bytes,
-        });
-    };
-    let vector = Vector {
-        width,
-        max_states,
-        bytes,
-    };
-    let levels = vector.levels()?;
-    Ok(Entry {
-        kind,
-        states: levels.states,
-        part: levels.bytes,
-    })
 }
 
 // Text of an entry's bytes: 9, 10 and 7.

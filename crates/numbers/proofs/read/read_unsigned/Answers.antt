@@ -1,4 +1,4 @@
--- `numbers::read::read_binary` meets its contract.
+-- `numbers::read::read_unsigned` meets its contract.
 -- Assumes nothing.
 use mathlib.Core.Path.{ap, ◌∙◌}
 use Rattle.std.proofs.lemmas.Result.{err_from_is_err_and}
@@ -7,7 +7,7 @@ use Rattle.signal.specs.Parts.{Unpacked}
 use Rattle.signal.proofs.Reading.{vector_refused, vector_given, marked_given}
 use Rattle.numbers.specs.Number.{read_number}
 use Rattle.numbers.proofs.Replies.{vector_bad, vector_told, read_on_lem}
-use Rattle.numbers.proofs.read.read_binary.Goals as goal
+use Rattle.numbers.proofs.read.read_unsigned.Goals as goal
 
 pub returns-in_err-vector : goal.returns-in_err-vector
 unfolding read_number
