@@ -15,7 +15,7 @@ use lib.Pow.{pow-add, pow_mono, shl_exact}
 use borrow.Author.Tests.{eqb-true, lt-ltb}
 use Rattle.value.specs.declared.States.{States}
 use Rattle.value.specs.declared.States.TheVariants.{Two, Four, Nine}
-use Rattle.std.specs.Prelude.{Option, Some, None}
+use Rattle.std.specs.Prelude.{unwrap_or}
 use Rattle.value.specs.Digits.{number, digits, Below}
 use Rattle.value.specs.Slice.{part, overlay, same}
 use Rattle.value.specs.Level.{fold, fold_all, place_in, code_of, codes_of, bits_of, len_of}
@@ -27,15 +27,11 @@ use Rattle.value.proofs.Classes.{each_byte, code_by}
 use Rattle.value.proofs.Digits.{below_at, below_take, below_drop, pow_pow, number_lt, number_append, number_more, digits_length, digits_append}
 use Rattle.wavemem.specs.Packed.{packed_with, packed_from, first_count, Codes, OneWord, OneByte, ByLowBits, WholeBytes, Packable}
 
--- the number that an answer tells
-abbrev number_told : Option ℕ → ℕ
-number_told (Some n) = n
-number_told None = 9
-
-pub code_told : (c : ℕ) {answer : Option ℕ} → c < 256 → char_code c ≡ answer → number_told answer ≡ code_of (fold c)
+-- the code of a character, and 9 of a foreign byte
+pub code_told : (c : ℕ) → c < 256 → unwrap_or (char_code c) 9 ≡ code_of (fold c)
 unfolding char_code code_of place_in fold
-code_told c h e =
-    rw (← e) (eqb-true (number_told (char_code c)) (code_of (fold c)) (from_t _ (at_below (λ (n : ℕ). eqb (number_told (char_code n)) (code_of (fold n))) 256 tt c h)))
+code_told c h =
+    eqb-true (unwrap_or (char_code c) 9) (code_of (fold c)) (from_t _ (at_below (λ (n : ℕ). eqb (unwrap_or (char_code n) 9) (code_of (fold n))) 256 tt c h))
 
 -- ---- the working number
 

@@ -6,15 +6,12 @@ ghost use Rattle.wavemem.specs.Packed.{OneWord, ByLowBits};
 
 use value::States;
 
-// The code of a letter.
-fn code_of(letter: u8) -> u8
-    requires { code_of (fold letter) < 9 }
-    ensures { result ≡ code_of (fold letter) }
+// The code of a character, and 9 of a foreign byte.
+#[tactic(auto, using(crate::proofs::Packing::code_told))]
+fn code_of(value: u8) -> u8
+    ensures { result ≡ code_of (fold value) }
 {
-    let Some(code) = value::bit_char_to_num(letter) else {
-        unreachable!();
-    };
-    code
+    value::bit_char_to_num(value).unwrap_or(9)
 }
 
 // The codes of the letters by their low five bits, which tell them apart, from 8 of H to 26 of Z, and 9 where these are no letter's.
