@@ -28,10 +28,10 @@ use Rattle.value.proofs.Digits.{below_at, below_take, below_drop, pow_pow, numbe
 use Rattle.wavemem.specs.Packed.{packed_with, packed_from, first_count, Codes, OneWord, OneByte, ByLowBits, WholeBytes, Packable}
 
 -- the code of a character, and 9 of a foreign byte
-pub code_told : (c : ℕ) → c < 256 → unwrap_or (char_code c) 9 ≡ code_of (fold c)
+pub code_told : (c : ℕ) → c < 256 → code_of (fold c) ≡ unwrap_or (char_code c) 9
 unfolding char_code code_of place_in fold
 code_told c h =
-    eqb-true (unwrap_or (char_code c) 9) (code_of (fold c)) (from_t _ (at_below (λ (n : ℕ). eqb (unwrap_or (char_code n) 9) (code_of (fold n))) 256 tt c h))
+    eqb-true (code_of (fold c)) (unwrap_or (char_code c) 9) (from_t _ (at_below (λ (n : ℕ). eqb (code_of (fold n)) (unwrap_or (char_code n) 9)) 256 tt c h))
 
 -- ---- the working number
 

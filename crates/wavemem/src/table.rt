@@ -11,7 +11,10 @@ use value::States;
 fn code_of(value: u8) -> u8
     ensures { result ≡ code_of (fold value) }
 {
-    value::bit_char_to_num(value).unwrap_or(9)
+    let Some(code) = value::bit_char_to_num(value) else {
+        return 9;
+    };
+    code
 }
 
 // The codes of the letters by their low five bits, which tell them apart, from 8 of H to 26 of Z, and 9 where these are no letter's.

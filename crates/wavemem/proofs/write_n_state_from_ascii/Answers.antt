@@ -5,9 +5,8 @@ use Prim.Native.Nat.{ℕ, ◌+◌}
 use native.Mathlib.Omega.{arith}
 use lib.ListN.{length, length-set}
 use Rattle.value.specs.Slice.{overlay}
-use Rattle.value.proofs.Slices.{overlay_length}
 use Rattle.wavemem.specs.Packed.{packed_from, first_count}
-use Rattle.wavemem.proofs.Packing.{per_byte, packed_from_length, first_byte, rest_whole, rest_size, rest_is, first_stored, only_size, only_stored}
+use Rattle.wavemem.proofs.Packing.{per_byte, first_byte, rest_whole, rest_size, rest_is, first_stored, only_size, only_stored}
 use Rattle.wavemem.proofs.write_n_state_from_ascii.Goals.{After-write_whole-2, Else-first-bits_in_a_byte, Then-first-bits_in_a_byte}
 use Rattle.wavemem.proofs.write_n_state_from_ascii.Goals as goal
 
@@ -39,11 +38,6 @@ stored : (w : After-write_whole-2)
 stored w less =
     (rw (w.first_count-first.ensures, rest_is w.requires less) at w.write_whole-2.ensures.out_after)
     ∙ first_stored w.requires less w.args.out.now refl w.byte_from_ascii.result (omega arith) (rw w.first_count-first.ensures at w.byte_from_ascii.ensures)
-
-pub shape_of-out : goal.shape_of-out
-shape_of-out c =
-    let past = goal.at.shape_of-out c in
-    ap length (stored past.After-write_whole-2 (short past.Else-first-bits_in_a_byte)) ∙ overlay_length c.args.out.now _ c.args.at (rw packed_from_length c.requires.fits)
 
 pub returns : goal.returns
 returns c =

@@ -2,14 +2,11 @@
 -- Assumes nothing.
 use Prim.Native.Nat.{ℕ, ◌+◌, ◌%◌, ◌<◌}
 use native.Mathlib.Omega.{arith}
-use lib.Bits.{bit_and, mask_lt, and_le_r}
+use lib.Bits.{bit_and, mask_lt}
 use Rattle.value.specs.Digits.{number}
 use Rattle.wavemem.proofs.Lanes.{itself, by_or, added, constant, kept}
 use Rattle.wavemem.proofs.Marks.{set_bytes}
 use Rattle.wavemem.proofs.short.set_bytes.Goals as goal
-
-pub overflow_add-result : goal.overflow_add-result
-overflow_add-result c = omega (arith, and_le_r c.args.x 0x7f7f7f7f7f7f7f7f)
 
 no-carry : (x : ℕ) → x < 256 → bit_and x 127 % 256 + 127 % 256 < 256
 no-carry x h = omega (arith, mask_lt x 7)

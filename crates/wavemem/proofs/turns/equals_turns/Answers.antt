@@ -1,8 +1,8 @@
 -- `wavemem::turns::equals_turns` meets its contract: each turn compares the bytes of the next characters, and what is left decides.
 -- Assumes nothing.
-use mathlib.Core.Path.{◌≡◌, refl, sym, ap, ap₂, ◌∙◌}
+use mathlib.Core.Path.{◌≡◌, sym, ap, ap₂, ◌∙◌}
 use mathlib.Core.List.{List}
-use native.Mathlib.Nat.{zero-mul, suc-mul}
+use native.Mathlib.Nat.{suc-mul}
 use native.Mathlib.Numerals.{add-one}
 use Prim.Native.Nat.{ℕ, ◌+◌, ◌*◌, ◌/◌, ◌≤◌, ◌<◌}
 use native.Mathlib.Omega.{arith}
@@ -13,16 +13,10 @@ use Rattle.value.specs.Slice.{part, same}
 use Rattle.wavemem.specs.Packed.{packed_from}
 use Rattle.value.specs.Level.{len_of}
 use Rattle.wavemem.proofs.Compare.{pointwise_same}
-use Rattle.wavemem.proofs.Parts.{agrees_start, agrees_on, agrees_not, agrees_end, turn_fits, turn_codes, chunk_at, fills_len, fills_full, fills_few, turn_more, turn_last}
+use Rattle.wavemem.proofs.Parts.{agrees_on, agrees_not, agrees_end, turn_fits, turn_codes, chunk_at, fills_len, fills_full, fills_few, turn_more, turn_last}
 use Rattle.wavemem.proofs.turns.equals_turns.Given.{Over}
 use Rattle.wavemem.proofs.turns.equals_turns.Goals.{After-chars-item, After-ne}
 use Rattle.wavemem.proofs.turns.equals_turns.Goals as goal
-
-pub as_chunks-requires : goal.as_chunks-requires
-as_chunks-requires g c = let f = g.met.P.Packs.fills in (omega (arith, f.few), f.some)
-
-pub loop-chars-init : goal.loop-chars-init
-loop-chars-init g c = rw zero-mul (agrees_start g.P.Packs.set c.requires.1 refl)
 
 -- a turn
 module _ (g : Over) (c : After-chars-item g) where
@@ -45,9 +39,6 @@ module _ (g : Over) (c : After-chars-item g) where
       c.chars-item.is
       ∙ ap (λ (l : List (List ℕ)). get_or l c.loop-chars.chars-index c.chars-item.result) c.as_chunks.ensures.front
       ∙ chunk_at g.row.CHARS (length c.args.value.now / g.row.CHARS) c.loop-chars.chars-index c.args.value.now c.chars-item.result index
-
-pub overflow_add-next : goal.overflow_add-next
-overflow_add-next g c = omega (arith, fits g c)
 
 pub pack-packed-requires : goal.pack-packed-requires
 pack-packed-requires g c =

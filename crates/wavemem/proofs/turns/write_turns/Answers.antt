@@ -9,13 +9,10 @@ use native.Mathlib.Omega.{arith}
 use lib.ListN.{length, get_or}
 use Rattle.value.specs.Slice.{part, overlay}
 use Rattle.wavemem.specs.Packed.{packed_from}
-use Rattle.wavemem.proofs.Parts.{stored_start, stored_long, stored_on, stored_end, turn_fits, turn_codes, turn_size, put_is, chunk_at, fills_len, fills_full, fills_few, turn_more, turn_last}
+use Rattle.wavemem.proofs.Parts.{stored_start, stored_long, stored_on, turn_fits, turn_codes, turn_size, put_is, chunk_at, fills_len, fills_full, fills_few, turn_more}
 use Rattle.wavemem.proofs.turns.write_turns.Given.{Over}
 use Rattle.wavemem.proofs.turns.write_turns.Goals.{After-chars-item}
 use Rattle.wavemem.proofs.turns.write_turns.Goals as goal
-
-pub as_chunks-requires : goal.as_chunks-requires
-as_chunks-requires g c = let f = g.met.P.Packs.fills in (omega (arith, f.few), f.some)
 
 pub loop-chars-init : goal.loop-chars-init
 loop-chars-init g c = rw zero-mul (stored_start g.P.Packs.set c.requires.1 refl)
@@ -65,9 +62,3 @@ loop-chars-preserved g c =
     rw (add-one, suc-mul)
     (stored_on c.requires.0 h (fills_full f) (more g past) (ap (λ (k : ℕ). c.loop-chars.to + k) (sym (fills_len f)))
     (put_is c.loop-chars.out c.copy_from_slice.new.self c.loop-chars.to g.row.BYTES size ∙ ap (overlay c.loop-chars.out c.loop-chars.to) new))
-
-pub returns : goal.returns
-returns g c =
-    let left = turn_last g.met.P.Packs.fills c.requires.1 (rw c.as_chunks.ensures.front_len at c.loop-chars-test.false) in
-    let told = stored_end c.requires.0 c.loop-chars.invariant left in
-    record { value = told.0; out_after = told.1 }

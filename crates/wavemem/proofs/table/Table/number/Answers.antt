@@ -4,10 +4,8 @@ use mathlib.Core.Path.{refl, ◌∙◌}
 use Prim.Native.Nat.{◌≤◌, ◌<◌}
 use native.Mathlib.Omega.{arith}
 use lib.Bits.{bit_and}
-use lib.ListN.{length, get_or, length-map}
-use lib.Seq.{take_all}
+use lib.ListN.{length, get_or}
 use Rattle.value.specs.Digits.{number}
-use Rattle.value.specs.Level.{fold_all, codes_of}
 use Rattle.wavemem.proofs.Packing.{code_below, low_place, next_code}
 use Rattle.wavemem.proofs.table.Table.number.Goals.{In-loop-c}
 use Rattle.wavemem.proofs.table.Table.number.Goals as goal
@@ -34,8 +32,3 @@ loop-c-preserved c =
     next_code ok i more c.bits-bits.result c.loop-c.working _ c.bits-bits.ensures c.loop-c.invariant
     (c.from-code.ensures
     ∙ c.args.self.now.by_low_bits.here (get_or c.args.value.now i 0) (omega (arith, c.type_inv.value i)) (code_below ok i more 9 ok.codes.known))
-
-pub returns : goal.returns
-returns c =
-    let v = c.args.value.now in
-    c.loop-c.invariant ∙ rw (c.bits-bits.ensures, take_all c.loop-c.c-index (codes_of (fold_all v)) (rw (length-map, length-map) (omega arith)))
