@@ -58,21 +58,18 @@ known_place c h k =
     let t = to_t (test c) (each_byte (λ (n : ℕ). ltb (code_of (fold n)) 9) test tt c h (lt-ltb (code_of (fold c)) 9 k)) in
     (leb→le 8 low (and_left (leb 8 low) (ltb low 27) t), ltb→lt low 27 (and_right (leb 8 low) (ltb low 27) t))
 
--- of the code of the next character
+-- the code of the next character
+pub code_below : (n : ℕ) (v : List ℕ) (i : ℕ) → Below n (codes_of (fold_all v)) → i < length v → code_of (fold (get_or v i 0)) < n
+code_below n v i below more = rw (← code_at v i) (below_at n (codes_of (fold_all v)) below i (code_of (fold 0)) (rw (length-map, length-map) more))
+
 module _ {s : States} {v : List ℕ} (ok : OneWord s v) (i : ℕ) (more : i < length v) where
-  more_codes : i < length (codes_of (fold_all v))
-  more_codes = rw (length-map, length-map) more
-
-  pub code_below : (n : ℕ) → Below n (codes_of (fold_all v)) → code_of (fold (get_or v i 0)) < n
-  code_below n below = rw (← code_at v i) (below_at n (codes_of (fold_all v)) below i (code_of (fold 0)) more_codes)
-
   pub low_place : get_or v i 0 < 256 → (8 ≤ bit_and (get_or v i 0) 31) × (bit_and (get_or v i 0) 31 < 27)
-  low_place byte = known_place (get_or v i 0) byte (code_below 9 ok.codes.known)
+  low_place byte = known_place (get_or v i 0) byte (code_below 9 v i ok.codes.known more)
 
   pub next_code : (b working c : ℕ) → b ≡ bits_of s → working ≡ number (2 ^ b) (take i (codes_of (fold_all v))) → c ≡ code_of (fold (get_or v i 0))
       → bit_or (working * 2 ^ b % 2 ^ 64) c ≡ number (2 ^ b) (take (i + 1) (codes_of (fold_all v)))
   next_code b working c e so_far is =
-      shifted b (codes_of (fold_all v)) (rw e ok.codes.below) (rw (length-map, length-map, e) ok.short) i c (code_of (fold 0)) working more_codes
+      shifted b (codes_of (fold_all v)) (rw e ok.codes.below) (rw (length-map, length-map, e) ok.short) i c (code_of (fold 0)) working (rw (length-map, length-map) more)
       (is ∙ sym (code_at v i))
       so_far
 

@@ -16,6 +16,7 @@ pub struct Scanned {
 }
 
 // The word of a string, with characters 0 in front of a shorter one.
+#[tactic(auto, using(crate::proofs::Words::padded_more, value::proofs::Digits::below_all), unfolding(value::specs::Digits::number))]
 fn padded_word(value: &[u8]) -> u64
     requires { length value.now ≤ 8 }
     ensures { result ≡ number 256 (padded value.now) }
@@ -31,6 +32,7 @@ fn padded_word(value: &[u8]) -> u64
 }
 
 // Levels of one bit, a byte apart, pushed together: with no masks between the steps, so that a loop over words is compiled to wide instructions.
+#[tactic(auto, using(crate::proofs::Squeeze::bits_squeezed))]
 fn squeeze_1(x: u64) -> u64
     requires { Below 2 (digits 256 8 x) }
     ensures { result ≡ number 2 (digits 256 8 x) }
@@ -152,6 +154,7 @@ fn scan_word(w: u64) -> Option<Scanned>
 }
 
 // The least set of a string, and the number of its levels: characters 0 in front change neither.
+#[tactic(auto, using(crate::proofs::Scans::padded_scan, value::proofs::Digits::below_all))]
 pub fn scan_short(value: &[u8]) -> Option<Scanned>
     requires { length value.now ≤ 8 }
     ensures { Scan value.now result }

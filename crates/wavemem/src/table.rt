@@ -26,7 +26,6 @@ pub struct Table {
 
 impl Table {
     // The compiler works it out, so that no jump of the match is left.
-    #[tactic(auto, unfolding(value::specs::Level::code_of, value::specs::Level::place_in, value::specs::Level::fold))]
     pub fn new() -> Table {
         let u = code_of(b'U');
         let x = code_of(b'X');
@@ -43,6 +42,7 @@ impl Table {
     }
 
     // The number of so few characters that 64 bits hold their levels. None is foreign.
+    #[tactic(auto, unfolding(value::specs::Digits::number))]
     pub fn number(&self, states: States, value: &[u8]) -> u64
         requires { OneWord states value.now }
         ensures { result ≡ number (2 ^ bits_of states) (codes_of (fold_all value.now)) }

@@ -10,10 +10,6 @@ use Rattle.wavemem.proofs.Packing.{code_below, low_place, next_code}
 use Rattle.wavemem.proofs.table.Table.number.Goals.{In-loop-c}
 use Rattle.wavemem.proofs.table.Table.number.Goals as goal
 
-pub loop-c-init : goal.loop-c-init
-unfolding number
-loop-c-init c = refl
-
 -- the low bits of the next character
 place : (c : In-loop-c) → let low = bit_and (get_or c.args.value.now c.loop-c.c-index 0) 31 in (8 ≤ low) × (low < 27)
 place c = low_place c.requires c.loop-c.c-index (omega arith) (omega (arith, c.type_inv.value c.loop-c.c-index))
@@ -31,4 +27,4 @@ loop-c-preserved c =
     let ok = c.requires in
     next_code ok i more c.bits-bits.result c.loop-c.working _ c.bits-bits.ensures c.loop-c.invariant
     (c.from-code.ensures
-    ∙ c.args.self.now.by_low_bits.here (get_or c.args.value.now i 0) (omega (arith, c.type_inv.value i)) (code_below ok i more 9 ok.codes.known))
+    ∙ c.args.self.now.by_low_bits.here (get_or c.args.value.now i 0) (omega (arith, c.type_inv.value i)) (code_below 9 c.args.value.now i ok.codes.known more))
