@@ -217,13 +217,17 @@ packed_one b meta cs below some few marked fits free =
     let z : meta ≡ 0 = omega arith in
     rw (n, z, or_zero_r) (ap (λ (x : ℕ). x ∷ []) (omega arith)))
 
--- a string of one byte
-pub one_packed : (s : States) (v : List ℕ) → OneByte s v → 0 < length v * bits_of s → {x : ℕ} → x ≡ number (2 ^ bits_of s) (codes_of (fold_all v)) → x ∷ [] ≡ packed_from s 0 v
-one_packed s v ok some is =
-    let cs = codes_of (fold_all v) in
-    sym
-    (packed_one (bits_of s) 0 cs ok.codes.below (rw length_codes some) (rw length_codes ok.short) refl (omega arith) (λ h. absurd (omega arith))
-    ∙ ap (λ (y : ℕ). y ∷ []) (or_zero_r _ ∙ sym is))
+-- a turn to one byte
+module _ (s : States) (v : List ℕ) (ok : Codes s (codes_of (fold_all v))) (short : length v * bits_of s ≤ 8) {x : ℕ} (is : x ≡ number (2 ^ bits_of s) (codes_of (fold_all v))) where
+  pub turn_small : x < 256
+  turn_small = let b : OneByte s v = record { codes = ok; short = short } in omega (arith, is, byte_small b)
+
+  pub turn_byte : 0 < length v * bits_of s → x ∷ [] ≡ packed_from s 0 v
+  turn_byte some =
+      let cs = codes_of (fold_all v) in
+      sym
+      (packed_one (bits_of s) 0 cs ok.below (rw length_codes some) (rw length_codes short) refl (omega arith) (λ h. absurd (omega arith))
+      ∙ ap (λ (y : ℕ). y ∷ []) (or_zero_r _ ∙ sym is))
 
 -- a string, and behind it one that fills whole bytes
 pub packed_parts : (s : States) (meta : ℕ) (v w : List ℕ) → Below (2 ^ bits_of s) (codes_of (fold_all w)) → len_of (length w) s * per_byte s ≡ length w

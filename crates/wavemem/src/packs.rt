@@ -41,6 +41,7 @@ impl Packs<8, 1> for TwoByWords {
 
     ghost fills = { Prim.search rules };
 
+    #[tactic(auto, using(crate::proofs::Words::word_bytes, value::proofs::Digits::below_all))]
     fn pack(&self, chars: &[u8; 8]) -> [u8; 1] {
         [two_of_word(word(chars)) as u8]
     }
@@ -55,6 +56,7 @@ impl Packs<8, 2> for FourByWords {
 
     ghost fills = { Prim.search rules };
 
+    #[tactic(auto, using(crate::proofs::Words::word_bytes, value::proofs::Digits::below_all, crate::proofs::Blocks::word_small, crate::proofs::Blocks::two_bytes))]
     fn pack(&self, chars: &[u8; 8]) -> [u8; 2] {
         (four_of_word(word(chars)) as u16).to_be_bytes()
     }
