@@ -16,7 +16,7 @@ use Rattle.value.specs.Digits.{number, digits, Below}
 use Rattle.value.specs.Level.{fold, fold_all, code_of, codes_of, codes_in}
 use Rattle.value.specs.Answer.{holds_one, holds_all}
 use Rattle.value.proofs.Tests.{all_below, implies, both, by_eq}
-use Rattle.value.proofs.Classes.{each_byte, same_tests, not_or}
+use Rattle.value.proofs.Classes.{each_byte, same_tests, not_or, within}
 use Rattle.value.proofs.Digits.{digits_below}
 use Rattle.wavemem.specs.Short.{zeros, marks}
 use Rattle.wavemem.proofs.Lanes.{Lows, by_and, lanes, in_lanes, of_lanes, number_back}
@@ -115,3 +115,17 @@ module _ (s : States) (w r : ℕ) (h : r < 2 ^ 64) (e : zeros r ≡ map (holds_o
 
   pub not_held : (r ≡ 0 → ⊥) → false ≡ holds_all s (digits 256 8 w)
   not_held z = sym (ne_eqb r 0 z) ∙ none_beside
+
+  pub held_codes : r ≡ 0 → Below (codes_in s) (codes_of (fold_all (digits 256 8 w)))
+  held_codes z = within (digits 256 8 w) s (all_held z)
+
+-- the same of one that has marks
+module _ (s : States) (w r : ℕ) (h : r < 2 ^ 64) (e : r ≡ marks (map (holds_one (codes_in s)) (digits 256 8 w))) where
+  pub all_marked : r ≡ 0 → true ≡ holds_all s (digits 256 8 w)
+  all_marked = all_held s w r h (zeros_marks w (holds_one (codes_in s)) e)
+
+  pub not_marked : (r ≡ 0 → ⊥) → false ≡ holds_all s (digits 256 8 w)
+  not_marked = not_held s w r h (zeros_marks w (holds_one (codes_in s)) e)
+
+  pub marked_codes : r ≡ 0 → Below (codes_in s) (codes_of (fold_all (digits 256 8 w)))
+  marked_codes = held_codes s w r h (zeros_marks w (holds_one (codes_in s)) e)

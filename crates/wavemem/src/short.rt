@@ -129,6 +129,7 @@ fn beside_nine(w: u64) -> u64
 }
 
 // The least set of eight characters, and the number of their levels.
+#[tactic(auto, using(crate::proofs::Marks::all_held, crate::proofs::Marks::not_held, crate::proofs::Marks::all_marked, crate::proofs::Marks::not_marked, value::proofs::Classes::is_two, value::proofs::Classes::is_four, value::proofs::Classes::is_nine, value::proofs::Classes::is_foreign_lem))]
 fn scan_word(w: u64) -> Option<Scanned>
     ensures { Scan (digits 256 8 w) result }
 {
