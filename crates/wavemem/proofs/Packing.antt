@@ -63,8 +63,11 @@ pub code_below : (n : ℕ) (v : List ℕ) (i : ℕ) → Below n (codes_of (fold_
 code_below n v i below more = rw (← code_at v i) (below_at n (codes_of (fold_all v)) below i (code_of (fold 0)) (rw (length-map, length-map) more))
 
 module _ {s : States} {v : List ℕ} (ok : OneWord s v) (i : ℕ) (more : i < length v) where
-  pub low_place : get_or v i 0 < 256 → (8 ≤ bit_and (get_or v i 0) 31) × (bit_and (get_or v i 0) 31 < 27)
-  low_place byte = known_place (get_or v i 0) byte (code_below 9 v i ok.codes.known more)
+  pub low_from : get_or v i 0 < 256 → 8 ≤ bit_and (get_or v i 0) 31
+  low_from byte = (known_place (get_or v i 0) byte (code_below 9 v i ok.codes.known more)).0
+
+  pub low_within : get_or v i 0 < 256 → bit_and (get_or v i 0) 31 < 27
+  low_within byte = (known_place (get_or v i 0) byte (code_below 9 v i ok.codes.known more)).1
 
   pub next_code : (b working c : ℕ) → b ≡ bits_of s → working ≡ number (2 ^ b) (take i (codes_of (fold_all v))) → c ≡ code_of (fold (get_or v i 0))
       → bit_or (working * 2 ^ b % 2 ^ 64) c ≡ number (2 ^ b) (take (i + 1) (codes_of (fold_all v)))

@@ -42,7 +42,7 @@ impl Table {
     }
 
     // The number of so few characters that 64 bits hold their levels. None is foreign.
-    #[tactic(auto, unfolding(value::specs::Digits::number))]
+    #[tactic(auto, using(crate::proofs::Packing::low_from, crate::proofs::Packing::low_within), unfolding(value::specs::Digits::number))]
     pub fn number(&self, states: States, value: &[u8]) -> u64
         requires { OneWord states value.now }
         ensures { result ≡ number (2 ^ bits_of states) (codes_of (fold_all value.now)) }
