@@ -1,20 +1,15 @@
 -- A wide string that is packed part by part: two parts that fill bytes, and turns of so many characters.
 -- Assumes nothing.
 use mathlib.Core.Path.{◌≡◌, refl, sym, ap, ap₂, ◌∙◌}
-use mathlib.Core.Bool.{Bool, true, false, not, ◌&&◌}
+use mathlib.Core.Bool.{Bool, true, false, ◌&&◌}
 use mathlib.Core.List.{List, [], ◌++◌}
-use Prim.Native.Nat.{◌/◌, ℕ, zero, suc, ◌+◌, ◌-◌, ◌*◌, ◌%◌, ◌≤◌, ◌<◌}
-use native.Mathlib.Nat.{sub-zero, zero-mul, suc-mul, add_comm, mul_comm, mul-le-mul_left, mul-le-mul_right, mod-add-div, mod-lt, add-mul, mul_assoc, mul-lt-mul_of_pos_right, mul-div_left, mul-mod_left, mod-eq_of_lt, add-mod_right}
+use Prim.Native.Nat.{◌/◌, ℕ, ◌+◌, ◌-◌, ◌*◌, ◌%◌, ◌≤◌, ◌<◌}
+use native.Mathlib.Nat.{sub-zero, zero-mul, suc-mul, mul_comm, mul-le-mul_left, mul-le-mul_right, mod-add-div, mod-lt, add-mul, mul_assoc, mul-lt-mul_of_pos_right, mul-div_left, mul-mod_left, mod-eq_of_lt, add-mod_right}
 use native.Mathlib.Omega.{arith}
 use borrow.Rule.Slice.PartMut.{put_mid}
-use native.Mathlib.Numerals.{add-one}
 use Rattle.std.proofs.lemmas.Nat.{mod-mul-add}
-use Rattle.std.proofs.lemmas.Bool.{not-true, not-false}
-use lib.Dec.{eqb}
-use lib.Pointwise.{pointwise}
-use lib.ListN.{length, get_or, take, drop, length-drop, take-append-drop}
+use lib.ListN.{length, take, drop, length-drop, take-append-drop}
 use lib.Seq.{drop-length, drop-drop, length-take-le, take-add, take_all}
-use Rattle.std.specs.Simd.{first_chunks}
 use Rattle.value.specs.declared.States.{States}
 use Rattle.value.specs.declared.States.TheVariants.{Two, Four, Nine}
 use Rattle.value.specs.Digits.{digits}
@@ -23,7 +18,7 @@ use Rattle.value.specs.Level.{fold_all, codes_of, len_of}
 use Rattle.value.proofs.Tests.{by_le}
 use Rattle.value.proofs.Slices.{part_nil, part_length, part_add, overlay_length, overlay_nil, overlay_overlay}
 use Rattle.wavemem.specs.Packed.{packed_with, packed_from, Codes, Fills, WholeBytes}
-use Rattle.wavemem.proofs.Compare.{same_append, pointwise_same}
+use Rattle.wavemem.proofs.Compare.{same_append}
 use Rattle.wavemem.proofs.Packing.{per_byte, per_pos, len_none, len_full, drop_codes, take_codes, packed_from_length, packed_parts}
 
 -- ---- a string that is packed part by part
@@ -82,10 +77,10 @@ module _ {s : States} {v : List ℕ} {room at n from to : ℕ} (ok : WholeBytes 
   pub back_lent : WholeBytes s (take (length v - from) (drop from v)) room to × (length (take (length v - from) (drop from v)) % n ≡ 0)
   back_lent = rw back_is (back_whole, rw length-drop p.turns)
 
-  both_sizes : to + len_of (length (drop from v)) s ≡ at + len_of (length v) s
+  pub both_sizes : to + len_of (length (drop from v)) s ≡ at + len_of (length v) s
   both_sizes = rw length-drop (omega (arith, p.place, sizes.0))
 
-  both_packed : packed_from s 0 (take from v) ++ packed_from s 0 (drop from v) ≡ packed_from s 0 v
+  pub both_packed : packed_from s 0 (take from v) ++ packed_from s 0 (drop from v) ≡ packed_from s 0 v
   both_packed = sym (packed_parts s 0 (take from v) (drop from v) back_whole.codes.below back_whole.full (λ h. absurd (omega arith))) ∙ ap (packed_from s 0) (take-append-drop from v)
 
   -- bytes stored behind those of the front
@@ -110,25 +105,9 @@ module _ {s : States} {v : List ℕ} {room at n from to : ℕ} (ok : WholeBytes 
       (part_length bytes at a (omega (arith, p.place, back_whole.fits)) ∙ sym front_packed)
       ∙ ap (λ (k : ℕ). same (part at (len_of k s) bytes) (packed_from s 0 (take from v)) && same (part to b bytes) (packed_from s 0 (drop from v))) (sym front_length)
 
--- two calls that store, of the characters before a place and of those behind it
-module _ {s : States} {v : List ℕ} {room at n from : ℕ} (ok : WholeBytes s v room at) (p : Passed s (length v) at n from (at + len_of from s)) (d : List ℕ) (long : length d ≡ room)
-    {to : ℕ} {out : List ℕ} (first : (to ≡ at + len_of (length (take from v)) s) × (out ≡ overlay d at (packed_from s 0 (take from v)))) where
-  behind : Passed s (length v) at n from to
-  behind = record { within = p.within; turns = p.turns; full = p.full; place = rw (front_length ok p) at first.0 }
-
-  pub second_lent : WholeBytes s (take (length v - from) (drop from v)) (length out) to × (length (take (length v - from) (drop from v)) % n ≡ 0)
-  second_lent = rw (front_stored ok behind d long first.1, long) (back_lent ok behind)
-
-  pub both_stored : {r : ℕ} {all : List ℕ}
-      → (r ≡ to + len_of (length (take (length v - from) (drop from v))) s) × (all ≡ overlay out to (packed_from s 0 (take (length v - from) (drop from v))))
-      → (r ≡ at + len_of (length v) s) × (all ≡ overlay d at (packed_from s 0 v))
-  both_stored second =
-      let h = rw (back_is ok behind) at second in
-      (h.0 ∙ both_sizes ok behind, h.1 ∙ behind_stored ok behind d (packed_from s 0 (drop from v)) long first.1 ∙ ap (overlay d at) (both_packed ok behind))
-
 -- ---- turns of so many characters
 
-pub passed_start : (s : States) {w at n to : ℕ} → w % n ≡ 0 → to ≡ at → Passed s w at n 0 to
+passed_start : (s : States) {w at n to : ℕ} → w % n ≡ 0 → to ≡ at → Passed s w at n 0 to
 passed_start s e f = record { within = omega arith; turns = rw sub-zero e; full = rw (len_none s) (zero-mul (per_byte s)); place = rw (len_none s) (omega arith) }
 
 pub packed_none : (s : States) → packed_from s 0 [] ≡ []
@@ -230,9 +209,6 @@ pub record Agrees (s : States) (v bytes : List ℕ) (at n from to : ℕ) : Type 
   pub passed : Passed s (length v) at n from to
   pub left : agree s bytes to (drop from v) ≡ agree s bytes at v
 
-pub agrees_start : (s : States) {v bytes : List ℕ} {at n to : ℕ} → length v % n ≡ 0 → to ≡ at → Agrees s v bytes at n 0 to
-agrees_start s {v} {bytes} e f = record { passed = passed_start s e f; left = ap (λ (k : ℕ). agree s bytes k v) f }
-
 pub agrees_end : {s : States} {v bytes : List ℕ} {at n from to : ℕ} → Agrees s v bytes at n from to → length v ≤ from → true ≡ agree s bytes at v
 unfolding same
 agrees_end {s} {v} {bytes} {from = from} h k =
@@ -310,69 +286,3 @@ turn_place {s} f {from} e =
     let k = per_byte s in
     let one : 1 * k ≡ k = omega arith in
     ap₂ (λ (a b : ℕ). a / b) (sym e) (sym f.full ∙ one) ∙ mul-div_left (len_of from s) (per_pos s)
-
--- ---- one turn of a walk
-
-pub chunk_at : {A : Type 0} (n k i : ℕ) (l : List A) (d : List A) → i < k → get_or (first_chunks n k l) i d ≡ part (i * n) n l
-unfolding part
-chunk_at n zero i l d h = absurd (omega arith)
-chunk_at n (suc k) zero l d h = rw zero-mul refl
-chunk_at n (suc k) (suc i) l d h =
-    chunk_at n k i (drop n l) d (omega arith) ∙ ap (take n) (drop-drop (i * n) n l) ∙ ap (λ (j : ℕ). take n (drop j l)) (add_comm n (i * n) ∙ sym (suc-mul i n))
-
--- the characters of a turn, of as many turns as a string has
-pub record Turn (s : States) (v : List ℕ) (room at n m i to : ℕ) (chars : List ℕ) : Type 0 where
-  pub fills : Fills s n m
-  pub whole : WholeBytes s v room at
-  pub passed : Passed s (length v) at n (i * n) to
-  pub more : i * n < length v
-  pub here : chars ≡ part (i * n) n v
-
-pub turn_here : {s : States} {v : List ℕ} {room at n m i to : ℕ} {xs : List (List ℕ)} {chars : List ℕ} → Fills s n m → WholeBytes s v room at → Passed s (length v) at n (i * n) to
-    → xs ≡ first_chunks n (length v / n) v → length xs ≡ length v / n → i < length xs → chars ≡ get_or xs i chars → Turn s v room at n m i to chars
-turn_here {v = v} {n = n} {i = i} {chars = chars} f ok p front len test is =
-    let index : i < length v / n = rw len at test in
-    record {
-      fills = f;
-      whole = ok;
-      passed = p;
-      more = turn_more f index;
-      here = is ∙ ap (λ (l : List (List ℕ)). get_or l i chars) front ∙ chunk_at n (length v / n) i v chars index;
-    }
-
-module _ {s : States} {v : List ℕ} {room at n m i to : ℕ} {chars : List ℕ} (t : Turn s v room at n m i to chars) where
-  pub turn_room : to + m ≤ room
-  turn_room = omega (arith, turn_fits t.whole t.passed (fills_full t.fills) t.more, fills_len t.fills)
-
-  pub turn_known : Codes s (codes_of (fold_all chars))
-  turn_known = rw t.here (turn_codes t.whole t.passed (fills_full t.fills) t.more)
-
-  turn_next : to + m ≡ to + len_of n s
-  turn_next = ap (λ (k : ℕ). to + k) (sym (fills_len t.fills))
-
--- a turn that stores
-pub stored_next : {s : States} {v d : List ℕ} {at n m i to : ℕ} {chars out new : List ℕ} → Turn s v (length d) at n m i to chars → Stored s v d at n out (i * n) to
-    → new ≡ packed_from s 0 chars → Stored s v d at n (put_mid to (to + m - to) out new) ((i + 1) * n) (to + m)
-stored_next {s} {v} {n = n} {m} {i} {to} {out = out} {new} t h e =
-    let f = fills_full t.fills in
-    let is : new ≡ packed_from s 0 (part (i * n) n v) = e ∙ ap (packed_from s 0) t.here in
-    let size : length new ≡ m = ap length is ∙ turn_size t.whole h.passed f t.more ∙ fills_len t.fills in
-    rw (add-one, suc-mul) (stored_on t.whole h f t.more (turn_next t) (put_is out new to m size ∙ ap (overlay out to) is))
-
--- a turn that compares
-module _ {s : States} {v bytes : List ℕ} {at n m i to : ℕ} {chars new : List ℕ} (t : Turn s v (length bytes) at n m i to chars) (h : Agrees s v bytes at n (i * n) to)
-    {r : Bool} (told : r ≡ not (pointwise eqb (take (to + m - to) (drop to bytes)) new)) (e : new ≡ packed_from s 0 chars) where
-  turn_told : r ≡ not (same (part to (len_of n s) bytes) (packed_from s 0 (part (i * n) n v)))
-  unfolding part
-  turn_told =
-      told
-      ∙ ap not
-      (pointwise_same _ _
-      ∙ ap₂ same (ap (λ (k : ℕ). take k (drop to bytes)) (omega (arith, fills_len t.fills))) (e ∙ ap (packed_from s 0) t.here))
-
-  pub agrees_next : r ≡ false → Agrees s v bytes at n ((i + 1) * n) (to + m)
-  agrees_next z =
-      rw (add-one, suc-mul) (agrees_on t.whole h (fills_full t.fills) t.more (turn_next t) (not-false _ (sym turn_told ∙ z)))
-
-  pub agrees_stop : r ≡ true → false ≡ agree s bytes at v
-  agrees_stop z = agrees_not t.whole h (fills_full t.fills) t.more (not-true _ (sym turn_told ∙ z))

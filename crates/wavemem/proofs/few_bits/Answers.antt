@@ -4,7 +4,6 @@ use mathlib.Core.Path.{refl, ◌∙◌}
 use native.Mathlib.Omega.{arith}
 use Prim.Native.Nat.{◌<◌}
 use lib.ListN.{length, get_or}
-use Rattle.value.specs.Digits.{number}
 use Rattle.value.proofs.Classes.{binary_bit}
 use Rattle.wavemem.proofs.Packing.{code_below, next_code}
 use Rattle.wavemem.proofs.few_bits.Goals as goal

@@ -2,7 +2,8 @@
 -- Assumes nothing.
 use native.Mathlib.Omega.{arith}
 use lib.ListN.{length}
-use Rattle.wavemem.proofs.Parts.{Turn, agrees_next, agrees_stop, agrees_end, turn_here, turn_room, turn_known, turn_last, fills_few}
+use Rattle.wavemem.proofs.Parts.{agrees_end, turn_last, fills_few}
+use Rattle.wavemem.proofs.Walk.{Turn, turn_here, turn_room, turn_known, agrees_next, agrees_stop}
 use Rattle.wavemem.proofs.turns.equals_turns.Given.{Over}
 use Rattle.wavemem.proofs.turns.equals_turns.Goals.{After-chars-item}
 use Rattle.wavemem.proofs.turns.equals_turns.Goals as goal

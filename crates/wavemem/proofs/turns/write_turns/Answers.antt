@@ -3,7 +3,8 @@
 use mathlib.Core.Path.{◌∙◌}
 use native.Mathlib.Omega.{arith}
 use lib.ListN.{length}
-use Rattle.wavemem.proofs.Parts.{Turn, stored_start, stored_long, stored_next, turn_here, turn_room, turn_known, fills_few}
+use Rattle.wavemem.proofs.Parts.{stored_start, stored_long, fills_few}
+use Rattle.wavemem.proofs.Walk.{Turn, turn_here, turn_room, turn_known, stored_next}
 use Rattle.wavemem.proofs.turns.write_turns.Given.{Over}
 use Rattle.wavemem.proofs.turns.write_turns.Goals.{After-chars-item}
 use Rattle.wavemem.proofs.turns.write_turns.Goals as goal

@@ -1,11 +1,9 @@
 -- `wavemem::table::Table::number` meets its contract: the working number is that of the characters so far.
 -- Assumes nothing.
-use mathlib.Core.Path.{refl, ◌∙◌}
-use Prim.Native.Nat.{◌≤◌, ◌<◌}
+use mathlib.Core.Path.{◌∙◌}
+use Prim.Native.Nat.{◌<◌}
 use native.Mathlib.Omega.{arith}
-use lib.Bits.{bit_and}
 use lib.ListN.{length, get_or}
-use Rattle.value.specs.Digits.{number}
 use Rattle.wavemem.proofs.Packing.{code_below, next_code}
 use Rattle.wavemem.proofs.table.Table.number.Goals.{In-loop-c}
 use Rattle.wavemem.proofs.table.Table.number.Goals as goal
