@@ -1,18 +1,18 @@
 -- The working number and packed levels: those of one byte, those of two parts, and a first byte that is not full.
 -- Assumes nothing.
 use mathlib.Core.Path.{◌≡◌, refl, sym, ap, ap₂, ◌∙◌}
-use mathlib.Core.Bool.{Bool, true, ◌&&◌}
+use mathlib.Core.Bool.{Bool, true, false, ◌&&◌}
 use mathlib.Core.List.{List, [], ◌∷◌, ◌++◌, map-append}
 use Prim.Native.Nat.{ℕ, zero, suc, ◌+◌, ◌-◌, ◌*◌, ◌/◌, ◌%◌, ◌^◌, ◌≤◌, ◌<◌}
 use native.Mathlib.Nat.{zero-lt-suc, add-mul, mul_assoc, suc-mul, zero-mul, mul-le-mul_right, lt_of_lt_of_le}
 use native.Mathlib.Numerals.{add-one}
 use native.Mathlib.Omega.{arith}
 use lib.Dec.{eqb, leb, ltb, leb→le, ltb→lt}
-use lib.ListN.{length, get_or, take, drop, set, length-append, length-map, length-drop, take-append-drop, get_or-map}
+use lib.ListN.{length, get_or, take, drop, set, length-set, length-append, length-map, length-drop, take-append-drop, get_or-map}
 use lib.Seq.{length-take-le, take-add, take-suc, take_all, drop-cons}
 use lib.Bits.{bit_and, bit_or, or_shifted, or_shifted_r, or_zero_r}
 use lib.Pow.{pow-add, pow_mono, shl_exact}
-use borrow.Author.Tests.{eqb-true, lt-ltb}
+use borrow.Author.Tests.{eqb-true, eq-eqb, ne_eqb, lt-ltb}
 use Rattle.value.specs.declared.States.{States}
 use Rattle.value.specs.declared.States.TheVariants.{Two, Four, Nine}
 use Rattle.std.specs.Prelude.{unwrap_or}
@@ -256,114 +256,116 @@ empty : (l : List ℕ) → length l ≡ 0 → l ≡ []
 empty [] e = refl
 empty (x ∷ l) e = absurd (omega arith)
 
--- the first byte, and the string behind it
-module _ {s : States} {v : List ℕ} {room at meta : ℕ} (ok : Packable s v room at meta) where
-  abbrev first : ℕ
-  first = first_count s (length v)
+-- the first byte, and the string behind it, as it is lent
+module _ {s : States} {v : List ℕ} {room at meta first all : ℕ} (ok : Packable s v room at meta) (is : first ≡ first_count s (length v)) (full : all ≡ per_byte s) (e : first ≡ all → ⊥) where
+  -- how many bytes are behind the first
+  abbrev later : ℕ
+  later = len_of (length v) s - 1
 
-  module _ (e : first ≡ per_byte s → ⊥) where
-    -- how many bytes are behind the first
-    abbrev later : ℕ
-    later = len_of (length v) s - 1
+  abbrev behind : List ℕ
+  behind = take (length v - first) (drop first v)
 
-    some : 0 < len_of (length v) s
-    some =
-        by_le 1 (len_of (length v) s) (λ h. h)
-        (λ h.
-        let z : len_of (length v) s ≡ 0 = omega arith in
-        let y : len_of (length v) s * per_byte s ≡ 0 = rw z (zero-mul (per_byte s)) in
-        absurd (e (omega (arith, spans (length v) s))))
+  some : 0 < len_of (length v) s
+  some =
+      by_le 1 (len_of (length v) s) (λ h. h)
+      (λ h.
+      let z : len_of (length v) s ≡ 0 = omega arith in
+      let y : len_of (length v) s * per_byte s ≡ 0 = rw z (zero-mul (per_byte s)) in
+      absurd (e (omega (arith, spans (length v) s))))
 
-    behind_first : first + later * per_byte s ≡ length v
-    behind_first =
-        let y : len_of (length v) s * per_byte s ≡ later * per_byte s + per_byte s = ap (λ (x : ℕ). x * per_byte s) (omega (arith, some)) ∙ suc-mul later (per_byte s) in
-        omega (arith, spans (length v) s)
+  behind_first : first + later * per_byte s ≡ length v
+  behind_first =
+      let y : len_of (length v) s * per_byte s ≡ later * per_byte s + per_byte s = ap (λ (x : ℕ). x * per_byte s) (omega (arith, some)) ∙ suc-mul later (per_byte s) in
+      omega (arith, spans (length v) s)
 
-    rest_length : length (drop first v) ≡ later * per_byte s
-    rest_length = length-drop first v ∙ omega (arith, behind_first)
+  first_fits : first ≤ length v
+  first_fits = omega (arith, behind_first)
 
-    pub rest_size : len_of (length v) s ≡ suc (len_of (length (drop first v)) s)
-    rest_size = rw (rest_length, len_full later s) (omega (arith, some))
+  place_fits : at + 1 ≤ room
+  place_fits = omega (arith, some, ok.fits)
 
-    pub rest_whole : WholeBytes s (drop first v) room (at + 1)
-    rest_whole =
-        let f = ok.fits in
-        record {
-          codes = drop_codes first v ok.codes;
-          short = rw rest_length (omega (arith, behind_first, ok.short));
-          fits = omega (arith, rest_size);
-          full = rw (rest_length, len_full later s);
-        }
+  first_length : length (take first v) ≡ first
+  first_length = length-take-le first v first_fits
 
-    pub first_fits : first ≤ length v
-    first_fits = omega (arith, behind_first)
+  behind_is : behind ≡ drop first v
+  behind_is = take_all (length v - first) (drop first v) (rw (length-drop first v) (omega arith))
 
-    pub place_fits : at + 1 ≤ room
-    place_fits = omega (arith, some, ok.fits)
+  behind_length : length behind ≡ later * per_byte s
+  behind_length = ap length behind_is ∙ length-drop first v ∙ omega (arith, behind_first)
 
-    first_length : length (take first v) ≡ first
-    first_length = length-take-le first v first_fits
+  pub behind_size : len_of (length v) s ≡ suc (len_of (length behind) s)
+  behind_size = rw (behind_length, len_full later s) (omega (arith, some))
 
-    -- the bits of the first byte's levels
-    first_bits : (0 < first * bits_of s) × (first * bits_of s ≤ 8) × (0 < meta → first * bits_of s + 2 ≤ 8)
-    first_bits =
-        let e : length v * bits_of s ≡ first * bits_of s + later * 8 =
-        ap (λ (x : ℕ). x * bits_of s) (sym behind_first) ∙ add-mul first (later * per_byte s) (bits_of s) ∙ ap (λ (x : ℕ). first * bits_of s + x) (full_bits s _ later refl) in
-        let h = spans (length v) s in
-        let f : 1 ≤ first = omega arith in (
-          omega (arith, mul-le-mul_right (bits_of s) f, bits_pos s),
-          omega (arith, mul-le-mul_right (bits_of s) (let l : first ≤ per_byte s = omega arith in l), per_bits s),
-          λ m. omega (arith, ok.free m, some),
-        )
+  pub behind_whole : WholeBytes s behind room (at + 1)
+  behind_whole =
+      let f = ok.fits in
+      record {
+        codes = rw behind_is (drop_codes first v ok.codes);
+        short = rw behind_length (omega (arith, behind_first, ok.short));
+        fits = omega (arith, behind_size);
+        full = rw (behind_length, len_full later s);
+      }
 
-    pub first_byte : OneByte s (take first v)
-    first_byte = record { codes = take_codes first v ok.codes; short = rw first_length first_bits.1 }
+  -- the bits of the first byte's levels
+  first_bits : (0 < first * bits_of s) × (first * bits_of s ≤ 8) × (0 < meta → first * bits_of s + 2 ≤ 8)
+  first_bits =
+      let e : length v * bits_of s ≡ first * bits_of s + later * 8 =
+      ap (λ (x : ℕ). x * bits_of s) (sym behind_first) ∙ add-mul first (later * per_byte s) (bits_of s) ∙ ap (λ (x : ℕ). first * bits_of s + x) (full_bits s _ later refl) in
+      let h = spans (length v) s in
+      let f : 1 ≤ first = omega arith in (
+        omega (arith, mul-le-mul_right (bits_of s) f, bits_pos s),
+        omega (arith, mul-le-mul_right (bits_of s) (let l : first ≤ per_byte s = omega arith in l), per_bits s),
+        λ m. omega (arith, ok.free m, some),
+      )
 
-    pub packed_cons : (r : ℕ) → meta < 256 → r ≡ number (2 ^ bits_of s) (codes_of (fold_all (take first v))) → packed_from s meta v ≡ bit_or r meta ∷ packed_from s 0 (drop first v)
-    packed_cons r fits n =
-        let u = take first v in
-        let l : length (codes_of (fold_all u)) ≡ first = length_codes u ∙ first_length in
-        ap (packed_from s meta) (sym (take-append-drop first v))
-        ∙ packed_parts s meta u (drop first v) rest_whole.codes.below rest_whole.full (λ h. rw first_length first_bits.0)
-        ∙ ap (λ (x : List ℕ). x ++ packed_from s 0 (drop first v))
-        (packed_one (bits_of s) meta (codes_of (fold_all u)) first_byte.codes.below (rw l first_bits.0) (rw l first_bits.1) ok.marked fits (rw l first_bits.2) ∙ ap (λ (x : ℕ). bit_or x meta ∷ []) (sym n))
+  pub first_byte : OneByte s (take first v)
+  first_byte = record { codes = take_codes first v ok.codes; short = rw first_length first_bits.1 }
 
-    -- the part of the string that is lent
-    pub rest_is : take (length v - first) (drop first v) ≡ drop first v
-    rest_is = take_all (length v - first) (drop first v) (rw (length-drop first v) (omega arith))
+  packed_cons : (r : ℕ) → meta < 256 → r ≡ number (2 ^ bits_of s) (codes_of (fold_all (take first v))) → packed_from s meta v ≡ bit_or r meta ∷ packed_from s 0 behind
+  packed_cons r fits n =
+      let u = take first v in
+      let l : length (codes_of (fold_all u)) ≡ first = length_codes u ∙ first_length in
+      ap (packed_from s meta) (sym (take-append-drop first v) ∙ ap (λ (w : List ℕ). u ++ w) (sym behind_is))
+      ∙ packed_parts s meta u behind behind_whole.codes.below behind_whole.full (λ h. rw first_length first_bits.0)
+      ∙ ap (λ (x : List ℕ). x ++ packed_from s 0 behind)
+      (packed_one (bits_of s) meta (codes_of (fold_all u)) first_byte.codes.below (rw l first_bits.0) (rw l first_bits.1) ok.marked fits (rw l first_bits.2) ∙ ap (λ (x : ℕ). bit_or x meta ∷ []) (sym n))
 
-    module _ (l : List ℕ) (long : length l ≡ room) (r : ℕ) (fits : meta < 256) (is : r ≡ number (2 ^ bits_of s) (codes_of (fold_all (take first v)))) where
-      abbrev rest : List ℕ
-      rest = packed_from s 0 (drop first v)
+  none_behind : first ≡ length v → len_of (length behind) s ≡ 0
+  none_behind only = let z : length behind ≡ 0 = rw (behind_is, length-drop) (omega (arith, only)) in ap (λ (n : ℕ). len_of n s) z ∙ len_none s
 
-      pub first_stored : overlay (set l at (bit_or r meta)) (at + 1) rest ≡ overlay l at (packed_from s meta v)
-      first_stored =
-          let x = bit_or r meta in
-          ap (λ (o : List ℕ). overlay o (at + 1) rest) (sym (overlay_one l at x (omega (arith, place_fits))))
-          ∙ overlay_overlay l at (x ∷ []) rest (at + 1) (omega arith) (omega (arith, place_fits))
-          ∙ ap (overlay l at) (sym (packed_cons r fits is))
+  no_rest : first ≡ length v → packed_from s 0 behind ≡ []
+  no_rest only = empty (packed_from s 0 behind) (packed_from_length s 0 behind ∙ none_behind only)
 
-      pub first_compared : same (part at (len_of (length v) s) l) (packed_from s meta v) ≡ eqb (get_or l at 0) (bit_or r meta) && same (part (at + 1) (len_of (length (drop first v)) s) l) rest
-      unfolding same part
-      first_compared =
-          ap₂ (λ (n : ℕ) (q : List ℕ). same (take n (drop at l)) q) rest_size (packed_cons r fits is)
-          ∙ ap (λ (q : List ℕ). same (take (suc (len_of (length (drop first v)) s)) q) (bit_or r meta ∷ rest)) (drop-cons l at 0 (omega (arith, place_fits)))
-          ∙ ap (λ (n : ℕ). eqb (get_or l at 0) (bit_or r meta) && same (take (len_of (length (drop first v)) s) (drop n l)) rest) (sym (add-one at))
+  module _ (l : List ℕ) (long : length l ≡ room) (r : ℕ) (fits : meta < 256) (told : r ≡ number (2 ^ bits_of s) (codes_of (fold_all (take first v)))) where
+    -- what is stored behind the first byte
+    pub behind_lent : WholeBytes s behind (length (set l at (bit_or r meta))) (at + 1)
+    behind_lent = rw (length-set, long) behind_whole
 
-      -- where the first byte is the only one
-      module _ (only : first ≡ length v) where
-        none_behind : length (drop first v) ≡ 0
-        none_behind = length-drop first v ∙ omega (arith, only)
+    pub first_stored : overlay (set l at (bit_or r meta)) (at + 1) (packed_from s 0 behind) ≡ overlay l at (packed_from s meta v)
+    first_stored =
+        let x = bit_or r meta in
+        ap (λ (o : List ℕ). overlay o (at + 1) (packed_from s 0 behind)) (sym (overlay_one l at x (omega (arith, place_fits))))
+        ∙ overlay_overlay l at (x ∷ []) (packed_from s 0 behind) (at + 1) (omega arith) (omega (arith, place_fits))
+        ∙ ap (overlay l at) (sym (packed_cons r fits told))
 
-        no_rest : rest ≡ []
-        no_rest = empty rest (packed_from_length s 0 (drop first v) ∙ ap (λ (n : ℕ). len_of n s) none_behind ∙ len_none s)
+    pub only_stored : first ≡ length v → set l at (bit_or r meta) ≡ overlay l at (packed_from s meta v)
+    only_stored only = sym (overlay_nil (set l at (bit_or r meta)) (at + 1)) ∙ ap (overlay (set l at (bit_or r meta)) (at + 1)) (sym (no_rest only)) ∙ first_stored
 
-        pub only_size : len_of (length v) s ≡ 1
-        only_size = rest_size ∙ ap (λ (n : ℕ). suc (len_of n s)) none_behind ∙ ap suc (len_none s)
+    compared : same (part at (len_of (length v) s) l) (packed_from s meta v) ≡ eqb (get_or l at 0) (bit_or r meta) && same (part (at + 1) (len_of (length behind) s) l) (packed_from s 0 behind)
+    unfolding same part
+    compared =
+        ap₂ (λ (n : ℕ) (q : List ℕ). same (take n (drop at l)) q) behind_size (packed_cons r fits told)
+        ∙ ap (λ (q : List ℕ). same (take (suc (len_of (length behind) s)) q) (bit_or r meta ∷ packed_from s 0 behind)) (drop-cons l at 0 (omega (arith, place_fits)))
+        ∙ ap (λ (n : ℕ). eqb (get_or l at 0) (bit_or r meta) && same (take (len_of (length behind) s) (drop n l)) (packed_from s 0 behind)) (sym (add-one at))
 
-        pub only_stored : set l at (bit_or r meta) ≡ overlay l at (packed_from s meta v)
-        only_stored = sym (overlay_nil (set l at (bit_or r meta)) (at + 1)) ∙ ap (overlay (set l at (bit_or r meta)) (at + 1)) (sym no_rest) ∙ first_stored
+    -- where the first byte is another, where it is equal, and where it is the only one
+    pub first_differs : (get_or l at 0 ≡ bit_or r meta → ⊥) → false ≡ same (part at (len_of (length v) s) l) (packed_from s meta v)
+    first_differs h = sym (compared ∙ rw (ne_eqb _ _ h))
 
-        pub only_compared : true ≡ same (part (at + 1) (len_of (length (drop first v)) s) l) rest
-        unfolding same part
-        only_compared = sym (ap₂ (λ (n : ℕ) (q : List ℕ). same (take (len_of n s) (drop (at + 1) l)) q) none_behind no_rest ∙ ap (λ (n : ℕ). same (take n (drop (at + 1) l)) []) (len_none s))
+    pub behind_compared : get_or l at 0 ≡ bit_or r meta
+        → same (part (at + 1) (len_of (length behind) s) l) (packed_from s 0 behind) ≡ same (part at (len_of (length v) s) l) (packed_from s meta v)
+    behind_compared h = sym (compared ∙ rw (eq-eqb _ _ h))
+
+    pub only_compared : get_or l at 0 ≡ bit_or r meta → first ≡ length v → true ≡ same (part at (len_of (length v) s) l) (packed_from s meta v)
+    unfolding same part
+    only_compared h only = sym (ap₂ (λ (n : ℕ) (q : List ℕ). same (take n (drop (at + 1) l)) q) (none_behind only) (no_rest only)) ∙ behind_compared h

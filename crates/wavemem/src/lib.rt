@@ -128,6 +128,7 @@ fn first_count(states: States, width: usize) -> usize
 }
 
 // Stores the levels of a string from a place on, with meta data in the top of the first byte. Returns the place behind them.
+#[tactic(auto, using(crate::proofs::Packing::behind_size, crate::proofs::Packing::first_stored, crate::proofs::Packing::only_stored))]
 pub fn write_n_state_from_ascii(
     states: States,
     value: &[u8],
@@ -151,6 +152,7 @@ pub fn write_n_state_from_ascii(
 }
 
 // Whether the bytes from a place on are those that `write_n_state_from_ascii` would store there.
+#[tactic(auto, using(crate::proofs::Packing::first_differs, crate::proofs::Packing::behind_compared, crate::proofs::Packing::only_compared))]
 pub fn equals_n_state_from_ascii(
     states: States,
     value: &[u8],
