@@ -147,9 +147,6 @@ drop_codes {s} f v ok = record { known = rw codes_drop (below_drop 9 _ ok.known 
 pub take_codes : {s : States} (m : ℕ) (v : List ℕ) → Codes s (codes_of (fold_all v)) → Codes s (codes_of (fold_all (take m v)))
 take_codes {s} m v ok = record { known = rw codes_take (below_take 9 _ ok.known m); below = rw codes_take (below_take (2 ^ bits_of s) _ ok.below m) }
 
-pub one_word : {s : States} {v : List ℕ} → OneByte s v → OneWord s v
-one_word ok = record { codes = ok.codes; short = omega (arith, ok.short) }
-
 pub byte_small : {s : States} {v : List ℕ} → OneByte s v → number (2 ^ bits_of s) (codes_of (fold_all v)) < 256
 byte_small {s} {v} ok =
     let cs = codes_of (fold_all v) in

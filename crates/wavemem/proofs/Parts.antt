@@ -3,13 +3,14 @@
 use mathlib.Core.Path.{◌≡◌, refl, sym, ap, ap₂, ◌∙◌}
 use mathlib.Core.Bool.{Bool, true, false, ◌&&◌}
 use mathlib.Core.List.{List, [], ◌++◌}
-use Prim.Native.Nat.{◌/◌, ℕ, ◌+◌, ◌-◌, ◌*◌, ◌%◌, ◌≤◌, ◌<◌}
-use native.Mathlib.Nat.{sub-zero, zero-mul, suc-mul, mul_comm, mul-le-mul_left, mul-le-mul_right, mod-add-div, mod-lt, add-mul, mul_assoc, mul-lt-mul_of_pos_right, mul-div_left, mul-mod_left, mod-eq_of_lt, add-mod_right}
+use Prim.Native.Nat.{◌/◌, ℕ, zero, suc, ◌+◌, ◌-◌, ◌*◌, ◌%◌, ◌≤◌, ◌<◌}
+use native.Mathlib.Nat.{sub-zero, zero-mul, suc-mul, add_comm, mul_comm, mul-le-mul_left, mul-le-mul_right, mod-add-div, mod-lt, add-mul, mul_assoc, mul-lt-mul_of_pos_right, mul-div_left, mul-mod_left, mod-eq_of_lt, add-mod_right}
 use native.Mathlib.Omega.{arith}
 use borrow.Rule.Slice.PartMut.{put_mid}
 use Rattle.std.proofs.lemmas.Nat.{mod-mul-add}
-use lib.ListN.{length, take, drop, length-drop, take-append-drop}
+use lib.ListN.{length, get_or, take, drop, length-drop, take-append-drop}
 use lib.Seq.{drop-length, drop-drop, length-take-le, take-add, take_all}
+use Rattle.std.specs.Simd.{first_chunks}
 use Rattle.value.specs.declared.States.{States}
 use Rattle.value.specs.declared.States.TheVariants.{Two, Four, Nine}
 use Rattle.value.specs.Digits.{digits}
@@ -235,6 +236,13 @@ pub put_is : (l new : List ℕ) (at n : ℕ) → length new ≡ n → put_mid at
 unfolding overlay
 put_is l new at n e =
     ap (λ (r : List ℕ). take at l ++ (new ++ r)) (drop-drop (at + n - at) at l ∙ ap (λ (k : ℕ). drop k l) (omega (arith, e)))
+
+pub chunk_at : {A : Type 0} (n k i : ℕ) (l : List A) (d : List A) → i < k → get_or (first_chunks n k l) i d ≡ part (i * n) n l
+unfolding part
+chunk_at n zero i l d h = absurd (omega arith)
+chunk_at n (suc k) zero l d h = rw zero-mul refl
+chunk_at n (suc k) (suc i) l d h =
+    chunk_at n k i (drop n l) d (omega arith) ∙ ap (take n) (drop-drop (i * n) n l) ∙ ap (λ (j : ℕ). take n (drop j l)) (add_comm n (i * n) ∙ sym (suc-mul i n))
 
 module _ {s : States} {n m : ℕ} (f : Fills s n m) where
   pub fills_len : len_of n s ≡ m

@@ -3,8 +3,8 @@
 use mathlib.Core.Path.{◌≡◌, refl, sym, ap, ap₂, ◌∙◌}
 use mathlib.Core.Bool.{Bool, true, false, not, ◌&&◌}
 use mathlib.Core.List.{List}
-use Prim.Native.Nat.{◌/◌, ℕ, zero, suc, ◌+◌, ◌-◌, ◌*◌, ◌%◌, ◌≤◌, ◌<◌}
-use native.Mathlib.Nat.{zero-mul, suc-mul, add_comm}
+use Prim.Native.Nat.{◌/◌, ℕ, ◌+◌, ◌-◌, ◌*◌, ◌%◌, ◌≤◌, ◌<◌}
+use native.Mathlib.Nat.{suc-mul}
 use native.Mathlib.Omega.{arith}
 use borrow.Rule.Slice.PartMut.{put_mid}
 use native.Mathlib.Numerals.{add-one}
@@ -12,23 +12,15 @@ use Rattle.std.proofs.lemmas.Bool.{not-true, not-false}
 use lib.Dec.{eqb}
 use lib.Pointwise.{pointwise}
 use lib.ListN.{length, get_or, take, drop}
-use lib.Seq.{drop-drop}
 use Rattle.std.specs.Simd.{first_chunks}
 use Rattle.value.specs.declared.States.{States}
 use Rattle.value.specs.Slice.{part, overlay, same}
 use Rattle.value.specs.Level.{fold_all, codes_of, len_of}
 use Rattle.wavemem.specs.Packed.{packed_from, Codes, Fills, WholeBytes}
 use Rattle.wavemem.proofs.Compare.{pointwise_same}
-use Rattle.wavemem.proofs.Parts.{Passed, agree, Stored, Agrees, front_whole, front_length, front_stored, back_is, back_lent, behind_stored, both_compared, both_sizes, both_packed, turn_fits, turn_codes, turn_size, stored_on, agrees_on, agrees_not, put_is, fills_len, fills_full, turn_more, turn_lead, turn_one, turn_place}
+use Rattle.wavemem.proofs.Parts.{Passed, agree, Stored, Agrees, front_whole, front_length, front_stored, back_is, back_lent, behind_stored, both_compared, both_sizes, both_packed, turn_fits, turn_codes, turn_size, stored_on, agrees_on, agrees_not, put_is, chunk_at, fills_len, fills_full, turn_more, turn_lead, turn_one, turn_place}
 
 -- ---- one turn of a walk
-
-pub chunk_at : {A : Type 0} (n k i : ℕ) (l : List A) (d : List A) → i < k → get_or (first_chunks n k l) i d ≡ part (i * n) n l
-unfolding part
-chunk_at n zero i l d h = absurd (omega arith)
-chunk_at n (suc k) zero l d h = rw zero-mul refl
-chunk_at n (suc k) (suc i) l d h =
-    chunk_at n k i (drop n l) d (omega arith) ∙ ap (take n) (drop-drop (i * n) n l) ∙ ap (λ (j : ℕ). take n (drop j l)) (add_comm n (i * n) ∙ sym (suc-mul i n))
 
 -- the characters of a turn, of as many turns as a string has
 pub record Turn (s : States) (v : List ℕ) (room at n m i to : ℕ) (chars : List ℕ) : Type 0 where

@@ -10,7 +10,7 @@ use Rattle.value.specs.Digits.{number, digits}
 use Rattle.value.specs.Slice.{part}
 use Rattle.value.proofs.Digits.{below_all, below_take, below_drop}
 use Rattle.wavemem.proofs.Words.{word_bytes}
-use Rattle.wavemem.proofs.Walk.{chunk_at}
+use Rattle.wavemem.proofs.Parts.{chunk_at}
 use Rattle.wavemem.proofs.bits_from_ascii.Goals.{After-word}
 use Rattle.value.specs.Level.{fold_all, codes_of}
 use Rattle.wavemem.proofs.Packing.{length_codes, codes_take, codes_drop, take_codes, drop_codes, eight_more}
