@@ -63,6 +63,7 @@ fn squeeze_4(x: u64) -> u64
 }
 
 // The number of eight characters 0 1.
+#[tactic(auto, using(crate::proofs::Codes::two_codes))]
 pub fn two_of_word(w: u64) -> u64
     requires { Below 2 (codes_of (fold_all (digits 256 8 w))) }
     ensures { result ≡ number 2 (codes_of (fold_all (digits 256 8 w))) }
@@ -71,6 +72,7 @@ pub fn two_of_word(w: u64) -> u64
 }
 
 // The number of eight characters 0 1 x z. Bits tell each one's code.
+#[tactic(auto, using(crate::proofs::Codes::four_codes))]
 pub fn four_of_word(w: u64) -> u64
     requires { Below 4 (codes_of (fold_all (digits 256 8 w))) }
     ensures { result ≡ number 4 (codes_of (fold_all (digits 256 8 w))) }
@@ -79,6 +81,7 @@ pub fn four_of_word(w: u64) -> u64
 }
 
 // The number of eight characters 0 1 x z h u w l -, each bit of the codes by itself.
+#[tactic(auto, using(crate::proofs::Codes::nine_codes, value::proofs::Digits::below_mono))]
 fn nine_of_word(w: u64) -> u64
     requires { Below 9 (codes_of (fold_all (digits 256 8 w))) }
     ensures { result ≡ number 16 (codes_of (fold_all (digits 256 8 w))) }
@@ -96,6 +99,7 @@ fn nine_of_word(w: u64) -> u64
 }
 
 // The top bit of each byte that is not 0.
+#[tactic(auto, using(crate::proofs::Marks::set_told))]
 fn set_bytes(x: u64) -> u64
     ensures { result ≡ marks (zeros x) }
 {
@@ -103,6 +107,7 @@ fn set_bytes(x: u64) -> u64
 }
 
 // A byte 0 for each character 0 1, and another for every other byte.
+#[tactic(auto, using(crate::proofs::Marks::two_told))]
 fn beside_two(w: u64) -> u64
     ensures { zeros result ≡ map (holds_one 2) (digits 256 8 w) }
 {
@@ -110,6 +115,7 @@ fn beside_two(w: u64) -> u64
 }
 
 // The top bit of each byte that is no character 0 1 x z.
+#[tactic(auto, using(crate::proofs::Marks::four_told))]
 fn beside_four(w: u64) -> u64
     ensures { result ≡ marks (map (holds_one 4) (digits 256 8 w)) }
 {
@@ -118,6 +124,7 @@ fn beside_four(w: u64) -> u64
 }
 
 // The top bit of each foreign byte. The compiler shares what it has of `beside_four` already.
+#[tactic(auto, using(crate::proofs::Marks::nine_told))]
 fn beside_nine(w: u64) -> u64
     ensures { result ≡ marks (map (holds_one 9) (digits 256 8 w)) }
 {
