@@ -1,9 +1,9 @@
 // Strings of at most eight characters, each read once, as one word: the first character in the highest byte.
-ghost use Rattle.std.specs.Prelude.{◌≡◌, ◌≤◌, length, map};
+ghost use Rattle.std.specs.Prelude.{◌≡◌, ◌≤◌, All, fold, length, map};
 ghost use Rattle.value.specs.Digits.{number, digits, Below};
 ghost use Rattle.value.specs.Level.{fold_all, codes_of};
 ghost use Rattle.value.specs.Answer.{holds_one};
-ghost use Rattle.wavemem.specs.Short.{padded, zeros, marks, Scan};
+ghost use Rattle.wavemem.specs.Short.{padded, zeros, marks, Scan, InWord, pushed_by};
 
 use crate::word;
 use value::States;
@@ -42,14 +42,31 @@ fn squeeze_1(x: u64) -> u64
     (z | (z >> 28)) & 255
 }
 
+// Lanes pushed together by steps, each a shift that joins neighbours and a mask of what they make.
+pub fn squeeze<const STEPS: usize>(x: u64, steps: &[(u32, u64); STEPS]) -> u64
+    requires { All InWord steps.now }
+    ensures { result ≡ fold pushed_by x steps.now }
+{
+    let mut y = x;
+    for (shift, mask) in steps {
+        y = (y | (y >> *shift)) & *mask;
+    }
+    y
+}
+
 // Levels of two bits, where masks are needed.
 fn squeeze_2(x: u64) -> u64
     requires { Below 4 (digits 256 8 x) }
     ensures { result ≡ number 4 (digits 256 8 x) }
 {
-    let y = (x | (x >> 6)) & 0x000f_000f_000f_000f;
-    let z = (y | (y >> 12)) & 0x0000_00ff_0000_00ff;
-    (z | (z >> 24)) & 0xffff
+    squeeze(
+        x,
+        &[
+            (6, 0x000f_000f_000f_000f),
+            (12, 0x0000_00ff_0000_00ff),
+            (24, 0xffff),
+        ],
+    )
 }
 
 // Levels of four bits.
@@ -57,9 +74,14 @@ fn squeeze_4(x: u64) -> u64
     requires { Below 16 (digits 256 8 x) }
     ensures { result ≡ number 16 (digits 256 8 x) }
 {
-    let y = (x | (x >> 4)) & 0x00ff_00ff_00ff_00ff;
-    let z = (y | (y >> 8)) & 0x0000_ffff_0000_ffff;
-    (z | (z >> 16)) & 0xffff_ffff
+    squeeze(
+        x,
+        &[
+            (4, 0x00ff_00ff_00ff_00ff),
+            (8, 0x0000_ffff_0000_ffff),
+            (16, 0xffff_ffff),
+        ],
+    )
 }
 
 // The number of eight characters 0 1.
