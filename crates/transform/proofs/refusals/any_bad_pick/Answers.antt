@@ -23,9 +23,6 @@ returns-then-bits-lt4 c indices l =
     sym (entries_none (kept_with a.description a.used.now indices) (pick_is_bad a.extract)
     (λ i h. none_below a.extract a.description a.used.now c.requires (omega (arith, rw c.largest.ensures at c.bits.ensures)) i (rw l at h)))
 
-pub any-requires-clause-callable : goal.any-requires-clause-callable
-any-requires-clause-callable c = serves_from_Range (λ x q r. search rules) (λ x l h. let s = c.requires in search rules)
-
 pub returns : goal.returns
 returns c indices l =
     let a = c.args in
