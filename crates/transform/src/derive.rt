@@ -64,7 +64,7 @@ fn largest_states(inputs: &[Input]) -> States
 }
 
 // Whether the steps that are kept have room in slices of these lengths. They are counted where the inputs' entries together have none.
-#[tactic(auto, using(crate::proofs::Given::few_used, crate::proofs::Given::narrow, crate::proofs::Given::stand, layout::proofs::Sizes::size_small, steps::proofs::Totals::total_small, steps::proofs::Totals::fits_counted))]
+#[tactic(auto, using(crate::proofs::Given::few_used, crate::proofs::Given::narrow, crate::proofs::Given::stand, layout::proofs::Sizes::size_small, steps::proofs::Totals::total_small))]
 fn steps_fit(
     derivation: &DerivedBitVecSignal,
     sources: &Sources,
