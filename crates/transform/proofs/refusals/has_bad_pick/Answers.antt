@@ -4,7 +4,7 @@ use mathlib.Core.Path.{◌∙◌, ◌≡◌, ap, sym}
 use Rattle.signal.proofs.Reading.{inside, no_text}
 use Rattle.signal.specs.Decode.{entry_at}
 use Rattle.signal.specs.Packed.{is_packed}
-use Rattle.signal.specs.Parts.{Unpacked, unpacked}
+use Rattle.signal.specs.Parts.{unpacked}
 use native.Mathlib.Omega.{arith}
 use Rattle.transform.specs.Refusals.{EntryPick}
 use Rattle.transform.proofs.PieceTests.{levels_as, no_levels, pick_few, pick_levels, picks}
