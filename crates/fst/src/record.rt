@@ -48,17 +48,17 @@ impl SlicesMut<'_> {
 pub fn fresh(width: u32) -> Result<Description, Refusal>
     ensures { made_of result ≡ fresh width }
 {
-    if MAX_WIDTH < width {
-        return Err(Refusal::WidthTooLarge);
+    match width {
+        0 => Ok(Description::new(Encoding::Event, 0)),
+        ..=MAX_WIDTH => Ok(Description::new(
+            Encoding::BitVector {
+                width,
+                max_states: States::Two,
+            },
+            0,
+        )),
+        _ => Err(Refusal::WidthTooLarge),
     }
-    if width == 0 {
-        return Ok(Description::new(Encoding::Event, 0));
-    }
-    let encoding = Encoding::BitVector {
-        width,
-        max_states: States::Two,
-    };
-    Ok(Description::new(encoding, 0))
 }
 
 pub fn fresh_real() -> Description
@@ -130,19 +130,8 @@ pub fn lacks_room(description: Description, size: usize, slices: Slices<'_>) -> 
     requires { (is_bad description (lent_in slices) ≡ false) × (size ≡ size_of description.encoding) }
     ensures { result ≡ not (fits description.encoding (description.count + 1) (lent_in slices.entry)) }
 {
-    let count = description.count;
-    if count == MAXIMUM {
-        return true;
-    }
-    let entries = count as usize;
-    let Slices {
-        bytes,
-        byte_start,
-        indices,
-        index_start,
-    } = slices;
-    if bytes.len() - (byte_start + entries * size) < size {
-        return true;
-    }
-    indices.len() - index_start == entries
+    let entries = description.count as usize;
+    description.count == MAXIMUM
+        || slices.bytes.len() - (slices.byte_start + entries * size) < size
+        || slices.indices.len() - slices.index_start == entries
 }
