@@ -2,15 +2,18 @@
 use mathlib.Core.Path.{refl, ap₂, ◌∙◌}
 use mathlib.Core.List.{List}
 use Prim.Native.Nat.{ℕ}
+use native.Mathlib.Omega.{arith}
 use Rattle.value.specs.Slice.{overlay}
 use Rattle.wavemem.specs.Packed.{packed_from}
-use Rattle.layout.proofs.EntryWriting.{levels_packable, entry_stored}
+use Rattle.layout.proofs.EntryWriting.{first_top, levels_packable, entry_stored}
 use Rattle.layout.proofs.entry.write_entry.Goals as goal
 
 pub write_n_state_from_ascii-requires : goal.write_n_state_from_ascii-requires
 write_n_state_from_ascii-requires c =
     let w = c.write_front-from in
-    rw c.mark_within.ensures (levels_packable c.requires c.new-layout.ensures _ _ w.auto.out w.ensures.0)
+    let top = first_top c.requires c.new-layout.ensures in
+    let e = c.mark_within.ensures in
+    levels_packable c.requires c.new-layout.ensures _ _ _ w.auto.out w.ensures.0 (omega (arith, e, top)) (omega (arith, e))
 
 pub returns-clause-out_after : goal.returns-clause-out_after
 returns-clause-out_after c =

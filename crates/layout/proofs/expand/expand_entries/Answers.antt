@@ -29,9 +29,6 @@ returns-then-entry_size c =
 grown : (c : Else-entry_size) → entry_size c.args.bits c.args.from ≡ entry_size c.args.bits c.args.to → ⊥
 grown c e = c.if-entry_size.false (c.entry_size.ensures ∙ e ∙ sym c.entry_size-2.ensures)
 
-pub new-requires : goal.new-requires
-new-requires c = (c.requires.wide, c.requires.up, grown (goal.at.new-requires c).Else-entry_size)
-
 pub expand_all-requires : goal.expand_all-requires
 expand_all-requires c =
     let x = c.args in

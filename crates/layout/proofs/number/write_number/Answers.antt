@@ -13,9 +13,6 @@ use Rattle.value.proofs.Slices.{overlay_nil}
 use Rattle.layout.proofs.Numbers.{stored_next, rest_next, one_stored}
 use Rattle.layout.proofs.number.write_number.Goals as goal
 
-pub overflow_cast-out : goal.overflow_cast-out
-overflow_cast-out c = omega (arith, and_mask c.args.number 8)
-
 pub returns-then-size-eq1 : goal.returns-then-size-eq1
 returns-then-size-eq1 c =
     let x = c.args in
@@ -24,9 +21,6 @@ returns-then-size-eq1 c =
 pub loop-k-init : goal.loop-k-init
 unfolding digits
 loop-k-init c = (rw (sub_self, overlay_nil), rw sub_self (sym (div-one _)))
-
-pub overflow_cast-out-in-loop-k : goal.overflow_cast-out-in-loop-k
-overflow_cast-out-in-loop-k c = omega (arith, and_mask c.loop-k.rest 8)
 
 pub loop-k-preserved : goal.loop-k-preserved
 loop-k-preserved c =
@@ -42,8 +36,3 @@ loop-k-preserved c =
           ∙ ap (λ (j : ℕ). overlay d (x.at + k) (digits 256 j x.number)) f,
       ap (λ (r : ℕ). r / 256) c.loop-k.invariant.1 ∙ rest_next x.number d n ∙ ap (λ (j : ℕ). x.number / 256 ^ j) f,
     )
-
-pub returns : goal.returns
-returns c =
-    let e : c.loop-k.k ≡ 0 = omega arith in
-    c.loop-k.invariant.0 ∙ rw (e, add-zero, sub-zero)
