@@ -3,20 +3,15 @@
 use mathlib.Core.Path.{◌≡◌, sym, ap, ap₂, ◌∙◌}
 use mathlib.Core.List.{List}
 use Prim.Native.Nat.{ℕ, suc, ◌+◌, ◌-◌, ◌^◌, ◌/◌, ◌%◌}
-use native.Mathlib.Nat.{sub_self, add-zero, sub-zero, div-one}
+use native.Mathlib.Nat.{sub_self, div-one}
 use native.Mathlib.Omega.{arith}
 use lib.Bits.{bit_and, and_mask}
 use lib.ListN.{set}
 use Rattle.value.specs.Digits.{digits}
 use Rattle.value.specs.Slice.{overlay}
 use Rattle.value.proofs.Slices.{overlay_nil}
-use Rattle.layout.proofs.Numbers.{stored_next, rest_next, one_stored}
+use Rattle.layout.proofs.Numbers.{stored_next, rest_next}
 use Rattle.layout.proofs.number.write_number.Goals as goal
-
-pub returns-then-size-eq1 : goal.returns-then-size-eq1
-returns-then-size-eq1 c =
-    let x = c.args in
-    one_stored x.number x.out.now x.at (omega arith) ∙ ap (λ (k : ℕ). overlay x.out.now x.at (digits 256 k x.number)) (sym c.if-size-eq1.true)
 
 pub loop-k-init : goal.loop-k-init
 unfolding digits
