@@ -26,6 +26,7 @@ fn last_place(byte_start: usize, count: u32, size: usize) -> Option<usize>
     Some(byte_start + before as usize * size)
 }
 
+#[tactic(auto, using(layout::proofs::Blocks::front_stored, layout::proofs::Blocks::part_borrowed, value::proofs::Slices::part_length))]
 fn copy_from(bytes: &[u8], at: usize, count: usize, out: &mut [u8])
     requires { (at + count ≤ length bytes.now) × (count ≤ length out.old) }
     ensures { out.new ≡ overlay out.old 0 (part at count bytes.now) }
@@ -54,6 +55,7 @@ impl<'a> Model for WiderEntry<'a> {
 }
 
 impl<'a> WiderEntry<'a> {
+    #[tactic(auto, using(layout::proofs::Entries::sized))]
     pub fn new(from: States, to: States, states: States, value: &'a [u8]) -> WiderEntry<'a>
         requires { (mark_of from ≤ mark_of to) × Writable to states value.now (entry_size (length value.now) to) 0 }
         ensures { result ≡ wider from to states value.now }
@@ -69,6 +71,7 @@ impl<'a> WiderEntry<'a> {
     }
 
     // Whether the entry at a place, laid out anew, is this one. No entry is longer than the copy.
+    #[tactic(auto, using(crate::proofs::LastEntry::widens, layout::proofs::Sizes::size_small))]
     fn is_widened(&self, bytes: &[u8], at: usize) -> bool
         requires { at + size_before self.now ≤ length bytes.now }
         ensures { result ≡ equals_widened self.now at bytes.now }

@@ -24,7 +24,6 @@ use Rattle.fst.specs.declared.Encoding.TheVariants.{BitVector}
 use Rattle.fst.specs.declared.Description.{Description}
 use Rattle.layout.specs.Entry.{entry_size, widen_all}
 use Rattle.layout.specs.Writable.{Writable, entry_from}
-use Rattle.layout.specs.Expand.{Widenable}
 use Rattle.fst.specs.Record.{Lent, Kept, Recorder, size_of, kept_in, width_stands, fits, described}
 use Rattle.fst.specs.Change.{text, is_other_kind, is_other_length, is_foreign, appended, changed, with_change, lacks_room, add_change}
 use Rattle.fst.specs.Adding.{Admitted, AdmittedString, Adds}

@@ -130,6 +130,7 @@ impl Description {
     }
 
     // Number 7, and what is stored, of a change that moves no entry: it is behind the others, unless it repeats the last.
+    #[tactic(auto, using(crate::proofs::Records::standing, crate::proofs::AddingPlain::roomier))]
     #[inline(always)]
     pub(crate) fn append<E: Entry>(
         mut self,
@@ -175,6 +176,7 @@ impl Description {
     }
 
     // Number 7, and what is stored, of a string of any set. The room is that of the record with the change.
+    #[tactic(auto, using(crate::proofs::AddingStrings::string_standing))]
     fn raise(
         self,
         slices: SlicesMut<'_>,
@@ -211,6 +213,7 @@ impl Description {
     }
 
     // Numbers 2, and 4 to 6, of a string for a bit vector. One that raises no set leaves the entries as they are.
+    #[tactic(auto, using(crate::proofs::Records::standing, crate::proofs::Adding::gives_2, crate::proofs::AddingStrings::string_gives_4, crate::proofs::AddingStrings::string_gives_5))]
     #[inline(always)]
     fn admit_levels<'a>(
         self,
@@ -244,6 +247,7 @@ impl Description {
     }
 
     // Numbers 2, 4 and 6 of a string for an event.
+    #[tactic(auto, using(crate::proofs::Records::standing, crate::proofs::Adding::gives_2, crate::proofs::Adding::gives_6, crate::proofs::AddingPlain::event_gives_4, crate::proofs::AddingPlain::event_suited))]
     fn admit_event<'a>(
         self,
         slices: Slices<'_>,
@@ -266,6 +270,7 @@ impl Description {
     }
 
     // Numbers 2 to 6. Number 2 is tried in each arm, so that a bit vector's size is worked out once.
+    #[tactic(auto, using(crate::proofs::Records::standing, crate::proofs::Adding::gives_2, crate::proofs::AddingPlain::real_gives_3))]
     #[inline(always)]
     fn admit<'a>(
         self,

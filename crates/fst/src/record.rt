@@ -91,6 +91,7 @@ fn fits_levels(width: u32, size: usize, count: u32, bytes: usize, byte_start: us
 }
 
 // Number 2 of the calls that are lent no indices: whether a description asks for more bytes than it is lent, or for what no record has.
+#[tactic(auto, using(crate::proofs::Rooms::bad_room, crate::proofs::Rooms::bad_vector, layout::proofs::Sizes::size_small), unfolding(crate::specs::Record::width_stands))]
 pub fn is_bad_bytes(description: Description, bytes: &[u8], byte_start: usize) -> bool
     ensures { result ≡ is_bad_bytes description byte_start bytes.now }
 {
@@ -107,6 +108,7 @@ pub fn is_bad_bytes(description: Description, bytes: &[u8], byte_start: usize) -
 }
 
 // Number 2: the same, or more indices than are lent.
+#[tactic(auto, using(crate::proofs::Rooms::bad_bytes, crate::proofs::Rooms::by_indices))]
 pub fn is_bad(description: Description, slices: Slices<'_>) -> bool
     ensures { result ≡ is_bad description (lent_in slices.entry) }
 {
@@ -116,6 +118,7 @@ pub fn is_bad(description: Description, slices: Slices<'_>) -> bool
 }
 
 // Number 2 of a bit vector, whose size is worked out once for all that follows.
+#[tactic(auto, using(crate::proofs::Rooms::bad_bytes, crate::proofs::Rooms::by_indices, crate::proofs::Rooms::bad_vector, layout::proofs::Sizes::size_small))]
 pub fn is_bad_vector(description: Description, width: u32, size: usize, slices: Slices<'_>) -> bool
     requires { SizedVector description width size }
     ensures { result ≡ is_bad description (lent_in slices.entry) }
@@ -126,6 +129,7 @@ pub fn is_bad_vector(description: Description, width: u32, size: usize, slices: 
 }
 
 // Whether one entry more has no room, where the record is not bad and its entries have a size.
+#[tactic(auto, using(crate::proofs::Records::standing))]
 pub fn lacks_room(description: Description, size: usize, slices: Slices<'_>) -> bool
     requires { (is_bad description (lent_in slices) ≡ false) × (size ≡ size_of description.encoding) }
     ensures { result ≡ not (fits description.encoding (description.count + 1) (lent_in slices.entry)) }

@@ -3,32 +3,12 @@
 use mathlib.Core.Path.{ap, ◌∙◌}
 use mathlib.Core.List.{List}
 use Prim.Native.Nat.{ℕ}
-use native.Mathlib.Nat.{one-mul}
-use native.Mathlib.Omega.{arith}
 use lib.ListN.{length, replicate}
 use Rattle.value.specs.Slice.{part, overlay, same}
 use Rattle.value.proofs.Slices.{part_length}
-use Rattle.layout.proofs.Sizes.{size_small}
-use Rattle.entries.specs.Repeatable.{Wider, size_before, size_after}
+use Rattle.entries.specs.Repeatable.{Wider, size_before}
 use Rattle.entries.proofs.LastEntry.{widens, copy_widened}
 use Rattle.entries.proofs.WiderEntry.is_widened.Goals as goal
-
-pub copy_from-requires : goal.copy_from-requires
-copy_from-requires c =
-    let i = c.self.inside in (
-      omega (arith, c.entry_size.ensures, ap size_before c.self.view_is, c.requires),
-      omega (arith, c.entry_size.ensures, size_small i.bits i.from c.self.invariant.short),
-    )
-
-pub expand-requires : goal.expand-requires
-expand-requires c =
-    let x = c.args.self.now in
-    (omega arith, omega (arith, c.copy_from.auto.out, one-mul (size_after x), size_small x.bits x.to (widens c.self.view_is c.self.invariant).short))
-
-pub is_at-requires : goal.is_at-requires
-is_at-requires c =
-    let i = c.self.inside in
-    omega (arith, c.expand.auto.data, c.copy_from.auto.out, c.self.invariant.sized, size_small i.bits i.to c.self.invariant.short)
 
 pub returns : goal.returns
 returns c =

@@ -2,14 +2,11 @@
 -- Assumes nothing.
 use mathlib.Core.Path.{◌≡◌, refl, sym, ap, ap₂, ◌∙◌}
 use mathlib.Core.Bool.{false, cond, not}
-use Rattle.std.proofs.Math.Path.{subst₂}
 use mathlib.Core.List.{List}
-use Prim.Native.Nat.{ℕ, ◌+◌, ◌*◌, ◌≤◌, ◌<◌}
-use native.Mathlib.Omega.{arith}
+use Prim.Native.Nat.{ℕ, ◌+◌, ◌*◌}
 use lib.ListN.{length, set}
 use Rattle.value.specs.declared.States.{States}
 use Rattle.value.specs.Slice.{part, overlay}
-use Rattle.value.specs.Level.{join}
 use Rattle.layout.specs.Entry.{entry_size}
 use Rattle.entries.specs.Repeatable.{Wider, wider, size_before, size_after, widened, repeats_widened}
 use Rattle.fst.specs.declared.Description.{Description}
@@ -18,13 +15,9 @@ use Rattle.fst.specs.Record.{Lent, lent_mut, fits, is_bad}
 use Rattle.fst.proofs.Adding.{accepted_with}
 use Rattle.fst.proofs.Rooms.{bad_exceeds}
 use Rattle.fst.proofs.AddingPlain.{Roomier}
-use Rattle.fst.proofs.AddingStrings.{string_standing, room_here, up, joint_writable, width_then, widenable, wider_room, levels_full, levels_stay, levels_grow}
+use Rattle.fst.proofs.AddingStrings.{up, joint_writable, width_then, widenable, wider_room, levels_full, levels_stay, levels_grow}
 use Rattle.fst.proofs.Description.raise.Goals.{After-is_bad, After-expand, Start}
 use Rattle.fst.proofs.Description.raise.Goals as goal
-
--- an index's place counts no more bytes than a slice has
-few_indices : (x : Start) → length x.args.slices.indices.now * 4 < 18446744073709551616
-few_indices x = omega arith
 
 -- an acceptance by its parts
 left_by : (indices : List ℕ) {d e : Description} {b c : List ℕ} → d ≡ e → b ≡ c
@@ -68,14 +61,6 @@ moved c =
 pub new-entry-requires : goal.new-entry-requires
 new-entry-requires c = (up c.requires c.join-joint.ensures, joint_writable c.requires c.join-joint.ensures)
 
-pub repeats_last-repeat-requires : goal.repeats_last-repeat-requires
-repeats_last-repeat-requires c =
-    subst₂ (λ (e : Wider) (l : Lent). l.byte_start + c.args.self.count * size_before e ≤ length l.bytes) (sym c.new-entry.ensures) (sym c.shared-seen.ensures)
-    (room_here c.requires)
-
-pub raised-next-requires : goal.raised-next-requires
-raised-next-requires c = (string_standing c.requires).room.count
-
 pub returns-then-is_bad : goal.returns-then-is_bad
 returns-then-is_bad c =
     let z = (goal.at.returns-then-is_bad c).After-is_bad in
@@ -97,18 +82,6 @@ pub write_behind-requires : goal.write_behind-requires
 write_behind-requires c =
     let p = places (goal.at.write_behind-requires c).After-is_bad c.if-is_bad.false c.if-repeat.false in
     rw (c.new-entry.ensures, c.expand.auto.«data») p.bytes
-
-pub overflow_add-indices : goal.overflow_add-indices
-overflow_add-indices c =
-    let past = goal.at.overflow_add-indices c in
-    let p = (places past.After-is_bad c.if-is_bad.false c.if-repeat.false).index in
-    omega (arith, few_indices past.Start)
-
-pub offset_bounds-indices-index_start : goal.offset_bounds-indices-index_start
-offset_bounds-indices-index_start c =
-    let past = goal.at.offset_bounds-indices-index_start c in
-    let p = (places past.After-is_bad c.if-is_bad.false c.if-repeat.false).index in
-    omega (arith, few_indices past.Start)
 
 pub bounds-indices-index_start : goal.bounds-indices-index_start
 bounds-indices-index_start c = (places (goal.at.bounds-indices-index_start c).After-is_bad c.if-is_bad.false c.if-repeat.false).index
