@@ -100,7 +100,7 @@ impl Slices<'_> {
         Some(self.indices[self.index_start + before as usize])
     }
 
-    #[tactic(auto, using(crate::proofs::Adding::below_none, crate::proofs::Adding::below_some))]
+    #[tactic(auto, using(crate::proofs::Adding::below_none))]
     pub(crate) fn is_below_last(self, index: u32, count: u32) -> bool
         requires { self.index_start + count ≤ length self.indices.now }
         ensures { result ≡ is_below_last index count (part self.entry.index_start count self.entry.indices.now) }
