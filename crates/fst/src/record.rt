@@ -44,21 +44,19 @@ impl SlicesMut<'_> {
     }
 }
 
-#[tactic(auto, using(crate::proofs::Rooms::fresh_wide, crate::proofs::Rooms::fresh_event, crate::proofs::Rooms::fresh_vector))]
+#[tactic(auto, unfolding(crate::specs::Record::fresh, crate::specs::Refusal::tried))]
 pub fn fresh(width: u32) -> Result<Description, Refusal>
     ensures { made_of result ≡ fresh width }
 {
-    match width {
-        0 => Ok(Description::new(Encoding::Event, 0)),
-        ..=MAX_WIDTH => Ok(Description::new(
-            Encoding::BitVector {
-                width,
-                max_states: States::Two,
-            },
-            0,
-        )),
-        _ => Err(Refusal::WidthTooLarge),
-    }
+    let encoding = match width {
+        0 => Encoding::Event,
+        ..=MAX_WIDTH => Encoding::BitVector {
+            width,
+            max_states: States::Two,
+        },
+        _ => return Err(Refusal::WidthTooLarge),
+    };
+    Ok(Description::new(encoding, 0))
 }
 
 pub fn fresh_real() -> Description
