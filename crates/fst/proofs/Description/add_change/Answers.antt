@@ -15,7 +15,7 @@ pub returns : goal.returns
 returns c =
     let x = c.args in
     let admits = λ (r : Result Addition Refusal) (e : c.admit.result ≡ r).
-        subst₂ (λ (l : Lent) (r : Result Addition Refusal). Admits x.self l x.index x.value.now r) c.shared.ensures e c.admit.ensures in
+    subst₂ (λ (l : Lent) (r : Result Addition Refusal). Admits x.self l x.index x.value.now r) c.shared.ensures e c.admit.ensures in
     elim c.match-admit.branch [
       | in-Ok-Event w ↦
           rw (c.answer.ensures, w.made-is, w.bytes-is, w.indices-is)

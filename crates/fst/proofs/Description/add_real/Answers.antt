@@ -20,7 +20,7 @@ pub returns : goal.returns
 returns c =
     let x = c.args in
     let admits = λ (r : Result Unit Refusal) (e : c.admit_real.result ≡ r).
-        subst₂ (λ (l : Lent) (r : Result Unit Refusal). AdmitsReal x.self l x.index x.bits r) c.shared.ensures e (c.admit_real.ensures x.bits) in
+    subst₂ (λ (l : Lent) (r : Result Unit Refusal). AdmitsReal x.self l x.index x.bits r) c.shared.ensures e (c.admit_real.ensures x.bits) in
     elim c.match-admit_real.branch [
       | in-Ok w ↦
           rw (c.answer.ensures, w.made-is, w.bytes-is, w.indices-is)
