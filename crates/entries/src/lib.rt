@@ -56,6 +56,7 @@ impl<'a> Model for WiderEntry<'a> {
 
 impl<'a> WiderEntry<'a> {
     #[tactic(auto, using(layout::proofs::Entries::sized))]
+    #[inline(always)]
     pub fn new(from: States, to: States, states: States, value: &'a [u8]) -> WiderEntry<'a>
         requires { (mark_of from ≤ mark_of to) × Writable to states value.now (entry_size (length value.now) to) 0 }
         ensures { result ≡ wider from to states value.now }
@@ -99,6 +100,7 @@ impl<'a> WiderEntry<'a> {
     }
 
     // Lays the entries before it out anew.
+    #[inline(always)]
     pub fn expand(&self, data: &mut [u8], start: usize, entries: usize)
         requires { (entries ≤ 1048576) × (start + entries * size_after self.now ≤ length «data».old) }
         ensures { «data».new ≡ overlay «data».old start (widened self.now entries (part start (entries * size_before self.now) «data».old)) }
@@ -107,6 +109,7 @@ impl<'a> WiderEntry<'a> {
     }
 
     // Stores it behind so many, which are laid out anew.
+    #[inline(always)]
     pub fn write_behind(&self, out: &mut [u8], start: usize, entries: usize)
         requires { start + entries * size_after self.now + size_after self.now ≤ length out.old }
         ensures { out.new ≡ overlay out.old (start + entries * size_after self.now) self.now.entry }
