@@ -21,7 +21,7 @@ returns-then-slices-entries c =
       | else-description-eq-MAXIMUM w ↦
           c.if-slices-entries.true
           ∙ no_bytes (standing c.requires.0) w.if-description-eq-MAXIMUM.false
-          (subst (λ (k : ℕ). left past.Start k < k) c.requires.1 (ltb-true _ _ (sym w.value-is ∙ c.if-slices-entries.true)))
+          (subst (λ (k : ℕ). left past.Start k < k) c.requires.1 (ltb-true (left past.Start c.args.size) c.args.size (sym w.value-is ∙ c.if-slices-entries.true)))
     ]
 
 pub returns-else-slices-entries : goal.returns-else-slices-entries
@@ -32,5 +32,5 @@ returns-else-slices-entries c =
           absurd (eqb-false _ _ (sym w.value-is ∙ c.if-slices-entries.false) w.if-description-eq-MAXIMUM.true)
       | else-description-eq-MAXIMUM w ↦
           by_indices (standing c.requires.0) w.if-description-eq-MAXIMUM.false
-          (subst (λ (k : ℕ). k ≤ left past.Start k) c.requires.1 (ltb-false _ _ (sym w.value-is ∙ c.if-slices-entries.false)))
+          (subst (λ (k : ℕ). k ≤ left past.Start k) c.requires.1 (ltb-false (left past.Start c.args.size) c.args.size (sym w.value-is ∙ c.if-slices-entries.false)))
     ]
