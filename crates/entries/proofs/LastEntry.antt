@@ -13,9 +13,8 @@ use Rattle.value.specs.Slice.{part, overlay, same}
 use Rattle.value.specs.Level.{mark_of}
 use Rattle.value.proofs.Slices.{part_length, part_all, part_part, part_overlay}
 use Rattle.layout.specs.Entry.{entry_size, widen_entry, widen_all}
-use Rattle.layout.specs.Writable.{entry_from}
 use Rattle.entries.specs.Repeats.{repeats}
-use Rattle.entries.specs.Repeatable.{Repeatable, equals_widened, repeats_widened}
+use Rattle.entries.specs.Repeatable.{Wider, Widens, size_before, equals_widened, repeats_widened}
 use Rattle.layout.proofs.Sizes.{widen_length, widen_same}
 
 -- ---- the last of n entries of one size
@@ -95,19 +94,22 @@ module _ (w : ℕ) (pos : 1 ≤ w) (from to : States) (up : mark_of from ≤ mar
       let b : widen_all w from to 1 (part 0 (1 * s) copy) ≡ widen_entry w from to v = ap (widen_all w from to 1) a ∙ one_widened v l in
       rw (f, b) (part_overlay copy (widen_entry w from to v) 0 (entry_size w to) zero-le (widen_length w pos from to v up l))
 
--- ---- the last of entries that a string may repeat
+-- ---- the last of the entries before a wider one, of which a method sees the fields
 
-module _ {M J own : States} {v : List ℕ} {room start n : ℕ} (p : Repeatable M J own v room start n) (some : n ≡ 0 → ⊥) {size : ℕ} (sized : size ≡ entry_size (length v) M) where
-  module _ (bytes : List ℕ) (long : length bytes ≡ room) where
-    -- whether the string repeats it, laid out anew
-    pub last_widened : equals_widened M J own v (start + (n - 1) * size) bytes ≡ repeats_widened M J own v start n bytes
-    last_widened = rw sized (repeats_widened_lem (length v) p.wide M J p.up n start bytes (entry_from J own v) some (omega (arith, p.fits)))
+module _ {e x : Wider} (seen : e ≡ x) (k : Widens e.from e.to e.bits (length e.entry)) where
+  pub widens : Widens x.from x.to x.bits (length x.entry)
+  widens = rw (← seen) k
+
+  module _ (start : ℕ) {n size : ℕ} (sized : size ≡ size_before e) (bytes : List ℕ) (room : start + n * size_before x ≤ length bytes) (some : n ≡ 0 → ⊥) where
+    -- is it repeated, laid out anew
+    pub last_widened : equals_widened x (start + (n - 1) * size) bytes ≡ repeats_widened x start n bytes
+    last_widened =
+        rw (sized, seen) (repeats_widened_lem x.bits widens.wide x.from x.to widens.up n start bytes x.entry some room)
 
     -- or as it stands
-    pub last_as_is : size ≡ entry_size (length v) J
-        → same (part (start + (n - 1) * size) (entry_size (length v) J) bytes) (entry_from J own v) ≡ repeats_widened M J own v start n bytes
-    last_as_is e =
-        let z : entry_size (length v) M ≡ entry_size (length v) J = sym sized ∙ e in
-        ap (λ (k : ℕ). same (part (start + (n - 1) * size) k bytes) (entry_from J own v)) (sym z)
-        ∙ ap (λ (l : List ℕ). same l (entry_from J own v)) (sym (widen_same (length v) M J _ z))
+    pub last_as_is : size ≡ length e.entry → same (part (start + (n - 1) * size) (length e.entry) bytes) e.entry ≡ repeats_widened x start n bytes
+    last_as_is z =
+        ap (λ (j : ℕ). same (part (start + (n - 1) * size) j bytes) e.entry) (sym z ∙ sized)
+        ∙ ap (λ (l : List ℕ). same l e.entry) (sym (widen_same e.bits e.from e.to _ (sym sized ∙ z ∙ k.sized)))
+        ∙ ap (λ (y : Wider). equals_widened y (start + (n - 1) * size) bytes) seen
         ∙ last_widened

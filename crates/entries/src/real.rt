@@ -7,6 +7,7 @@ ghost use Rattle.entries.specs.Repeats.{repeats};
 use crate::last_place;
 use layout::bytes::{read_block, write_block};
 
+#[tactic(auto, using(crate::proofs::Reals::low_bytes))]
 pub fn write_real(bits: u64, out: &mut [u8], at: usize)
     requires { at + 8 ≤ length out.old }
     ensures { out.new ≡ overlay out.old at (reverse (digits 256 8 bits)) }
@@ -15,6 +16,7 @@ pub fn write_real(bits: u64, out: &mut [u8], at: usize)
 }
 
 // Whether a real repeats the last of `count` entries.
+#[tactic(auto, using(crate::proofs::LastEntry::none_repeated))]
 pub fn repeats_real(bits: u64, bytes: &[u8], byte_start: usize, count: u32) -> bool
     requires { byte_start + count * 8 ≤ length bytes.now }
     ensures { result ≡ repeats 8 count (part byte_start (count * 8) bytes.now) (reverse (digits 256 8 bits)) }

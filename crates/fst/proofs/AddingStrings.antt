@@ -24,11 +24,10 @@ use Rattle.fst.specs.declared.Encoding.TheVariants.{BitVector}
 use Rattle.fst.specs.declared.Description.{Description}
 use Rattle.layout.specs.Entry.{entry_size, widen_all}
 use Rattle.layout.specs.Writable.{Writable, entry_from}
-use Rattle.layout.specs.Expand.{Widenable}
 use Rattle.fst.specs.Record.{Lent, Kept, Recorder, size_of, kept_in, width_stands, fits, described}
 use Rattle.fst.specs.Change.{text, is_other_kind, is_other_length, is_foreign, appended, changed, with_change, lacks_room, add_change}
 use Rattle.fst.specs.Adding.{Admitted, AdmittedString, Adds}
-use Rattle.entries.specs.Repeatable.{Repeatable, repeats_plain, repeats_widened}
+use Rattle.entries.specs.Repeatable.{wider, repeats_plain, repeats_widened}
 use Rattle.layout.proofs.Sizes.{widen_all_same, widen_all_length}
 use Rattle.layout.proofs.Entries.{sized}
 use Rattle.fst.proofs.Records.{Fits, fits_room, Standing, standing, indices_used}
@@ -94,7 +93,7 @@ module _ {d : Description} {l : Lent} {i : ℕ} {s : List ℕ} {M own : States} 
   width_here : width_stands (BitVector (length s) M) ≡ true
   width_here = ap width_stands (sym v.vector) ∙ string_standing.width
 
-  room_here : l.byte_start + d.count * entry_size (length s) M ≤ length l.bytes
+  pub room_here : l.byte_start + d.count * entry_size (length s) M ≤ length l.bytes
   room_here = rw v.vector at string_standing.room.bytes
 
   codes : Codes own (codes_of (fold_all s))
@@ -118,11 +117,11 @@ module _ {d : Description} {l : Lent} {i : ℕ} {s : List ℕ} {M own : States} 
         (record { encoding = BitVector w J; bytes = widened d l s M J; indices = indices_kept l n })
         (record { encoding = BitVector w J; bytes = widened d l s M J ++ entry_from J own s; indices = indices_kept l n ++ (i ∷ []) })
 
-    with_levels : (r : Bool) → r ≡ repeats_widened M J own s l.byte_start n l.bytes → with_change (kept_in d l) i (text s) ≡ kept r
+    with_levels : (r : Bool) → r ≡ repeats_widened (wider M J own s) l.byte_start n l.bytes → with_change (kept_in d l) i (text s) ≡ kept r
     unfolding kept_in changed appended
     with_levels r e = rw (v.vector, indices_used string_standing, ← v.least, ← j, ← e)
 
-    up : mark_of M ≤ mark_of J
+    pub up : mark_of M ≤ mark_of J
     up = omega (arith, ap mark_of j, mark_join M own)
 
     under_joint : mark_of own ≤ mark_of J
@@ -131,20 +130,13 @@ module _ {d : Description} {l : Lent} {i : ℕ} {s : List ℕ} {M own : States} 
     pub width_then : width_stands (BitVector w J) ≡ true
     width_then = width_any w M J width_here
 
-    -- what the calls ask
-    pub repeatable : Repeatable M J own s (length l.bytes) l.byte_start n
-    repeatable =
+    -- the string's entry under it
+    pub joint_writable : Writable J own s (entry_size w J) 0
+    joint_writable =
         let p = width_known M width_here in
-        record {
-          under = under_joint;
-          up = up;
-          codes = codes;
-          wide = p.0;
-          short = p.1;
-          fits = room_here;
-        }
+        record { under = under_joint; codes = codes; wide = p.0; short = p.1; fits = omega arith }
 
-    module _ {r : Bool} (told : r ≡ repeats_widened M J own s l.byte_start n l.bytes) {total : ℕ} (counted : total ≡ cond r n (n + 1)) where
+    module _ {r : Bool} (told : r ≡ repeats_widened (wider M J own s) l.byte_start n l.bytes) {total : ℕ} (counted : total ≡ cond r n (n + 1)) where
       room_told : lacks_room (kept r) l ≡ not (fits (BitVector w J) total l)
       room_told = go r counted
         where
@@ -166,16 +158,8 @@ module _ {d : Description} {l : Lent} {i : ℕ} {s : List ℕ} {M own : States} 
             go true e = omega arith
             go false e = omega arith
 
-        pub widenable : Widenable M J l.byte_start n w (length l.bytes)
-        widenable =
-            let p = width_known M width_here in
-            record {
-              wide = p.0;
-              narrow = p.1;
-              up = up;
-              few = string_standing.room.count;
-              room = omega (arith, fit.bytes, mul-le-mul_right (entry_size w J) not_less);
-            }
+        pub widenable : (n ≤ 1048576) × (l.byte_start + n * entry_size w J ≤ length l.bytes)
+        widenable = (string_standing.room.count, omega (arith, fit.bytes, mul-le-mul_right (entry_size w J) not_less))
 
         -- room for one entry more
         pub wider_room : r ≡ false → Roomier d l (entry_size w J)
@@ -183,17 +167,6 @@ module _ {d : Description} {l : Lent} {i : ℕ} {s : List ℕ} {M own : States} 
             let z : total ≡ suc n = counted ∙ rw e (add-one n) in
             let b : total * entry_size w J ≡ n * entry_size w J + entry_size w J = ap (λ (k : ℕ). k * entry_size w J) z ∙ suc-mul n (entry_size w J) in
             record { bytes = omega (arith, fit.bytes); index = omega (arith, fit.indices) }
-
-        pub writable : r ≡ false → {room at : ℕ} → room ≡ length l.bytes → at ≡ l.byte_start + n * entry_size w J → Writable J own s room at
-        writable e q k =
-            let p = repeatable in
-            record {
-              under = p.under;
-              codes = p.codes;
-              wide = p.wide;
-              short = p.short;
-              fits = omega (arith, (wider_room e).bytes);
-            }
 
         pub levels_stay : r ≡ true → accepted_with (left_wide d l s M J total) ≡ add_change d l i (text s)
         levels_stay e =
@@ -220,21 +193,19 @@ module _ {d : Description} {l : Lent} {i : ℕ} {s : List ℕ} {M own : States} 
     joined : M ≡ join M own
     joined = mark_inj M (join M own) (omega (arith, mark_join M own))
 
-    pub same_repeatable : Repeatable M M own s (length l.bytes) l.byte_start d.count
-    same_repeatable = repeatable joined
+    same_writable : Writable M own s (entry_size (length s) M) 0
+    same_writable = joint_writable joined
 
     pub size_here : {size : ℕ} → size ≡ entry_size (length s) M → size_of d.encoding ≡ size
     size_here e = ap size_of v.vector ∙ sym e
 
     -- the string's entry has the record's size
     pub entry_long : {new : List ℕ} → new ≡ entry_from M own s → length new ≡ size_of d.encoding
-    entry_long e = ap length e ∙ sized (length s) same_repeatable.wide M own (codes_of (fold_all s)) ∙ sym (ap size_of v.vector)
+    entry_long e = ap length e ∙ sized (length s) same_writable.wide M own (codes_of (fold_all s)) ∙ sym (ap size_of v.vector)
 
     -- and is stored as such
     pub new_writable : {size : ℕ} → size ≡ entry_size (length s) M → Writable M own s size 0
-    new_writable e =
-        let p = same_repeatable in
-        record { under = p.under; codes = p.codes; wide = p.wide; short = p.short; fits = omega (arith, e) }
+    new_writable e = rw e same_writable
 
     -- the bytes as they are
     abbrev kept_bytes : List ℕ

@@ -1,39 +1,18 @@
--- Fresh, and the room that entries need, from facts on numbers.
+-- The room that entries need, from facts on numbers.
 -- Assumes nothing.
 use mathlib.Core.Path.{◌≡◌, refl, sym, ap, ◌∙◌}
 use mathlib.Core.Bool.{Bool, true, false, not, ◌&&◌, ◌||◌}
 use mathlib.Core.List.{List}
-use Prim.Native.Nat.{ℕ, zero, suc, ◌+◌, ◌*◌, ◌≤◌, ◌<◌}
-use native.Mathlib.Omega.{arith}
+use Prim.Native.Nat.{ℕ, ◌+◌, ◌*◌, ◌≤◌}
 use lib.Dec.{T, leb, leb→le}
 use lib.ListN.{length}
-use borrow.Author.Tests.{lt-ltb, le-ltb, not-false}
+use borrow.Author.Tests.{not-false}
 use Rattle.value.specs.declared.States.{States}
-use Rattle.value.specs.declared.States.TheVariants.{Two}
 use Rattle.value.proofs.Tests.{to_t, from_t, and_left, and_right}
-use Rattle.fst.specs.declared.Encoding.TheVariants.{Event, BitVector}
+use Rattle.fst.specs.declared.Encoding.TheVariants.{BitVector}
 use Rattle.fst.specs.declared.Description.{Description}
-use Rattle.fst.specs.Refusal.{refused, given, tried}
 use Rattle.layout.specs.Entry.{entry_size}
-use Rattle.fst.specs.Record.{Lent, maximum, max_width, size_of, used_size, width_stands, fits_bytes, fits, is_bad_bytes, is_bad, empty, encoding_for, fresh}
-
--- ---- Fresh
-
-pub fresh_wide : (w : ℕ) → 4096 < w → refused 1 ≡ fresh w
-unfolding fresh tried
-fresh_wide w h = rw (lt-ltb 4096 w h)
-
-pub fresh_narrow : (w : ℕ) → w ≤ 4096 → given (empty (encoding_for w)) ≡ fresh w
-unfolding fresh tried
-fresh_narrow w h = rw (le-ltb 4096 w h)
-
-pub fresh_vector : (w : ℕ) → w ≤ 4096 → (w ≡ 0 → ⊥) → given (empty (BitVector w Two)) ≡ fresh w
-fresh_vector zero h n = absurd (n refl)
-fresh_vector (suc w) h n = fresh_narrow (suc w) h
-
-pub fresh_event : (w : ℕ) → w ≡ 0 → given (empty Event) ≡ fresh w
-fresh_event zero e = fresh_narrow zero (omega arith)
-fresh_event (suc w) e = absurd (omega arith)
+use Rattle.fst.specs.Record.{Lent, maximum, max_width, size_of, used_size, width_stands, fits_bytes, fits, is_bad_bytes, is_bad}
 
 -- ---- room
 

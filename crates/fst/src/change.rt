@@ -2,15 +2,14 @@
 ghost use Rattle.std.specs.Prelude.{◌≡◌, cond, false, ◌+◌, ◌≤◌, length};
 ghost use Rattle.value.specs.Slice.{part};
 ghost use Rattle.fst.specs.declared.Encoding.TheVariants as encoding;
-ghost use Rattle.fst.specs.Record.{maximum, size_of, is_bad, lent, lent_in, lent_mut};
+ghost use Rattle.fst.specs.Record.{maximum, size_of, is_bad, lent, lent_in, lent_mut, described};
 ghost use Rattle.fst.specs.Change.{text, is_below_last, add_change, left_by, answered};
 ghost use Rattle.fst.specs.Adding.{last_in, left_adding, Admits, AdmittedString};
 
 use crate::record::{Slices, SlicesMut, is_bad, is_bad_vector, lacks_room};
 use crate::{Added, Description, Encoding, Refusal};
-use entries::{repeats_entry, repeats_last};
-use layout::entry::{entry_size, write_entry};
-use layout::expand::expand_entries;
+use entries::{WiderEntry, repeats_entry};
+use layout::entry::entry_size;
 use layout::number::NewEntry;
 use value::States;
 use wavemem::scan::scan;
@@ -101,7 +100,7 @@ impl Slices<'_> {
         Some(self.indices[self.index_start + before as usize])
     }
 
-    #[tactic(auto, using(crate::proofs::Adding::below_none, crate::proofs::Adding::below_some))]
+    #[tactic(auto, using(crate::proofs::Adding::below_none))]
     pub(crate) fn is_below_last(self, index: u32, count: u32) -> bool
         requires { self.index_start + count ≤ length self.indices.now }
         ensures { result ≡ is_below_last index count (part self.entry.index_start count self.entry.indices.now) }
@@ -131,6 +130,7 @@ impl Description {
     }
 
     // Number 7, and what is stored, of a change that moves no entry: it is behind the others, unless it repeats the last.
+    #[tactic(auto, using(crate::proofs::Records::standing, crate::proofs::AddingPlain::roomier))]
     #[inline(always)]
     pub(crate) fn append<E: Entry>(
         mut self,
@@ -162,9 +162,23 @@ impl Description {
         Ok(self)
     }
 
+    // Under a joint set, and with one entry more unless that is a repeat.
+    fn raised(self, width: u32, joint: States, repeat: bool) -> Description
+        requires { self.count ≤ maximum }
+        ensures { result ≡ described (encoding.BitVector width joint) (cond repeat self.count (self.count + 1)) }
+    {
+        let encoding = Encoding::BitVector {
+            width,
+            max_states: joint,
+        };
+        let count = if repeat { self.count } else { self.count + 1 };
+        Description::new(encoding, count)
+    }
+
     // Number 7, and what is stored, of a string of any set. The room is that of the record with the change.
+    #[tactic(auto, using(crate::proofs::AddingStrings::string_standing))]
     fn raise(
-        mut self,
+        self,
         slices: SlicesMut<'_>,
         index: u32,
         max_states: States,
@@ -174,26 +188,12 @@ impl Description {
         requires { AdmittedString self (lent_mut slices) index max_states states value.now }
         ensures { left_by (answered self result) slices.exit.0.now slices.exit.1.0.now ≡ add_change self (lent_mut slices.entry) index (text value.now) }
     {
-        let seen = slices.shared();
-        let width = value.len() as u32;
-        let count = self.count;
         let joint = States::join(max_states, states);
-        let repeat = repeats_last(
-            max_states,
-            joint,
-            states,
-            value,
-            seen.bytes,
-            seen.byte_start,
-            count,
-        );
-        let encoding = Encoding::BitVector {
-            width,
-            max_states: joint,
-        };
-        let total = next_count(count, repeat);
-        self = Description::new(encoding, total);
-        if is_bad(self, seen) {
+        let entry = WiderEntry::new(max_states, joint, states, value);
+        let seen = slices.shared();
+        let repeat = entry.repeats_last(seen.bytes, seen.byte_start, self.count);
+        let next = self.raised(value.len() as u32, joint, repeat);
+        if is_bad(next, seen) {
             return Err(Refusal::NoRoom);
         }
         let SlicesMut {
@@ -202,18 +202,18 @@ impl Description {
             byte_start,
             index_start,
         } = slices;
-        let entries = count as usize;
-        expand_entries(max_states, joint, bytes, byte_start, entries, width);
+        let entries = self.count as usize;
+        entry.expand(bytes, byte_start, entries);
         if repeat {
-            return Ok(self);
+            return Ok(next);
         }
-        let at = byte_start + entries * entry_size(joint, width);
-        write_entry(joint, states, value, bytes, at);
+        entry.write_behind(bytes, byte_start, entries);
         indices[index_start + entries] = index;
-        Ok(self)
+        Ok(next)
     }
 
     // Numbers 2, and 4 to 6, of a string for a bit vector. One that raises no set leaves the entries as they are.
+    #[tactic(auto, using(crate::proofs::Records::standing, crate::proofs::Adding::gives_2, crate::proofs::AddingStrings::string_gives_4, crate::proofs::AddingStrings::string_gives_5))]
     #[inline(always)]
     fn admit_levels<'a>(
         self,
@@ -247,6 +247,7 @@ impl Description {
     }
 
     // Numbers 2, 4 and 6 of a string for an event.
+    #[tactic(auto, using(crate::proofs::Records::standing, crate::proofs::Adding::gives_2, crate::proofs::Adding::gives_6, crate::proofs::AddingPlain::event_gives_4, crate::proofs::AddingPlain::event_suited))]
     fn admit_event<'a>(
         self,
         slices: Slices<'_>,
@@ -269,6 +270,7 @@ impl Description {
     }
 
     // Numbers 2 to 6. Number 2 is tried in each arm, so that a bit vector's size is worked out once.
+    #[tactic(auto, using(crate::proofs::Records::standing, crate::proofs::Adding::gives_2, crate::proofs::AddingPlain::real_gives_3))]
     #[inline(always)]
     fn admit<'a>(
         self,
@@ -315,11 +317,4 @@ impl Description {
         };
         self.answer(made)
     }
-}
-
-fn next_count(count: u32, repeat: bool) -> u32
-    requires { count ≤ maximum }
-    ensures { result ≡ cond repeat count (count + 1) }
-{
-    if repeat { count } else { count + 1 }
 }

@@ -38,6 +38,7 @@ impl Entry for Real {
 
 impl Description {
     // Numbers 2, 3 and 6.
+    #[tactic(auto, using(crate::proofs::Records::standing, crate::proofs::Adding::gives_2, crate::proofs::Adding::gives_6, crate::proofs::AddingPlain::real_suited))]
     fn admit_real(self, slices: Slices<'_>, index: u32) -> Result<(), Refusal>
         ensures { (bits : ℕ) → AdmitsReal self (lent_in slices.entry) index bits result }
     {

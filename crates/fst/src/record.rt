@@ -44,19 +44,17 @@ impl SlicesMut<'_> {
     }
 }
 
-#[tactic(auto, using(crate::proofs::Rooms::fresh_wide, crate::proofs::Rooms::fresh_event, crate::proofs::Rooms::fresh_vector))]
+#[tactic(auto, unfolding(crate::specs::Record::fresh, crate::specs::Refusal::tried))]
 pub fn fresh(width: u32) -> Result<Description, Refusal>
     ensures { made_of result ≡ fresh width }
 {
-    if MAX_WIDTH < width {
-        return Err(Refusal::WidthTooLarge);
-    }
-    if width == 0 {
-        return Ok(Description::new(Encoding::Event, 0));
-    }
-    let encoding = Encoding::BitVector {
-        width,
-        max_states: States::Two,
+    let encoding = match width {
+        0 => Encoding::Event,
+        ..=MAX_WIDTH => Encoding::BitVector {
+            width,
+            max_states: States::Two,
+        },
+        _ => return Err(Refusal::WidthTooLarge),
     };
     Ok(Description::new(encoding, 0))
 }
@@ -91,6 +89,7 @@ fn fits_levels(width: u32, size: usize, count: u32, bytes: usize, byte_start: us
 }
 
 // Number 2 of the calls that are lent no indices: whether a description asks for more bytes than it is lent, or for what no record has.
+#[tactic(auto, using(crate::proofs::Rooms::bad_room, crate::proofs::Rooms::bad_vector, layout::proofs::Sizes::size_small), unfolding(crate::specs::Record::width_stands))]
 pub fn is_bad_bytes(description: Description, bytes: &[u8], byte_start: usize) -> bool
     ensures { result ≡ is_bad_bytes description byte_start bytes.now }
 {
@@ -107,6 +106,7 @@ pub fn is_bad_bytes(description: Description, bytes: &[u8], byte_start: usize) -
 }
 
 // Number 2: the same, or more indices than are lent.
+#[tactic(auto, using(crate::proofs::Rooms::bad_bytes, crate::proofs::Rooms::by_indices))]
 pub fn is_bad(description: Description, slices: Slices<'_>) -> bool
     ensures { result ≡ is_bad description (lent_in slices.entry) }
 {
@@ -116,6 +116,7 @@ pub fn is_bad(description: Description, slices: Slices<'_>) -> bool
 }
 
 // Number 2 of a bit vector, whose size is worked out once for all that follows.
+#[tactic(auto, using(crate::proofs::Rooms::bad_bytes, crate::proofs::Rooms::by_indices, crate::proofs::Rooms::bad_vector, layout::proofs::Sizes::size_small))]
 pub fn is_bad_vector(description: Description, width: u32, size: usize, slices: Slices<'_>) -> bool
     requires { SizedVector description width size }
     ensures { result ≡ is_bad description (lent_in slices.entry) }
@@ -126,23 +127,13 @@ pub fn is_bad_vector(description: Description, width: u32, size: usize, slices: 
 }
 
 // Whether one entry more has no room, where the record is not bad and its entries have a size.
+#[tactic(auto, using(crate::proofs::Records::standing))]
 pub fn lacks_room(description: Description, size: usize, slices: Slices<'_>) -> bool
     requires { (is_bad description (lent_in slices) ≡ false) × (size ≡ size_of description.encoding) }
     ensures { result ≡ not (fits description.encoding (description.count + 1) (lent_in slices.entry)) }
 {
-    let count = description.count;
-    if count == MAXIMUM {
-        return true;
-    }
-    let entries = count as usize;
-    let Slices {
-        bytes,
-        byte_start,
-        indices,
-        index_start,
-    } = slices;
-    if bytes.len() - (byte_start + entries * size) < size {
-        return true;
-    }
-    indices.len() - index_start == entries
+    let entries = description.count as usize;
+    description.count == MAXIMUM
+        || slices.bytes.len() - (slices.byte_start + entries * size) < size
+        || slices.indices.len() - slices.index_start == entries
 }

@@ -5,12 +5,13 @@ use mathlib.Core.Path.{◌≡◌, sym, ap, ap₂, ◌∙◌}
 use mathlib.Core.List.{List, ◌++◌}
 use Prim.Native.Nat.{ℕ, ◌+◌, ◌-◌, ◌≤◌}
 use native.Mathlib.Omega.{arith}
-use lib.ListN.{length, take, drop, replicate, length-drop, length-replicate, replicate-append-replicate, take-append-drop}
-use lib.Seq.{take-add, take_at, drop_at, drop-drop, length-take-le}
+use lib.ListN.{length, take, drop, length-drop, take-append-drop}
+use lib.Seq.{take-add, drop-drop, length-take-le}
 use borrow.Rule.Slice.PartMut.{put_mid}
 use Rattle.value.specs.Slice.{part, overlay}
 use Rattle.value.proofs.Slices.{part_length, part_overlay, overlay_part, overlay_length}
 use Rattle.value.proofs.Backward.{take_part, drop_part, overlay_front}
+use Rattle.layout.specs.Blocks.{Halves}
 
 module _ {A : Type 0} where
   -- what `&l[start..start + n]` holds
@@ -49,22 +50,27 @@ module _ {A : Type 0} where
       ∙ overlay_front l start (take r v) (drop r v) (start + r) (rw t) (omega arith)
       ∙ ap (overlay l start) (take-append-drop r v)
 
+  -- the end and the front of a part
+  pub part_end : (l : List A) (p n r : ℕ) → p + n ≤ length l → r ≤ n → drop r (part p n l) ≡ part (p + r) (n - r) l
+  part_end l p n r h i =
+      let e : n ≡ r + (n - r) = omega arith in
+      ap (λ (j : ℕ). drop r (part p j l)) e ∙ drop_part l p r (n - r) (omega arith)
+
+  pub part_front : (l : List A) (p n b : ℕ) → p + n ≤ length l → b ≤ n → take b (part p n l) ≡ part p b l
+  part_front l p n b h k =
+      let e : n ≡ b + (n - b) = omega arith in
+      ap (λ (j : ℕ). take b (part p j l)) e ∙ take_part l p b (n - b) (omega arith)
+
   pub ends_moved : (l : List A) (p q n r b : ℕ) → p ≤ q → q + n ≤ length l → r ≤ b → b ≤ n
       → overlay (overlay l (q + r) (part (p + r) (n - r) l)) q (part p b l) ≡ overlay l q (part p n l)
   ends_moved l p q n r b o h i k =
-      let e : n ≡ r + (n - r) = omega arith in
-      let f : n ≡ b + (n - b) = omega arith in
-      ap₂ (λ (x y : List A). overlay (overlay l (q + r) x) q y)
-      (sym (ap (λ (j : ℕ). drop r (part p j l)) e ∙ drop_part l p r (n - r) (omega arith)))
-      (sym (ap (λ (j : ℕ). take b (part p j l)) f ∙ take_part l p b (n - b) (omega arith)))
+      ap₂ (λ (x y : List A). overlay (overlay l (q + r) x) q y) (sym (part_end l p n r (omega arith) (omega arith))) (sym (part_front l p n b (omega arith) k))
       ∙ ends_laid l (part p n l) q n r b (part_length l p n (omega arith)) h i k
 
-  pub ends_filled : (l : List A) (start n r b : ℕ) (a : A) → start + n ≤ length l → r ≤ b → b ≤ n
-      → overlay (overlay l (start + r) (replicate (n - r) a)) start (replicate b a) ≡ overlay l start (replicate n a)
-  ends_filled l start n r b a h i k =
-      let e : n ≡ r + (n - r) = omega arith in
-      let f : n ≡ b + (n - b) = omega arith in
-      ap₂ (λ (x y : List A). overlay (overlay l (start + r) x) start y)
-      (sym (ap (λ (j : ℕ). drop r (replicate j a)) e ∙ ap (drop r) (sym (replicate-append-replicate r (n - r) a)) ∙ drop_at (replicate r a) (replicate (n - r) a) r (length-replicate r a)))
-      (sym (ap (λ (j : ℕ). take b (replicate j a)) f ∙ ap (take b) (sym (replicate-append-replicate b (n - b) a)) ∙ take_at (replicate b a) (replicate (n - b) a) b (length-replicate b a)))
-      ∙ ends_laid l (replicate n a) start n r b (length-replicate n a) h i k
+  -- the last half of n elements is stored, and then the first
+  pub halves_laid : {half n : ℕ} → Halves half n → (l v : List A) (at : ℕ) → length v ≡ n → at + n ≤ length l
+      → {first last l₁ l₂ : List A} → last ≡ drop (n - half) v → first ≡ take half v
+      → l₁ ≡ overlay l (at + (n - half)) last → l₂ ≡ overlay l₁ at first → l₂ ≡ overlay l at v
+  halves_laid {half} {n} c l v at s h e f i j =
+      j ∙ ap₂ (λ (x y : List A). overlay x at y) (i ∙ ap (overlay l (at + (n - half))) e) f
+      ∙ ends_laid l v at n (n - half) half s h (omega (arith, c.covers)) c.fits

@@ -84,13 +84,21 @@ module _ {M own : States} {v : List ℕ} {room at : ℕ} (ok : Writable M own v 
         (λ q. rw (eq-eqb front 0 q) (one_entry mark lay.marked (omega (arith, lay.sized))))
         (λ n. rw (ne_eqb front 0 n, lay.marked) (sym (apart_entry (front - 1) (omega (arith, n, lay.sized)))))
 
-    pub levels_packable : (n from : ℕ) → n ≡ room → from ≡ at + front → Packable own v n from first
-    levels_packable n from r f =
+    pub first_top : first % 64 ≡ 0
+    first_top = by_eq front 0 (λ q. rw (eq-eqb front 0 q) (omega (arith, lay.marked))) (λ q. rw (ne_eqb front 0 q))
+
+    -- no more of a mark than the first level byte has
+    pub levels_packable : (n from m : ℕ) → n ≡ room → from ≡ at + front → m % 64 ≡ 0 → m ≤ first → Packable own v n from m
+    levels_packable n from m r f top few =
         by_eq front 0
         (λ q.
         let z : from ≡ at = omega arith in
-        rw (r, z, eq-eqb front 0 q) (one_packable mark (omega (arith, lay.marked)) (omega (arith, lay.marked)) (omega (arith, lay.sized))))
-        (λ q. rw (ne_eqb front 0 q) (apart_packable (omega (arith, ok.fits, lay.sized))))
+        let k : m ≤ mark = rw (eq-eqb front 0 q) at few in
+        rw (r, z) (one_packable m top (omega (arith, lay.marked)) (omega (arith, lay.sized))))
+        (λ q.
+        let k : m ≤ 0 = rw (ne_eqb front 0 q) at few in
+        let z : m ≡ 0 = omega arith in
+        rw z (apart_packable (omega (arith, ok.fits, lay.sized))))
 
     pub entry_stored : (d : List ℕ) (from : ℕ) → room ≡ length d → from ≡ at + front
         → overlay (overlay d at (mark_in_front front mark)) from (packed_from own first v) ≡ overlay d at (entry_from M own v)

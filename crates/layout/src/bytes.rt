@@ -6,6 +6,7 @@ ghost use Rattle.layout.specs.Blocks.{Halves};
 use crate::entry::push_zeros;
 
 // N bytes from p on. No test is left of the conversion.
+#[tactic(auto, using(crate::proofs::Blocks::part_borrowed))]
 #[inline(always)]
 pub fn read_block<const N: usize>(data: &[u8], p: usize) -> [u8; N]
     requires { p + N ≤ length «data».now }
@@ -15,6 +16,7 @@ pub fn read_block<const N: usize>(data: &[u8], p: usize) -> [u8; N]
 }
 
 // Not by `copy_from_slice`, which tests whether the two overlap, and so puts a block of 32 bytes on the stack.
+#[tactic(auto, using(value::proofs::Slices::overlay_nil))]
 #[inline(always)]
 pub fn write_block<const N: usize>(data: &mut [u8], q: usize, block: &[u8; N])
     requires { q + N ≤ length «data».old }
@@ -80,6 +82,7 @@ fn zero_halves<const HALF: usize>(data: &mut [u8], from: usize, n: usize)
 }
 
 // Stores n zeros.
+#[tactic(auto, using(value::proofs::Slices::overlay_nil))]
 pub fn zero(data: &mut [u8], from: usize, n: usize)
     requires { from + n ≤ length «data».old }
     ensures { «data».new ≡ overlay «data».old from (replicate n 0) }

@@ -28,6 +28,7 @@ pub fn get_len_and_meta(states: States, bits: u32) -> LenAndMeta
 }
 
 // wellen's get_bytes_per_entry, of a set and a width: the levels' bytes, and one more where no first byte has room for the mark.
+#[tactic(auto, using(crate::proofs::Sizes::size_plain_lem))]
 pub fn entry_size(states: States, bits: u32) -> usize
     ensures { result ≡ entry_size bits states }
 {
@@ -65,6 +66,7 @@ struct EntryLayout {
 }
 
 impl EntryLayout {
+    #[tactic(auto, using(crate::proofs::EntryParts::len_fits, value::proofs::Levels::mark_small))]
     fn new(max_states: States, states: States, bits: u32) -> EntryLayout
         requires { mark_of states ≤ mark_of max_states }
         ensures { LaidOut max_states states bits result.front result.mark }
@@ -76,6 +78,7 @@ impl EntryLayout {
     }
 
     // Stores what is in front of the level bytes. Returns their place.
+    #[tactic(auto, using(value::proofs::Slices::overlay_nil, value::proofs::Slices::overlay_one, value::proofs::Slices::overlay_overlay), unfolding(crate::specs::Writable::mark_in_front))]
     fn write_front(&self, out: &mut [u8], at: usize) -> usize
         requires { at + self.now.front ≤ length out.old }
         ensures { (result ≡ at + self.now.front) × (out.new ≡ overlay out.old at (mark_in_front self.now.front self.now.mark)) }
@@ -88,6 +91,7 @@ impl EntryLayout {
     }
 
     // Whether it stands in front of the level bytes.
+    #[tactic(auto, using(crate::proofs::EntryWriting::front_same, value::proofs::Slices::part_nil), unfolding(crate::specs::Writable::mark_in_front, value::specs::Slice::same))]
     fn front_is_at(&self, bytes: &[u8], at: usize) -> bool
         requires { at + self.now.front ≤ length bytes.now }
         ensures { result ≡ same (part at self.now.front bytes.now) (mark_in_front self.now.front self.now.mark) }
@@ -105,6 +109,7 @@ impl EntryLayout {
 
 // Stores the entry of a string from a place on. Returns the place behind it. It and the comparison stand apart, so that what their callers do for
 // entries of at most eight bytes has no frame for them.
+#[tactic(auto, using(crate::proofs::EntryWriting::entry_stored))]
 #[inline(never)]
 pub fn write_entry(
     max_states: States,

@@ -53,6 +53,7 @@ impl Model for Widening {
 }
 
 impl Widening {
+    #[tactic(auto, using(crate::proofs::Sizes::mark_room, crate::proofs::Expanding::widening_grows), unfolding(crate::specs::Expand::widening_of))]
     fn new(from: States, to: States, bits: u32) -> Widening
         requires { (1 ≤ bits) × (mark_of from ≤ mark_of to) × (entry_size bits from ≢ entry_size bits to) }
         ensures { result ≡ widening_of bits from to }
@@ -143,6 +144,7 @@ impl Widening {
 }
 
 // Where the size stays nothing moves.
+#[tactic(auto, using(crate::proofs::Sizes::size_up, crate::proofs::Expanding::widening_size))]
 pub fn expand_entries(
     from: States,
     to: States,

@@ -78,6 +78,7 @@ impl<'a> NewEntry<'a> {
         NewEntry::with_levels(max_states, states, value, size, levels)
     }
 
+    #[tactic(auto, using(crate::proofs::Numbers::entry_length))]
     pub fn len(&self) -> usize
         ensures { result ≡ length self.now }
     {
@@ -85,6 +86,7 @@ impl<'a> NewEntry<'a> {
     }
 
     // Whether the bytes from a place on are this entry.
+    #[tactic(auto, using(crate::proofs::Numbers::few, crate::proofs::Numbers::entry_length, crate::proofs::Numbers::entry_writable))]
     #[inline(always)]
     pub fn is_at(&self, bytes: &[u8], at: usize) -> bool
         requires { at + length self.now ≤ length bytes.now }
@@ -97,6 +99,7 @@ impl<'a> NewEntry<'a> {
     }
 
     // Stores it from a place on.
+    #[tactic(auto, using(crate::proofs::Numbers::entry_length, crate::proofs::Numbers::entry_writable))]
     #[inline(always)]
     pub fn write(&self, out: &mut [u8], at: usize)
         requires { at + length self.now ≤ length out.old }
@@ -112,6 +115,7 @@ impl<'a> NewEntry<'a> {
 }
 
 // The number of the bytes from a place on. One byte, an entry of a wire, is read without a loop.
+#[tactic(auto, using(crate::proofs::Numbers::number_of_one))]
 pub fn number_at(bytes: &[u8], at: usize, size: usize) -> u64
     requires { (size ≤ 8) × (at + size ≤ length bytes.now) }
     ensures { result ≡ number 256 (part at size bytes.now) }
@@ -125,6 +129,7 @@ pub fn number_at(bytes: &[u8], at: usize, size: usize) -> u64
 }
 
 // Stores the bytes of a number from a place on. One byte is stored without a loop too.
+#[tactic(auto, using(crate::proofs::Numbers::one_stored))]
 pub fn write_number(number: u64, size: usize, out: &mut [u8], at: usize)
     requires { at + size ≤ length out.old }
     ensures { out.new ≡ overlay out.old at (digits 256 size number) }

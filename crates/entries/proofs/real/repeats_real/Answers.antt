@@ -7,12 +7,9 @@ use native.Mathlib.Omega.{arith}
 use Rattle.std.proofs.Common.{rules}
 use Rattle.value.specs.Digits.{digits}
 use Rattle.value.specs.Slice.{part, same}
-use Rattle.entries.proofs.LastEntry.{none_repeated, repeats_plain_lem}
+use Rattle.entries.proofs.LastEntry.{repeats_plain_lem}
 use Rattle.entries.proofs.Reals.{same_real}
 use Rattle.entries.proofs.real.repeats_real.Goals as goal
-
-pub returns-in_default : goal.returns-in_default
-returns-in_default c = none_repeated _ _ _ _ c.in_default.ensures
 
 pub returns : goal.returns
 returns c =

@@ -16,8 +16,8 @@ use Rattle.fst.specs.Adding.{AdmittedString}
 use Rattle.value.specs.Level.{mark_of}
 use Rattle.layout.proofs.Numbers.{one_word}
 use Rattle.fst.proofs.Records.{Standing, standing}
-use Rattle.fst.proofs.Adding.{Suited, width_known, gives_2, gives_6, below, admits}
-use Rattle.fst.proofs.AddingStrings.{string_gives_4, string_gives_5, string_suited, string_levels, new_writable, text_adds}
+use Rattle.fst.proofs.Adding.{Suited, width_known, gives_6, below, admits}
+use Rattle.fst.proofs.AddingStrings.{string_suited, string_levels, new_writable, text_adds}
 use Rattle.fst.proofs.Description.admit_levels.Goals.{After-is_below_last}
 use Rattle.fst.proofs.Description.admit_levels.Goals as goal
 
@@ -48,24 +48,10 @@ not_above Nine Two h = omega arith
 not_above Nine Four h = omega arith
 not_above Nine Nine h = omega arith
 
-pub returns-then-is_bad_vector : goal.returns-then-is_bad_vector
-returns-then-is_bad_vector c = gives_2 _ _ _ _ (sym c.if-is_bad_vector.ensures)
-
-pub returns-then-value-width : goal.returns-then-value-width
-returns-then-value-width c =
-    string_gives_4 (standing (sym c.if-is_bad_vector.ensures)) c.requires _ _ c.if-value-width.true
-
 pub scan-requires : goal.scan-requires
 scan-requires c =
     let w = width_known c.args.max_states (ap width_stands (sym c.requires) ∙ (standing (sym c.if-is_bad_vector.ensures)).width) in
     omega (arith, c.if-value-width.false, w.1)
-
-pub returns-in_default : goal.returns-in_default
-returns-in_default c =
-    string_gives_5 (standing (sym c.if-is_bad_vector.ensures)) c.requires _ _ c.if-value-width.false c.in_default.ensures
-
-pub is_below_last-requires : goal.is_below_last-requires
-is_below_last-requires c = (standing (sym c.if-is_bad_vector.ensures)).room.indices
 
 pub returns-then-is_below_last : goal.returns-then-is_below_last
 returns-then-is_below_last c = gives_6 (suited (goal.at.returns-then-is_below_last c).After-is_below_last) _ c.if-is_below_last.ensures

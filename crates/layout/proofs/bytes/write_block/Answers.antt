@@ -7,11 +7,8 @@ use lib.ListN.{length, take, set, get_or}
 use lib.Seq.{length-take-le}
 use Rattle.std.proofs.lemmas.List.{take_more}
 use Rattle.value.specs.Slice.{overlay}
-use Rattle.value.proofs.Slices.{overlay_nil, overlay_store}
+use Rattle.value.proofs.Slices.{overlay_store}
 use Rattle.layout.proofs.bytes.write_block.Goals as goal
-
-pub loop-i-init : goal.loop-i-init
-loop-i-init g c = sym (overlay_nil _ _)
 
 pub loop-i-preserved : goal.loop-i-preserved
 loop-i-preserved g c =

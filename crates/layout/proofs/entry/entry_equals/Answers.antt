@@ -1,16 +1,19 @@
 -- `layout::entry::entry_equals` meets its contract. Assumes nothing.
 use mathlib.Core.Path.{refl, ap, ◌∙◌}
 use Prim.Native.Nat.{ℕ, ◌+◌}
+use native.Mathlib.Omega.{arith}
 use lib.ListN.{length}
 use Rattle.value.specs.Level.{len_of}
 use Rattle.value.specs.Slice.{part, same}
 use Rattle.wavemem.specs.Packed.{packed_from}
-use Rattle.layout.proofs.EntryWriting.{levels_packable, levels_left, other_front}
+use Rattle.layout.proofs.EntryWriting.{first_top, levels_packable, levels_left, other_front}
 use Rattle.layout.proofs.entry.entry_equals.Goals as goal
 
 pub equals_n_state_from_ascii-requires : goal.equals_n_state_from_ascii-requires
 equals_n_state_from_ascii-requires c =
-    rw c.mark_within.ensures (levels_packable c.requires c.new-layout.ensures _ _ refl refl)
+    let top = first_top c.requires c.new-layout.ensures in
+    let e = c.mark_within.ensures in
+    levels_packable c.requires c.new-layout.ensures _ _ _ refl refl (omega (arith, e, top)) (omega (arith, e))
 
 pub returns-then-front_is_at : goal.returns-then-front_is_at
 returns-then-front_is_at c =

@@ -12,9 +12,9 @@ use Rattle.value.proofs.Digits.{below_all}
 use Rattle.value.proofs.Slices.{part_length, overlay_part}
 use Rattle.value.proofs.Backward.{below_part}
 use Rattle.layout.specs.Entry.{entry_size}
-use Rattle.layout.specs.Expand.{Move, to_size, widening_of, moved_entries}
+use Rattle.layout.specs.Expand.{Move, widening_of, moved_entries}
 use Rattle.layout.proofs.Sizes.{size_up, widen_all_same}
-use Rattle.layout.proofs.Expanding.{widening_size, all_widen}
+use Rattle.layout.proofs.Expanding.{all_widen}
 use Rattle.layout.proofs.expand.expand_entries.Goals.{Else-entry_size}
 use Rattle.layout.proofs.expand.expand_entries.Goals as goal
 
@@ -28,14 +28,6 @@ returns-then-entry_size c =
 
 grown : (c : Else-entry_size) → entry_size c.args.bits c.args.from ≡ entry_size c.args.bits c.args.to → ⊥
 grown c e = c.if-entry_size.false (c.entry_size.ensures ∙ e ∙ sym c.entry_size-2.ensures)
-
-pub new-requires : goal.new-requires
-new-requires c = (c.requires.wide, c.requires.up, grown (goal.at.new-requires c).Else-entry_size)
-
-pub expand_all-requires : goal.expand_all-requires
-expand_all-requires c =
-    let x = c.args in
-    rw (ap to_size c.new.ensures ∙ widening_size x.bits c.requires.wide x.from x.to c.requires.up (grown (goal.at.expand_all-requires c).Else-entry_size)) c.requires.room
 
 pub returns : goal.returns
 unfolding widening_of

@@ -1,24 +1,16 @@
 -- `layout::number::number_at` meets its contract. Assumes nothing.
-use mathlib.Core.Path.{sym, ap, ◌∙◌}
-use Prim.Native.Nat.{ℕ}
+use mathlib.Core.Path.{◌∙◌}
 use native.Mathlib.Omega.{arith}
 use Rattle.std.proofs.Common.{rules}
 use Rattle.std.proofs.lemmas.Iterator.{YieldsList-from_slice}
 use Rattle.std.proofs.lemmas.Iterator.Consumers.{fold_from_yields_List}
-use Rattle.value.specs.Digits.{number}
 use Rattle.value.specs.Slice.{part}
 use Rattle.value.proofs.Digits.{below_all}
 use Rattle.value.proofs.Slices.{part_length}
 use Rattle.value.proofs.Backward.{below_part}
 use Rattle.layout.proofs.Blocks.{part_borrowed}
-use Rattle.layout.proofs.Numbers.{number_of_one, pushed, pushed_all}
+use Rattle.layout.proofs.Numbers.{pushed, pushed_all}
 use Rattle.layout.proofs.number.number_at.Goals as goal
-
-pub returns-then-size-eq1 : goal.returns-then-size-eq1
-returns-then-size-eq1 c =
-    let x = c.args in
-    let b = x.bytes.now in
-    c.from.ensures ∙ number_of_one b x.at (omega arith) ∙ ap (λ (n : ℕ). number 256 (part x.at n b)) (sym c.if-size-eq1.true)
 
 pub returns : goal.returns
 returns c =

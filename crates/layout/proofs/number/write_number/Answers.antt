@@ -3,30 +3,19 @@
 use mathlib.Core.Path.{◌≡◌, sym, ap, ap₂, ◌∙◌}
 use mathlib.Core.List.{List}
 use Prim.Native.Nat.{ℕ, suc, ◌+◌, ◌-◌, ◌^◌, ◌/◌, ◌%◌}
-use native.Mathlib.Nat.{sub_self, add-zero, sub-zero, div-one}
+use native.Mathlib.Nat.{sub_self, div-one}
 use native.Mathlib.Omega.{arith}
 use lib.Bits.{bit_and, and_mask}
 use lib.ListN.{set}
 use Rattle.value.specs.Digits.{digits}
 use Rattle.value.specs.Slice.{overlay}
 use Rattle.value.proofs.Slices.{overlay_nil}
-use Rattle.layout.proofs.Numbers.{stored_next, rest_next, one_stored}
+use Rattle.layout.proofs.Numbers.{stored_next, rest_next}
 use Rattle.layout.proofs.number.write_number.Goals as goal
-
-pub overflow_cast-out : goal.overflow_cast-out
-overflow_cast-out c = omega (arith, and_mask c.args.number 8)
-
-pub returns-then-size-eq1 : goal.returns-then-size-eq1
-returns-then-size-eq1 c =
-    let x = c.args in
-    one_stored x.number x.out.now x.at (omega arith) ∙ ap (λ (k : ℕ). overlay x.out.now x.at (digits 256 k x.number)) (sym c.if-size-eq1.true)
 
 pub loop-k-init : goal.loop-k-init
 unfolding digits
 loop-k-init c = (rw (sub_self, overlay_nil), rw sub_self (sym (div-one _)))
-
-pub overflow_cast-out-in-loop-k : goal.overflow_cast-out-in-loop-k
-overflow_cast-out-in-loop-k c = omega (arith, and_mask c.loop-k.rest 8)
 
 pub loop-k-preserved : goal.loop-k-preserved
 loop-k-preserved c =
@@ -42,8 +31,3 @@ loop-k-preserved c =
           ∙ ap (λ (j : ℕ). overlay d (x.at + k) (digits 256 j x.number)) f,
       ap (λ (r : ℕ). r / 256) c.loop-k.invariant.1 ∙ rest_next x.number d n ∙ ap (λ (j : ℕ). x.number / 256 ^ j) f,
     )
-
-pub returns : goal.returns
-returns c =
-    let e : c.loop-k.k ≡ 0 = omega arith in
-    c.loop-k.invariant.0 ∙ rw (e, add-zero, sub-zero)

@@ -3,17 +3,12 @@ use mathlib.Core.Path.{refl, sym, ap, ◌∙◌}
 use mathlib.Core.List.{List, [], ◌∷◌}
 use Prim.Native.Nat.{ℕ, ◌+◌, ◌-◌}
 use native.Mathlib.Omega.{arith}
-use borrow.Author.Tests.{eq-eqb, ne_eqb}
+use borrow.Author.Tests.{ne_eqb}
 use lib.ListN.{replicate}
 use Rattle.value.specs.Slice.{overlay}
-use Rattle.value.proofs.Slices.{overlay_nil, overlay_one, overlay_overlay}
+use Rattle.value.proofs.Slices.{overlay_one, overlay_overlay}
 use Rattle.layout.specs.Writable.{mark_in_front}
 use Rattle.layout.proofs.entry.EntryLayout.write_front.Goals as goal
-
-pub returns-then-self-eq0 : goal.returns-then-self-eq0
-unfolding mark_in_front
-returns-then-self-eq0 c =
-    (omega arith, rw (eq-eqb c.args.self.now.front 0 c.if-self-eq0.true) (sym (overlay_nil c.args.out.now c.args.at)))
 
 pub returns : goal.returns
 unfolding mark_in_front
