@@ -6,11 +6,12 @@ ghost use Rattle.std.specs.Float.Ieee.{eq, of_bits};
 ghost use Rattle.std.specs.Float.{binary64};
 ghost use Rattle.value.specs.Digits.{number};
 ghost use Rattle.value.specs.Slice.{same};
+ghost use Rattle.fst.specs.Refusal.{told, told_by};
 ghost use Rattle.fst.specs.Record.{lent_in, is_bad};
 ghost use Rattle.signal.specs.Decode.{entry_at, codes_at};
 ghost use Rattle.signal.specs.Parts.{Whole};
-ghost use Rattle.equality.specs.Compare.{compare_records, equal_of};
-ghost use Rattle.equality.specs.Pairs.{held_in, held_of, coded, same_held, pair_of};
+ghost use Rattle.equality.specs.Compare.{compare_records};
+ghost use Rattle.equality.specs.Pairs.{held_in, coded, same_held, pair_of};
 
 use fst::record::{Slices, is_bad};
 use fst::{Description, Encoding, Refusal};
@@ -139,7 +140,7 @@ fn same_levels(a: &Packed, b: &Packed) -> bool
 impl<'a> Indexed<'a> {
     // Its value, or 9, or 10.
     fn value(&self) -> Result<Value<'a>, Refusal>
-        ensures { held_of result ≡ coded self.now.encoding self.now.bytes.now }
+        ensures { told_by held_in result ≡ coded self.now.encoding self.now.bytes.now }
     {
         match self.encoding {
             Encoding::Event => Ok(Value::Event),
@@ -171,7 +172,7 @@ fn same_value(a: &Value, b: &Value) -> bool
 
 // A pair of entries: both are tried, and only then compared.
 fn compare_pair(a: &Indexed, b: &Indexed) -> Result<bool, Refusal>
-    ensures { equal_of result ≡ pair_of a.now.encoding a.now.bytes.now a.now.index b.now.encoding b.now.bytes.now b.now.index }
+    ensures { told result ≡ pair_of a.now.encoding a.now.bytes.now a.now.index b.now.encoding b.now.bytes.now b.now.index }
 {
     let x = a.value()?;
     let y = b.value()?;
@@ -182,7 +183,7 @@ fn compare_pair(a: &Indexed, b: &Indexed) -> Result<bool, Refusal>
 fn compare_entries(a: &Lent, b: &Lent) -> Result<bool, Refusal>
     requires a_sound { is_bad a.now.description (lent_in a.now.slices) ≡ false }
     requires b_sound { is_bad b.now.description (lent_in b.now.slices) ≡ false }
-    ensures { equal_of result ≡ compare_records a.now.description (lent_in a.now.slices) b.now.description (lent_in b.now.slices) }
+    ensures { told result ≡ compare_records a.now.description (lent_in a.now.slices) b.now.description (lent_in b.now.slices) }
 {
     let a_count = a.description.count;
     let b_count = b.description.count;
@@ -196,7 +197,7 @@ fn compare_entries(a: &Lent, b: &Lent) -> Result<bool, Refusal>
 }
 
 pub fn compare_records(a: &Lent, b: &Lent) -> Result<bool, Refusal>
-    ensures { equal_of result ≡ compare_records a.now.description (lent_in a.now.slices) b.now.description (lent_in b.now.slices) }
+    ensures { told result ≡ compare_records a.now.description (lent_in a.now.slices) b.now.description (lent_in b.now.slices) }
 {
     if is_bad(a.description, a.slices) || is_bad(b.description, b.slices) {
         return Err(Refusal::BadRecord);

@@ -1,8 +1,8 @@
 // An entry read as a number: the unsigned one first, and by that the two other forms.
 ghost use Rattle.std.specs.Prelude.{◌≡◌, ◌<◌, ◌≤◌, ◌^◌, IfSome, negsuc};
-ghost use Rattle.fst.specs.Refusal.{refused, given, refusal_number};
+ghost use Rattle.fst.specs.Refusal.{refused, given, refusal_number, told};
 ghost use Rattle.signal.specs.Decode.{codes_at};
-ghost use Rattle.numbers.specs.Number.{unsigned, signed, decimal, read_number, told};
+ghost use Rattle.numbers.specs.Number.{unsigned, signed, decimal, read_number};
 ghost use Rattle.numbers.specs.Parts.{refused_levels, binary_of, signed_by, decimal_by};
 
 use crate::bits::{bits_in, ones};

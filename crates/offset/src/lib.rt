@@ -3,8 +3,9 @@
 
 ghost use Rattle.std.specs.Prelude.{◌≡◌, false, cond, ◌≤◌, ◌<◌, leb, length, get_or, drop};
 ghost use Rattle.value.specs.Level.{place_in};
+ghost use Rattle.fst.specs.Refusal.{told};
 ghost use Rattle.fst.specs.Record.{maximum};
-ghost use Rattle.offset.specs.Offset.{falls, run_of, head_of, place_of, look_up, offset_of};
+ghost use Rattle.offset.specs.Offset.{falls, run_of, head_of, place_of, look_up};
 ghost use Rattle.offset.specs.Search.{Reached, Last};
 
 use fst::Refusal;
@@ -111,7 +112,7 @@ pub fn find_offset_from_time_table_idx(indices: &[u32], needle: u32) -> DataOffs
 
 // Look up: `None` for an empty list and for one whose first index is above the sought one.
 pub fn get_offset(indices: &[u32], time_table_idx: u32) -> Result<Option<DataOffset>, Refusal>
-    ensures { offset_of result ≡ look_up indices.now time_table_idx }
+    ensures { told result ≡ look_up indices.now time_table_idx }
 {
     if indices.len() > MAXIMUM as usize {
         return Err(Refusal::BadRecord);

@@ -2,8 +2,8 @@
 #![tactic(auto)]
 
 ghost use Rattle.std.specs.Prelude.{◌≡◌, ◌≤◌, ◌<◌, ◌-◌, leb, length, get_or, count_by};
+ghost use Rattle.fst.specs.Refusal.{told};
 ghost use Rattle.fst.specs.Record.{maximum};
-ghost use Rattle.offset.specs.Offset.{offset_of};
 ghost use Rattle.search.specs.Quartering.{not_above, ends, rank, reach_of, start_of, search};
 
 use fst::Refusal;
@@ -84,7 +84,7 @@ fn find_start(indices: &[u32], end: usize, index: u32) -> usize
 
 // Search: Look up's answer if no index falls, and some answer if one does.
 pub fn search(indices: &[u32], time_table_idx: u32) -> Result<Option<DataOffset>, Refusal>
-    ensures { offset_of result ≡ search indices.now time_table_idx }
+    ensures { told result ≡ search indices.now time_table_idx }
 {
     if indices.len() > MAXIMUM as usize {
         return Err(Refusal::BadRecord);

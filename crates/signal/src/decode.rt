@@ -1,10 +1,11 @@
 // An entry of a bit vector decoded by its own set. Reading, comparing and deriving go through these.
 ghost use Rattle.std.specs.Prelude.{◌≡◌, false, ◌-◌, ◌≤◌, ◌<◌, length, drop};
 ghost use Rattle.value.specs.Level.{len_of, set_at};
+ghost use Rattle.fst.specs.Refusal.{told_by};
 ghost use Rattle.fst.specs.declared.Encoding.TheVariants.{BitVector};
 ghost use Rattle.signal.specs.Decode.{mark_in, has_bad_mark};
 ghost use Rattle.signal.specs.Parts.{Whole, own_states, unpacked, marked, coded};
-ghost use Rattle.signal.specs.Packed.{is_packed, packed_of};
+ghost use Rattle.signal.specs.Packed.{is_packed};
 
 use crate::packed::Packed;
 use fst::Refusal;
@@ -99,7 +100,7 @@ impl<'a> Vector<'a> {
     // Its levels, or 9.
     #[inline(always)]
     pub fn levels(&self) -> Result<Packed<'a>, Refusal>
-        ensures { packed_of result ≡ marked self.now.width self.now.max_states self.now.bytes.now }
+        ensures { told_by is_packed result ≡ marked self.now.width self.now.max_states self.now.bytes.now }
     {
         let states = own_states(self.max_states, self.bytes)?;
         Ok(self.levels_of(states))
@@ -108,7 +109,7 @@ impl<'a> Vector<'a> {
     // Its levels, or 9, or 10.
     #[inline(always)]
     pub fn coded_levels(&self) -> Result<Packed<'a>, Refusal>
-        ensures { packed_of result ≡ coded self.now.width self.now.max_states self.now.bytes.now }
+        ensures { told_by is_packed result ≡ coded self.now.width self.now.max_states self.now.bytes.now }
     {
         let levels = self.levels()?;
         if levels.has_bad_code() {

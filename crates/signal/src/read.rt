@@ -1,10 +1,10 @@
 // Read an entry, and Text of an entry, after wellen's `get_value_at` and `bit_string`.
 ghost use Rattle.std.specs.Prelude.{◌≡◌};
-ghost use Rattle.fst.specs.Refusal.{number_of};
+ghost use Rattle.fst.specs.Refusal.{number_of, told_by};
 ghost use Rattle.signal.specs.Decode.{entry_at};
 ghost use Rattle.signal.specs.Parts.{Whole, Inside, answer_in, vector_in, text_stored};
-ghost use Rattle.signal.specs.Vectors.{vector_of};
-ghost use Rattle.signal.specs.Read.{read_entry, reply_of, part_of, text_left, read_text};
+ghost use Rattle.signal.specs.Vectors.{is_vector};
+ghost use Rattle.signal.specs.Read.{read_entry, is_entry, part_of, text_left, read_text};
 
 use crate::decode::Vector;
 use crate::{Entry, Kind};
@@ -35,7 +35,7 @@ impl<'a> Record<'a> {
     // An entry of a bit vector, or 2, or 3, or 8.
     #[inline(always)]
     pub fn vector_at(&self, entry: u32) -> Result<Vector<'a>, Refusal>
-        ensures { vector_of result ≡ vector_in self.now.description self.now.bytes.now self.now.byte_start entry }
+        ensures { told_by is_vector result ≡ vector_in self.now.description self.now.bytes.now self.now.byte_start entry }
     {
         if is_bad_bytes(self.description, self.bytes, self.byte_start) {
             return Err(Refusal::BadRecord);
@@ -54,7 +54,7 @@ impl<'a> Record<'a> {
     }
 
     pub fn read_entry(&self, entry: u32) -> Result<Entry<'a>, Refusal>
-        ensures { reply_of result ≡ read_entry self.now.description self.now.bytes.now self.now.byte_start entry }
+        ensures { told_by is_entry result ≡ read_entry self.now.description self.now.bytes.now self.now.byte_start entry }
     {
         if is_bad_bytes(self.description, self.bytes, self.byte_start) {
             return Err(Refusal::BadRecord);
@@ -87,7 +87,7 @@ impl<'a> Record<'a> {
 // The answer by an entry's bytes, or 9.
 fn entry_answer<'a>(encoding: Encoding, bytes: &'a [u8]) -> Result<Entry<'a>, Refusal>
     requires { Whole encoding bytes.now }
-    ensures { reply_of result ≡ answer_in encoding bytes.now }
+    ensures { told_by is_entry result ≡ answer_in encoding bytes.now }
 {
     let kind = Kind::from(encoding);
     let Encoding::BitVector { width, max_states } = encoding else {
