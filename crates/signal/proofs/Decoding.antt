@@ -1,7 +1,7 @@
 -- An entry of a bit vector decoded step by step: its own set, the bytes of its levels, its codes.
 -- Assumes nothing.
 use mathlib.Core.Path.{◌≡◌, refl, sym, ap, ◌∙◌}
-use mathlib.Core.Bool.{true, false}
+use mathlib.Core.Bool.{true, false, cond}
 use mathlib.Core.List.{List, [], ◌∷◌, ◌++◌, map-append}
 use Rattle.std.specs.Prelude.{Ok, Err}
 use Prim.Native.Nat.{ℕ, zero, suc, ◌+◌, ◌-◌, ◌*◌, ◌/◌, ◌^◌, ◌≤◌, ◌<◌}
@@ -10,7 +10,8 @@ use native.Mathlib.Numerals.{add-one}
 use native.Mathlib.Omega.{arith}
 use lib.ListN.{length, take, get_or, set, length-map, length-take}
 use lib.Seq.{take-suc}
-use borrow.Author.Tests.{lt-ltb, le-ltb, le-leb, lt-leb}
+use lib.Dec.{eqb}
+use borrow.Author.Tests.{ne_eqb, lt-ltb, le-ltb, le-leb, lt-leb}
 use Rattle.value.specs.declared.States.{States}
 use Rattle.value.specs.declared.States.TheVariants.{Two, Four, Nine}
 use Rattle.value.specs.Digits.{number, Below}
@@ -38,15 +39,12 @@ module _ (M : States) (v : List ℕ) (m k : ℕ) (d : m ≡ mark_of M) (e : k �
   unfolding own_states
   own_good S h f = let q = mark_by M v m k d e in rw (le-ltb (mark_of M) (mark_in M v) (rw (← d, ← q) h), f, q)
 
-pub mark_none : (m : ℕ) (v : List ℕ) → m ≡ 0 → 0 ≡ mark_in (set_at m) v
+-- by the mark of the largest set
+pub mark_at : (m : ℕ) (v : List ℕ) → mark_in (set_at m) v ≡ cond (eqb m 0) 0 (get_or v 0 0 / 64)
 unfolding mark_in
-mark_none m v e = rw e
-
-pub mark_some : (m : ℕ) (v : List ℕ) → (m ≡ 0 → ⊥) → get_or v 0 0 / 64 ≡ mark_in (set_at m) v
-unfolding mark_in
-mark_some zero v n = absurd (n refl)
-mark_some (suc zero) v n = refl
-mark_some (suc (suc m)) v n = refl
+mark_at zero v = refl
+mark_at (suc zero) v = refl
+mark_at (suc (suc m)) v = rw (ne_eqb (suc (suc m)) 0 (λ e. absurd (omega arith)))
 
 module _ {w : ℕ} {S : States} {levels : List ℕ} (h : Levels w S levels) (i : ℕ) (k : i < w) where
   -- the level of character i lies within the bytes

