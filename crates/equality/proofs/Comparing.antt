@@ -47,8 +47,8 @@ module _ (xs ys : List ℕ) where
   pub alike_none : take 0 xs ≡ take 0 ys
   alike_none = refl
 
-  pub alike_not : (i a b : ℕ) → a ≡ get_or xs i 0 → b ≡ get_or ys i 0 → (a ≡ b → ⊥) → false ≡ same xs ys
-  alike_not i a b p q n = both_ways false (same xs ys) (λ t. absurd t) (λ t. absurd (n (p ∙ ap (λ (l : List ℕ). get_or l i 0) (same_sound xs ys t) ∙ sym q)))
+  pub alike_at : (i : ℕ) → same xs ys ≡ true → get_or xs i 0 ≡ get_or ys i 0
+  alike_at i e = ap (λ (l : List ℕ). get_or l i 0) (same_sound xs ys (to_t (same xs ys) e))
 
   pub alike_more : (i a b : ℕ) → i < length xs → i < length ys → a ≡ get_or xs i 0 → b ≡ get_or ys i 0 → a ≡ b → take i xs ≡ take i ys → take (i + 1) xs ≡ take (i + 1) ys
   alike_more i a b h k p q e t =
@@ -147,7 +147,7 @@ unfolding coded tried
 coded_levels {e} {w} {M} v q h = let s = coded_given w M v h in rw (q, s.mark, s.code, codes_are w M v s.is)
 
 -- letters differ where codes do
-same_as_held : (a : Encoding) (x : List ℕ) (b : Encoding) (y : List ℕ) → has_bad_code a x ≡ false → has_bad_code b y ≡ false
+pub same_as_held : (a : Encoding) (x : List ℕ) (b : Encoding) (y : List ℕ) → has_bad_code a x ≡ false → has_bad_code b y ≡ false
     → same_held (held a x) (held b y) ≡ same_value a x b y
 unfolding same_held same_value same_real
 same_as_held Event x Event y p q = refl

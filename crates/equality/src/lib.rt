@@ -80,6 +80,7 @@ const SIGN: u64 = 9223372036854775808;
 const INFINITY: u64 = 9218868437227405312;
 
 // The bits of a real from its bytes, the lowest first.
+#[tactic(auto, using(crate::proofs::Comparing::le_number, value::proofs::Slices::part_all))]
 fn real_bits(value: &[u8]) -> u64
     requires { length value.now ≡ 8 }
     ensures { result ≡ number 256 (reverse value.now) }
@@ -88,6 +89,7 @@ fn real_bits(value: &[u8]) -> u64
 }
 
 // Float `==` by bits: a NaN differs from everything, the zeros agree.
+#[tactic(auto, using(crate::proofs::Floats::first_nan, crate::proofs::Floats::second_nan, crate::proofs::Floats::equal_bits, crate::proofs::Floats::both_zeros, crate::proofs::Floats::unequal_bits))]
 fn same_bits(a: u64, b: u64) -> bool
     ensures { result ≡ eq (of_bits binary64 a) (of_bits binary64 b) }
 {
@@ -108,6 +110,7 @@ fn same_bits(a: u64, b: u64) -> bool
 
 // Whether two slices of one length hold equal bytes. The loop runs to the end, so that it is compiled to wide instructions: the library's `==`
 // makes a call, which is a quarter of a comparison of 32 levels.
+#[tactic(auto, using(crate::proofs::Comparing::alike_union), unfolding(value::specs::Slice::same))]
 fn equal_bytes(a: &[u8], b: &[u8]) -> bool
     requires { length a.now ≡ length b.now }
     ensures { result ≡ same a.now b.now }
@@ -120,6 +123,7 @@ fn equal_bytes(a: &[u8], b: &[u8]) -> bool
 }
 
 // Whether levels have one text. Letters differ where codes do.
+#[tactic(auto, using(crate::proofs::Comparing::apart, crate::proofs::Comparing::alike, crate::proofs::Comparing::alike_at, crate::proofs::Comparing::alike_more, crate::proofs::Comparing::alike_all, signal::proofs::Decoding::codes_length))]
 fn same_levels(a: &Packed, b: &Packed) -> bool
     ensures { result ≡ same (codes_at a.now.width a.now.states a.now.bytes.now) (codes_at b.now.width b.now.states b.now.bytes.now) }
 {
@@ -139,6 +143,7 @@ fn same_levels(a: &Packed, b: &Packed) -> bool
 
 impl<'a> Indexed<'a> {
     // Its value, or 9, or 10.
+    #[tactic(auto, unfolding(crate::specs::Pairs::coded, signal::specs::Decode::has_bad_mark, signal::specs::Decode::levels_in, value::specs::Slice::any, fst::specs::Refusal::tried))]
     fn value(&self) -> Result<Value<'a>, Refusal>
         ensures { told_by held_in result ≡ coded self.now.encoding self.now.bytes.now }
     {
@@ -159,6 +164,7 @@ impl<'a> Indexed<'a> {
 }
 
 // Values of unlike kind never agree.
+#[tactic(auto, unfolding(crate::specs::Pairs::same_held))]
 fn same_value(a: &Value, b: &Value) -> bool
     ensures { result ≡ same_held (held_in a.now) (held_in b.now) }
 {
@@ -171,6 +177,7 @@ fn same_value(a: &Value, b: &Value) -> bool
 }
 
 // A pair of entries: both are tried, and only then compared.
+#[tactic(auto, unfolding(crate::specs::Pairs::pair_of, crate::specs::Pairs::coded, fst::specs::Refusal::tried))]
 fn compare_pair(a: &Indexed, b: &Indexed) -> Result<bool, Refusal>
     ensures { told result ≡ pair_of a.now.encoding a.now.bytes.now a.now.index b.now.encoding b.now.bytes.now b.now.index }
 {
@@ -180,6 +187,7 @@ fn compare_pair(a: &Indexed, b: &Indexed) -> Result<bool, Refusal>
 }
 
 // The entries of two records that are not 2, in pairs.
+#[tactic(auto, using(crate::proofs::Comparing::ended))]
 fn compare_entries(a: &Lent, b: &Lent) -> Result<bool, Refusal>
     requires a_sound { is_bad a.now.description (lent_in a.now.slices) ≡ false }
     requires b_sound { is_bad b.now.description (lent_in b.now.slices) ≡ false }
@@ -196,6 +204,7 @@ fn compare_entries(a: &Lent, b: &Lent) -> Result<bool, Refusal>
     Ok(a_count == b_count)
 }
 
+#[tactic(auto, unfolding(crate::specs::Compare::compare_records, fst::specs::Refusal::tried))]
 pub fn compare_records(a: &Lent, b: &Lent) -> Result<bool, Refusal>
     ensures { told result ≡ compare_records a.now.description (lent_in a.now.slices) b.now.description (lent_in b.now.slices) }
 {

@@ -9,7 +9,7 @@ use Rattle.signal.proofs.Entries.{rest}
 use Rattle.fst.specs.Refusal.{told}
 use Rattle.fst.specs.Record.{lent_in}
 use Rattle.equality.specs.Compare.{walked, compare_records}
-use Rattle.equality.proofs.Comparing.{follow, walk_starts, step, ended}
+use Rattle.equality.proofs.Comparing.{follow, walk_starts, step}
 use Rattle.equality.proofs.compare_entries.Goals.{After-compare_pair}
 use Rattle.equality.proofs.compare_entries.Goals as goal
 
@@ -45,6 +45,3 @@ unfolding follow
 loop-k-preserved c =
     let w = paired (goal.at.loop-k-preserved c).After-compare_pair in
     record { first = standing c.requires.a_sound; second = standing c.requires.b_sound; left = rw (c.in_ok-agree.was, c.if-not-agree.false) at w }
-
-pub returns : goal.returns
-returns c = ended c.loop-k.invariant (omega arith)
