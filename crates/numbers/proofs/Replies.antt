@@ -25,7 +25,7 @@ use Rattle.fst.proofs.Adding.{width_known}
 use Rattle.fst.proofs.Rooms.{stands}
 use Rattle.fst.proofs.Refusals.{Passed, passes, Result, through, stopped, result, tried_append, tried_refused}
 use Rattle.signal.specs.Decode.{entry_at, set_in, level_part, levels_in, has_bad_mark, codes_at}
-use Rattle.signal.specs.Parts.{Unpacked, unpacked, marked}
+use Rattle.signal.specs.Parts.{Whole, Unpacked, unpacked, marked}
 use Rattle.signal.specs.Read.{unreadable}
 use Rattle.signal.proofs.Reading.{HasEntry, marked_given, codes_are}
 use Rattle.numbers.specs.Number.{unsigned, signed, decimal, signed_of, digits_of, has_part_digit, is_wrong_width, has_other, has_high_digit, read_number}
@@ -44,6 +44,10 @@ module _ (levels : List ℕ) (r : Refusal) where
   pub refused_else : has_no_code levels ≡ false → refused (refusal_number r) ≡ refused_levels levels r
   unfolding tried
   refused_else e = rw e
+
+-- 0 and 1 are codes
+pub binary_coded : (levels : List ℕ) → has_other levels ≡ false → has_no_code levels ≡ false
+binary_coded levels h = none_foreign levels (below_mono 2 9 levels (omega arith) (none_from 2 levels h))
 
 module _ (w : ℕ) (levels : List ℕ) where
   pub binary_wide : 64 < w → refused_levels levels WrongWidth ≡ binary_of w levels
@@ -66,10 +70,14 @@ module _ (w : ℕ) (levels : List ℕ) where
     pub binary_known : {x : ℕ} → Known levels x → given x ≡ binary_of w levels
     unfolding binary_of tried
     binary_known k =
-        let c : has_no_code levels ≡ false = none_foreign levels (below_mono 2 9 levels (omega arith) (none_from 2 levels k.clear)) in
+        let c = binary_coded levels k.clear in
         rw (c, le-ltb 64 w h, k.clear, k.is)
 
 -- ---- an entry
+
+-- the width of an entry that is one of a bit vector
+pub wide : (w : ℕ) (M : States) (v : List ℕ) → Whole (BitVector w M) v → 1 ≤ w
+wide w M v h = (width_known M h.width).0
 
 module _ (e : Encoding) (v : List ℕ) where
   pub entry_else : has_bad_mark e v ≡ false → binary_of (width_of e) (levels_in e v) ≡ binary_in e v
@@ -213,8 +221,8 @@ module _ (d : Description) (bytes : List ℕ) (start k : ℕ) where
       go (stopped n e) = refusal_is n (unsigned_on ∙ e) (signed_on ∙ tried_refused tests (number 2 levels) (given (signed_of levels)) e)
 
   -- "as two's complement signed"
-  pub signed_from_lem : signed_from w (read_number unsigned d bytes start k) ≡ read_number signed d bytes start k
-  signed_from_lem = go unsigned_is
+  pub signed_from_lem : read_number signed d bytes start k ≡ signed_from w (read_number unsigned d bytes start k)
+  signed_from_lem = sym (go unsigned_is)
     where
       go : Unsigned → signed_from w (read_number unsigned d bytes start k) ≡ read_number signed d bytes start k
       go (number_is n e t f) =
@@ -224,13 +232,14 @@ module _ (d : Description) (bytes : List ℕ) (start k : ℕ) where
       go (refusal_is n e f) = ap (signed_from w) e ∙ sym f
 
   -- "as packed decimal"
-  pub decimal_from_lem : decimal_from w (read_number unsigned d bytes start k) ≡ read_number decimal d bytes start k
+  pub decimal_from_lem : read_number decimal d bytes start k ≡ decimal_from w (read_number unsigned d bytes start k)
   unfolding tried
   decimal_from_lem =
-      ap (decimal_from w) (unsigned_on ∙ tried_append common (17 ⇐ has_other levels ∷ []) (given (number 2 levels)))
+      sym
+      (ap (decimal_from w) (unsigned_on ∙ tried_append common (17 ⇐ has_other levels ∷ []) (given (number 2 levels)))
       ∙ left_tried (decimal_from w) common (tried (17 ⇐ has_other levels ∷ []) (given (number 2 levels))) (refl, (refl, (refl, (refl, (refl, (refl, tt))))))
       ∙ ap (tried common) (behind (has_other levels))
-      ∙ sym decimal_on
+      ∙ sym decimal_on)
     where
       by_digits : decimal_by (w / 4) (number 2 levels) ≡ tried (18 ⇐ has_high_digit decimal levels ∷ []) (given (number 10 (digits_of levels)))
       by_digits = ap (λ (x : ℕ). decimal_by (x / 4) (number 2 levels)) (sym (levels_long d.encoding (entry_at d.encoding start bytes k)))
@@ -249,12 +258,6 @@ module _ (d : Description) (bytes : List ℕ) (start k : ℕ) where
       go : Unsigned → (1 ≤ w) × (w ≤ 64) × (n < 2 ^ w)
       go (number_is m e t f) = let i : n ≡ m = given_inj (q ∙ e) in (t.some, t.few, rw i (rw t.long at (known_lt t.known)))
       go (refusal_is m e f) = let z : given n ≡ refused (suc m) = q ∙ e in cc
-
-  pub signed_told : {r : Reply ℕ} → r ≡ read_number unsigned d bytes start k → signed_from w r ≡ read_number signed d bytes start k
-  signed_told q = ap (signed_from w) q ∙ signed_from_lem
-
-  pub decimal_told : {r : Reply ℕ} → r ≡ read_number unsigned d bytes start k → decimal_from w r ≡ read_number decimal d bytes start k
-  decimal_told q = ap (decimal_from w) q ∙ decimal_from_lem
 
 -- ---- 16 of a width that is no multiple of 4
 

@@ -14,6 +14,7 @@ use signal::read::Record;
 
 // A refusal that 10 comes before. Kept out of what reads a number, where the registers of its loop would be saved, and lent no reference,
 // for which the levels would be stored.
+#[tactic(auto, unfolding(fst::specs::Refusal::tried))]
 #[cold]
 #[inline(never)]
 fn refused_levels(levels: Packed<'_>, refusal: Refusal) -> Refusal
@@ -27,6 +28,7 @@ fn refused_levels(levels: Packed<'_>, refusal: Refusal) -> Refusal
 }
 
 // The number of levels, or 10, 16 or 17. Levels that are all 0 and 1 have no bad code.
+#[tactic(auto, using(crate::proofs::Replies::binary_coded), unfolding(crate::specs::Parts::binary_of, crate::specs::Parts::bits_of_levels, fst::specs::Refusal::tried))]
 #[inline(always)]
 fn binary_of(levels: &Packed) -> Result<u64, Refusal>
     requires { 1 ≤ levels.now.width }
@@ -42,6 +44,7 @@ fn binary_of(levels: &Packed) -> Result<u64, Refusal>
 }
 
 // An unsigned number, or a refusal.
+#[tactic(auto, using(crate::proofs::Replies::wide), unfolding(crate::specs::Number::read_number, crate::specs::Parts::binary_of, signal::specs::Parts::vector_in, signal::specs::Decode::levels_in, fst::specs::Record::has_no_text, fst::specs::Refusal::tried))]
 #[inline(never)]
 fn read_binary(lent: &Record, entry: u32) -> Result<u64, Refusal>
     ensures { told result ≡ read_number unsigned lent.now.description lent.now.bytes.now lent.now.byte_start entry }
@@ -52,6 +55,7 @@ fn read_binary(lent: &Record, entry: u32) -> Result<u64, Refusal>
 }
 
 // The number, where there is one: with no refusal to tell it keeps little at hand, and saves fewer registers: an eighth of the time.
+#[tactic(auto, using(crate::proofs::Replies::wide, crate::proofs::Replies::binary_coded), unfolding(crate::specs::Number::read_number, crate::specs::Parts::bits_of_levels, signal::specs::Parts::vector_in, signal::specs::Decode::levels_in, fst::specs::Record::has_no_text, fst::specs::Refusal::tried))]
 #[inline(always)]
 fn quick_binary(lent: &Record, entry: u32) -> Option<u64>
     ensures { IfSome result (λ n. given n ≡ read_number unsigned lent.now.description lent.now.bytes.now lent.now.byte_start entry) }
@@ -99,6 +103,7 @@ fn signed_of(width: u32, number: u64) -> i64
     below_zero(ones(width) - number)
 }
 
+#[tactic(auto, using(crate::proofs::Replies::signed_from_lem, crate::proofs::Replies::sized))]
 pub fn read_signed(lent: &Record, entry: u32) -> Result<i64, Refusal>
     ensures { told result ≡ read_number signed lent.now.description lent.now.bytes.now lent.now.byte_start entry }
 {
@@ -109,6 +114,7 @@ pub fn read_signed(lent: &Record, entry: u32) -> Result<i64, Refusal>
 // ---- packed decimal
 
 // The number of so many digits of four bits each, or 18.
+#[tactic(auto, using(crate::proofs::Forms::digit_at, crate::proofs::Forms::digit_high, crate::proofs::Forms::read_none, crate::proofs::Forms::read_fits, crate::proofs::Forms::read_more, crate::proofs::Forms::read_all))]
 fn decimal_of(count: u32, number: u64) -> Result<u64, Refusal>
     requires { count ≤ 16 }
     ensures { told result ≡ decimal_by count number }
@@ -125,6 +131,7 @@ fn decimal_of(count: u32, number: u64) -> Result<u64, Refusal>
 }
 
 // 17 comes behind a width that is no multiple of 4, and every other refusal before it.
+#[tactic(auto, using(crate::proofs::Replies::decimal_from_lem, crate::proofs::Replies::sized, crate::proofs::Replies::not_other), unfolding(fst::specs::Refusal::tried))]
 pub fn read_decimal(lent: &Record, entry: u32) -> Result<u64, Refusal>
     ensures { told result ≡ read_number decimal lent.now.description lent.now.bytes.now lent.now.byte_start entry }
 {
