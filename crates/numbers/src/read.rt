@@ -44,7 +44,7 @@ fn binary_of(levels: &Packed) -> Result<u64, Refusal>
 }
 
 // An unsigned number, or a refusal.
-#[tactic(auto, using(crate::proofs::Replies::wide), unfolding(crate::specs::Number::read_number, crate::specs::Parts::binary_of, signal::specs::Parts::vector_in, signal::specs::Decode::levels_in, fst::specs::Record::has_no_text, fst::specs::Refusal::tried))]
+#[tactic(auto, using(crate::proofs::Replies::wide), unfolding(crate::specs::Number::read_number, signal::specs::Parts::vector_in, fst::specs::Refusal::tried))]
 #[inline(never)]
 fn read_binary(lent: &Record, entry: u32) -> Result<u64, Refusal>
     ensures { told result ≡ read_number unsigned lent.now.description lent.now.bytes.now lent.now.byte_start entry }
