@@ -125,14 +125,6 @@ module _ (L : ℕ) (computed : T (all_below (λ (d : ℕ). both (ltb 0 (rest L d
       ap (ltb 0) (in_lanes (kept {j = L} (2 ^ L - 2) (le_refl L) m (itself h)))
       ∙ any_rest (digits (2 ^ L) n x) (digits_below (2 ^ L) (pow_pos L) n x)
 
--- what a test for other levels tells
-module _ {a : ℕ} (ds : List ℕ) (e : ltb 0 a ≡ has_other ds) where
-  pub some_other : (a ≡ 0 → ⊥) → None ≡ bits_of_levels ds
-  some_other h = let p : 0 < a = omega arith in bits_other ds (sym e ∙ lt-ltb 0 a p)
-
-  pub none_other : a ≡ 0 → Below 2 ds
-  none_other h = none_from 2 ds (sym e ∙ ap (ltb 0) h)
-
 -- the digits of a word, for each set
 pub other_four : (x : ℕ) → x < 2 ^ 64 → has_other (digits 4 32 x) ≡ ltb 0 (bit_and x 12297829382473034410)
 unfolding number
@@ -159,11 +151,6 @@ word_base Nine = refl
 
 -- n levels that a word holds
 module _ (n : ℕ) where
-  pub first_size : (S : States) → n * bits_of S ≤ 64 → len_of n S ≤ 8
-  first_size Two h = omega arith
-  first_size Four h = omega arith
-  first_size Nine h = omega arith
-
   pub first_some : (S : States) → 1 ≤ n → 1 ≤ n * bits_of S
   first_some Two h = omega arith
   first_some Four h = omega arith
@@ -221,12 +208,6 @@ per_some : (S : States) → 0 < per_word S
 per_some Two = omega arith
 per_some Four = omega arith
 per_some Nine = omega arith
-
--- n levels of a set are n times its bits, and a word's fill it
-pub word_room : (S : States) (n : ℕ) → n ≤ per_word S → n * bits_of S ≤ 64
-word_room Two n h = omega arith
-word_room Four n h = omega arith
-word_room Nine n h = omega arith
 
 pub per_small : (S : States) → per_word S ≤ 64
 per_small Two = omega arith
