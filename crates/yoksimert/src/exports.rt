@@ -1,6 +1,6 @@
 // The exported operations. None asks anything of its arguments but that the slices are lent as C and Rust lend them.
 ghost use Rattle.std.specs.Prelude.{◌≡◌};
-ghost use Rattle.fst.specs.Refusal.{number_of};
+ghost use Rattle.fst.specs.Refusal.{number_of, told};
 ghost use Rattle.signal.specs.Read.{text_left};
 ghost use Rattle.fst.specs.Record.{lent, lent_in, fresh, fresh_real};
 ghost use Rattle.offset.specs.Offset.{look_up};
