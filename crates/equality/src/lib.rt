@@ -88,24 +88,15 @@ fn real_bits(value: &[u8]) -> u64
     u64::from_le_bytes(read_block(value, 0))
 }
 
-// Float `==` by bits: a NaN differs from everything, the zeros agree.
-#[tactic(auto, using(crate::proofs::Floats::first_nan, crate::proofs::Floats::second_nan, crate::proofs::Floats::equal_bits, crate::proofs::Floats::both_zeros, crate::proofs::Floats::unequal_bits))]
+// Float `==` of two bit patterns: a NaN differs from everything. It is tried first, since `from_bits` takes none.
+#[tactic(auto, using(crate::proofs::Floats::first_nan, crate::proofs::Floats::second_nan, std::proofs::lemmas::Float::not_nan_f64_bits))]
 fn same_bits(a: u64, b: u64) -> bool
     ensures { result ≡ eq (of_bits binary64 a) (of_bits binary64 b) }
 {
-    if INFINITY < a % SIGN {
+    if INFINITY < a % SIGN || INFINITY < b % SIGN {
         return false;
     }
-    if INFINITY < b % SIGN {
-        return false;
-    }
-    if a == b {
-        return true;
-    }
-    if a % SIGN == 0 {
-        return b % SIGN == 0;
-    }
-    false
+    f64::from_bits(a) == f64::from_bits(b)
 }
 
 // Whether two slices of one length hold equal bytes. The loop runs to the end, so that it is compiled to wide instructions: the library's `==`
