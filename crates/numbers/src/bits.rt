@@ -7,6 +7,7 @@ ghost use Rattle.numbers.specs.Parts.{Few, bits_of_levels};
 
 use layout::number::number_at;
 use value::States;
+use wavemem::short::squeeze;
 use wavemem::word;
 
 // So many bits 1.
@@ -23,11 +24,16 @@ fn squeeze_four(x: u64) -> u64
     requires { Below 2 (digits 4 32 x) }
     ensures { result ≡ number 2 (digits 4 32 x) }
 {
-    let a = (x | (x >> 1)) & 0x3333_3333_3333_3333;
-    let b = (a | (a >> 2)) & 0x0f0f_0f0f_0f0f_0f0f;
-    let c = (b | (b >> 4)) & 0x00ff_00ff_00ff_00ff;
-    let d = (c | (c >> 8)) & 0x0000_ffff_0000_ffff;
-    (d | (d >> 16)) & 0xffff_ffff
+    squeeze(
+        x,
+        &[
+            (1, 0x3333_3333_3333_3333),
+            (2, 0x0f0f_0f0f_0f0f_0f0f),
+            (4, 0x00ff_00ff_00ff_00ff),
+            (8, 0x0000_ffff_0000_ffff),
+            (16, 0xffff_ffff),
+        ],
+    )
 }
 
 // Bits in the lowest of four each, pushed together.
@@ -35,10 +41,15 @@ fn squeeze_nine(x: u64) -> u64
     requires { Below 2 (digits 16 16 x) }
     ensures { result ≡ number 2 (digits 16 16 x) }
 {
-    let a = (x | (x >> 3)) & 0x0303_0303_0303_0303;
-    let b = (a | (a >> 6)) & 0x000f_000f_000f_000f;
-    let c = (b | (b >> 12)) & 0x0000_00ff_0000_00ff;
-    (c | (c >> 24)) & 0xffff
+    squeeze(
+        x,
+        &[
+            (3, 0x0303_0303_0303_0303),
+            (6, 0x000f_000f_000f_000f),
+            (12, 0x0000_00ff_0000_00ff),
+            (24, 0xffff),
+        ],
+    )
 }
 
 // The levels of a word as bits.

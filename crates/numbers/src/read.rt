@@ -1,7 +1,8 @@
 // An entry read as a number: the unsigned one first, and by that the two other forms.
-ghost use Rattle.std.specs.Prelude.{◌≡◌, ◌<◌, ◌≤◌, ◌^◌, IfSome, negsuc};
+ghost use Rattle.std.specs.Prelude.{◌≡◌, ◌<◌, ◌≤◌, ◌^◌, negsuc};
 ghost use Rattle.fst.specs.Refusal.{refused, given, refusal_number, told};
 ghost use Rattle.signal.specs.Decode.{codes_at};
+ghost use Rattle.signal.specs.Parts.{Levels};
 ghost use Rattle.numbers.specs.Number.{unsigned, signed, decimal, read_number};
 ghost use Rattle.numbers.specs.Parts.{refused_levels, binary_of, signed_by, decimal_by};
 
@@ -9,17 +10,23 @@ use crate::bits::{bits_in, ones};
 use fst::Refusal;
 use signal::packed::Packed;
 use signal::read::Record;
+use value::States;
 
 // ---- unsigned
 
-// A refusal that 10 comes before. Kept out of what reads a number, where the registers of its loop would be saved, and lent no reference,
-// for which the levels would be stored.
+// A refusal that 10 comes before. It is lent no struct, which would be stored for it before it is known whether it is called.
 #[tactic(auto, unfolding(fst::specs::Refusal::tried))]
 #[cold]
 #[inline(never)]
-fn refused_levels(levels: Packed<'_>, refusal: Refusal) -> Refusal
-    ensures { refused (refusal_number result) ≡ refused_levels (codes_at levels.entry.width levels.entry.states levels.entry.bytes.now) refusal }
+fn refused_levels(width: u32, states: States, bytes: &[u8], refusal: Refusal) -> Refusal
+    requires { Levels width states bytes.now }
+    ensures { refused (refusal_number result) ≡ refused_levels (codes_at width states bytes.now) refusal }
 {
+    let levels = Packed {
+        width,
+        states,
+        bytes,
+    };
     if levels.has_bad_code() {
         Refusal::BadCode
     } else {
@@ -34,52 +41,29 @@ fn binary_of(levels: &Packed) -> Result<u64, Refusal>
     requires { 1 ≤ levels.now.width }
     ensures { told result ≡ binary_of levels.now.width (codes_at levels.now.width levels.now.states levels.now.bytes.now) }
 {
-    if 64 < levels.width {
-        return Err(refused_levels(*levels, Refusal::WrongWidth));
+    let Packed {
+        width,
+        states,
+        bytes,
+    } = *levels;
+    if 64 < width {
+        return Err(refused_levels(width, states, bytes, Refusal::WrongWidth));
     }
-    match bits_in(levels.states, levels.width, levels.bytes) {
+    match bits_in(states, width, bytes) {
         Some(number) => Ok(number),
-        None => Err(refused_levels(*levels, Refusal::NotBinary)),
+        None => Err(refused_levels(width, states, bytes, Refusal::NotBinary)),
     }
 }
 
 // An unsigned number, or a refusal.
 #[tactic(auto, using(crate::proofs::Replies::wide), unfolding(crate::specs::Number::read_number, signal::specs::Parts::vector_in, fst::specs::Refusal::tried))]
-#[inline(never)]
-fn read_binary(lent: &Record, entry: u32) -> Result<u64, Refusal>
+#[inline(always)]
+pub fn read_unsigned(lent: &Record, entry: u32) -> Result<u64, Refusal>
     ensures { told result ≡ read_number unsigned lent.now.description lent.now.bytes.now lent.now.byte_start entry }
 {
     let vector = lent.vector_at(entry)?;
     let levels = vector.levels()?;
     binary_of(&levels)
-}
-
-// The number, where there is one: with no refusal to tell it keeps little at hand, and saves fewer registers: an eighth of the time.
-#[tactic(auto, using(crate::proofs::Replies::wide, crate::proofs::Replies::binary_coded), unfolding(crate::specs::Number::read_number, crate::specs::Parts::bits_of_levels, signal::specs::Parts::vector_in, signal::specs::Decode::levels_in, fst::specs::Record::has_no_text, fst::specs::Refusal::tried))]
-#[inline(always)]
-fn quick_binary(lent: &Record, entry: u32) -> Option<u64>
-    ensures { IfSome result (λ n. given n ≡ read_number unsigned lent.now.description lent.now.bytes.now lent.now.byte_start entry) }
-{
-    let Ok(vector) = lent.vector_at(entry) else {
-        return None;
-    };
-    let Ok(levels) = vector.levels() else {
-        return None;
-    };
-    if 64 < levels.width {
-        return None;
-    }
-    bits_in(levels.states, levels.width, levels.bytes)
-}
-
-#[inline(always)]
-pub fn read_unsigned(lent: &Record, entry: u32) -> Result<u64, Refusal>
-    ensures { told result ≡ read_number unsigned lent.now.description lent.now.bytes.now lent.now.byte_start entry }
-{
-    match quick_binary(lent, entry) {
-        Some(number) => Ok(number),
-        None => read_binary(lent, entry),
-    }
 }
 
 // ---- signed

@@ -2,7 +2,7 @@
 ghost use Rattle.std.specs.Prelude.{◌≡◌};
 ghost use Rattle.fst.specs.Refusal.{number_of, told_by};
 ghost use Rattle.signal.specs.Decode.{entry_at};
-ghost use Rattle.signal.specs.Parts.{Whole, Inside, answer_in, vector_in, text_stored};
+ghost use Rattle.signal.specs.Parts.{Whole, Inside, vector_in, text_stored};
 ghost use Rattle.signal.specs.Vectors.{is_vector};
 ghost use Rattle.signal.specs.Read.{read_entry, is_entry, part_of, text_left, read_text};
 
@@ -55,17 +55,30 @@ impl<'a> Record<'a> {
         })
     }
 
-    #[tactic(auto, unfolding(crate::specs::Read::read_entry, crate::specs::Parts::answer_in, fst::specs::Refusal::tried))]
+    #[tactic(auto, unfolding(crate::specs::Read::read_entry, crate::specs::Parts::vector_in, crate::specs::Decode::has_bad_mark, crate::specs::Decode::set_in, crate::specs::Decode::level_part, fst::specs::Record::has_no_text, fst::specs::Refusal::tried))]
     pub fn read_entry(&self, entry: u32) -> Result<Entry<'a>, Refusal>
         ensures { told_by is_entry result ≡ read_entry self.now.description self.now.bytes.now self.now.byte_start entry }
     {
+        if let Encoding::BitVector { .. } = self.description.encoding {
+            let vector = self.vector_at(entry)?;
+            let levels = vector.levels()?;
+            return Ok(Entry {
+                kind: Kind::BitVector,
+                states: levels.states,
+                part: levels.bytes,
+            });
+        }
         if is_bad_bytes(self.description, self.bytes, self.byte_start) {
             return Err(Refusal::BadRecord);
         }
         if self.description.count <= entry {
             return Err(Refusal::NoSuchEntry);
         }
-        entry_answer(self.description.encoding, self.entry_at(entry))
+        Ok(Entry {
+            kind: Kind::from(self.description.encoding),
+            states: States::Two,
+            part: self.entry_at(entry),
+        })
     }
 
     // The part of the lent bytes that holds the levels, and nothing where reading is refused.
@@ -86,33 +99,6 @@ impl<'a> Record<'a> {
         let vector = self.vector_at(entry)?;
         store_text(&vector, out)
     }
-}
-
-// The answer by an entry's bytes, or 9.
-#[tactic(auto, unfolding(crate::specs::Parts::answer_in, crate::specs::Decode::has_bad_mark, crate::specs::Decode::set_in, crate::specs::Decode::level_part, fst::specs::Refusal::tried))]
-fn entry_answer<'a>(encoding: Encoding, bytes: &'a [u8]) -> Result<Entry<'a>, Refusal>
-    requires { Whole encoding bytes.now }
-    ensures { told_by is_entry result ≡ answer_in encoding bytes.now }
-{
-    let kind = Kind::from(encoding);
-    let Encoding::BitVector { width, max_states } = encoding else {
-        return Ok(Entry {
-            kind,
-            states: States::Two,
-            part: bytes,
-        });
-    };
-    let vector = Vector {
-        width,
-        max_states,
-        bytes,
-    };
-    let levels = vector.levels()?;
-    Ok(Entry {
-        kind,
-        states: levels.states,
-        part: levels.bytes,
-    })
 }
 
 // Text of an entry's bytes: 9, 10 and 7.

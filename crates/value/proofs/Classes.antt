@@ -7,8 +7,9 @@ use Prim.Native.Nat.{ℕ, ◌+◌, ◌≤◌, ◌<◌, min}
 use native.Mathlib.Omega.{arith}
 use borrow.Author.Tests.{eqb-true, leb-true, leb-false, lt-ltb, eq-eqb, ne_eqb}
 use lib.Dec.{T, eqb, leb, ltb}
-use lib.Bits.{bit_or, bit_and, or_add_and, or_zero_l, and_le_r}
+use lib.Bits.{bit_or, bit_and, bit_xor, or_add_and, or_zero_l, and_le_r}
 use lib.ListN.{length, get_or, take}
+use lib.Seq.{take_all}
 use Rattle.value.specs.declared.States.{States}
 use Rattle.value.specs.declared.States.TheVariants.{Two, Four, Nine}
 use Rattle.std.specs.Prelude.{Option, Some, None}
@@ -54,10 +55,26 @@ pub same_tests : (f g : ℕ → Bool) → T (all_below (λ (n : ℕ). implies tr
 same_tests f g t c h = both_same (f c) (g c) (each_byte (λ (n : ℕ). true) (λ (n : ℕ). both (f n) (g n)) t c h refl)
 
 -- the smaller of two numbers is 0 where one of them is
-pub min_zero : {r : ℕ} (a b : ℕ) → r ≡ min a b → eqb r 0 ≡ eqb a 0 || eqb b 0
-min_zero {r} a b e =
-    by_eq a 0 (λ (z : a ≡ 0). rw (eq-eqb r 0 (omega arith), eq-eqb a 0 z))
-    (λ n. rw (ne_eqb a 0 n) (by_eq b 0 (λ (z : b ≡ 0). rw (eq-eqb r 0 (omega arith), eq-eqb b 0 z)) (λ m. rw (ne_eqb r 0 (λ z. omega arith), ne_eqb b 0 m))))
+pub min_zero : (a b : ℕ) → eqb (min a b) 0 ≡ eqb a 0 || eqb b 0
+min_zero a b =
+    by_eq a 0 (λ (z : a ≡ 0). rw (eq-eqb (min a b) 0 (omega arith), eq-eqb a 0 z))
+    (λ n. rw (ne_eqb a 0 n) (by_eq b 0 (λ (z : b ≡ 0). rw (eq-eqb (min a b) 0 (omega arith), eq-eqb b 0 z)) (λ m. rw (ne_eqb (min a b) 0 (λ z. omega arith), ne_eqb b 0 m))))
+
+-- the tests of a byte by its bits, computed at each: 0 1, then x z, then u w h l -
+pub two_told : (c : ℕ) → c < 256 → eqb (bit_and (bit_xor c 48) 254) 0 ≡ holds_one 2 c
+unfolding holds_one code_of place_in fold
+two_told = same_tests (λ (n : ℕ). eqb (bit_and (bit_xor n 48) 254) 0) (holds_one 2) tt
+
+pub four_told : (c : ℕ) → c < 256 → holds_one 4 c ≡ holds_one 2 c || eqb (bit_xor (bit_and (bit_or c 32) 253) 120) 0
+unfolding holds_one code_of place_in fold
+four_told = same_tests (holds_one 4) (λ (n : ℕ). holds_one 2 n || eqb (bit_xor (bit_and (bit_or n 32) 253) 120) 0) tt
+
+abbrev small_letter : ℕ → Bool
+small_letter c = eqb (bit_xor (bit_and (bit_or c 32) 253) 117) 0 || eqb (bit_xor (bit_and (bit_or c 32) 251) 104) 0
+
+pub nine_told : (c : ℕ) → c < 256 → holds_one 9 c ≡ holds_one 4 c || (small_letter c || eqb (bit_xor c 45) 0)
+unfolding holds_one code_of place_in fold
+nine_told = same_tests (holds_one 9) (λ (n : ℕ). holds_one 4 n || (small_letter n || eqb (bit_xor n 45) 0)) tt
 
 -- ---- a string
 
@@ -88,6 +105,10 @@ holds_more s v i u k h e f =
     ∙ ap₂ (λ (a b : Bool). a && b) e f
     ∙ sym (not_or (any (leb (codes_in s)) cs) (leb (codes_in s) c))
     ∙ ap not (sym (any_snoc (leb (codes_in s)) cs c) ∙ ap (λ (l : List ℕ). any (leb (codes_in s)) l) (sym (codes_more v i h)))
+
+-- all characters
+pub holds_whole : (s : States) (v : List ℕ) (i : ℕ) → length v ≤ i → holds_all s (take i v) ≡ holds_all s v
+holds_whole s v i h = ap (holds_all s) (take_all i v h)
 
 -- ---- the least set
 

@@ -60,6 +60,7 @@ pub fn bit_char_to_num(value: u8) -> Option<u8>
 
 // 0 for 0 1, and another number for every other byte. These three have no loads and no jumps, so that a loop over them is compiled to
 // wide instructions.
+#[tactic(auto, using(crate::proofs::Classes::two_told))]
 fn beside_two(value: u8) -> u8
     ensures { eqb result 0 ≡ holds_one 2 value }
 {
@@ -67,6 +68,7 @@ fn beside_two(value: u8) -> u8
 }
 
 // 0 for 0 1 x z.
+#[tactic(auto, using(crate::proofs::Classes::min_zero, crate::proofs::Classes::four_told))]
 fn beside_four(value: u8) -> u8
     ensures { eqb result 0 ≡ holds_one 4 value }
 {
@@ -74,6 +76,7 @@ fn beside_four(value: u8) -> u8
 }
 
 // 0 for 0 1 x z h u w l -.
+#[tactic(auto, using(crate::proofs::Classes::min_zero, crate::proofs::Classes::nine_told))]
 fn beside_nine(value: u8) -> u8
     ensures { eqb result 0 ≡ holds_one 9 value }
 {
@@ -83,6 +86,7 @@ fn beside_nine(value: u8) -> u8
 }
 
 // Whether every character is 0 or 1.
+#[tactic(auto, using(crate::proofs::Classes::holds_none, crate::proofs::Classes::holds_more))]
 fn is_binary(value: &[u8]) -> bool
     ensures { result ≡ holds_all States.Two value.now }
 {
@@ -114,6 +118,7 @@ pub fn num_to_bit_char(code: u8) -> u8
 
 impl States {
     // The least set of a string that set Two does not hold: Four and Nine are tried in one reading.
+    #[tactic(auto, using(crate::proofs::Classes::holds_none, crate::proofs::Classes::holds_more, crate::proofs::Classes::holds_whole, std::proofs::lemmas::Bool::Decides::nat_tests, crate::proofs::Classes::is_four, crate::proofs::Classes::is_nine, crate::proofs::Classes::is_foreign_lem))]
     fn beyond_two(value: &[u8]) -> Option<States>
         requires { false ≡ holds_all States.Two value.now }
         ensures { result ≡ least_states value.now }
@@ -133,6 +138,7 @@ impl States {
         }
     }
 
+    #[tactic(auto, using(crate::proofs::Classes::is_two))]
     pub fn from_ascii(value: &[u8]) -> Option<States>
         ensures { result ≡ least_states value.now }
     {
@@ -199,6 +205,7 @@ impl States {
     }
 
     // The level that `bit` levels follow.
+    #[tactic(auto, using(crate::proofs::Packed::read, crate::proofs::Digits::below_all))]
     pub fn get_bit(self, data: &[u8], bit: u32) -> u8
         requires { LevelIn (bits_of self) bit (length «data».now) }
         ensures { result ≡ level_at (bits_of self) bit «data».now }

@@ -21,7 +21,7 @@ use Rattle.value.proofs.Digits.{number_lt, below_at}
 use Rattle.value.proofs.Backward.{overlay_whole}
 use Rattle.value.proofs.Slices.{overlay_store}
 use Rattle.wavemem.specs.Packed.{packed_with, packed_from}
-use Rattle.wavemem.proofs.Packing.{length_codes, packed_length, packed_append, packed_one, next_stored}
+use Rattle.wavemem.proofs.Packing.{code_at, code_below, length_codes, packed_length, packed_append, packed_one, next_stored}
 
 -- ---- the code of a character
 
@@ -37,14 +37,20 @@ pub by_bits_lem : (c : ℕ) → c < 256 → code_of (fold c) < 9 → by_bits c �
 unfolding code_of place_in fold
 by_bits_lem = code_by 9 by_bits tt
 
--- ---- an array that is filled from the front
+-- ---- an array that is filled with codes from the front
 
-module _ (l new : List ℕ) (long : length new ≡ length l) (k : ℕ) {out : List ℕ} (so_far : out ≡ overlay l 0 (take k new)) where
-  pub next_filled : (x d : ℕ) → k < length l → x ≡ get_or new k d → set out k x ≡ overlay l 0 (take (k + 1) new)
-  next_filled x d h e = rw (zero-add k) at (next_stored l new 0 k x d (rw zero-add h) (omega arith) so_far e)
+module _ (l v : List ℕ) (long : length v ≡ length l) where
+  abbrev new : List ℕ
+  new = codes_of (fold_all v)
 
-  pub all_filled : length l ≤ k → out ≡ new
-  all_filled h = so_far ∙ ap (overlay l 0) (take_all k new (omega arith)) ∙ overlay_whole l new long
+  pub code_filled : (k x : ℕ) {out : List ℕ} → out ≡ overlay l 0 (take k new) → k < length l → Below 9 new → (code_of (fold (get_or v k 0)) < 9 → x ≡ code_of (fold (get_or v k 0)))
+      → set out k x ≡ overlay l 0 (take (k + 1) new)
+  code_filled k x so_far h b is =
+      rw (zero-add k) at
+      (next_stored l new 0 k x (code_of (fold 0)) (rw zero-add h) (rw length_codes (omega arith)) so_far (is (code_below 9 v k b (omega arith)) ∙ sym (code_at v k)))
+
+  pub all_filled : (k : ℕ) → length l ≤ k → overlay l 0 (take k new) ≡ new
+  all_filled k h = let m : length new ≡ length l = length_codes v ∙ long in ap (overlay l 0) (take_all k new (omega arith)) ∙ overlay_whole l new m
 
 -- ---- the byte of two levels
 
@@ -72,6 +78,15 @@ pair_stored cs below l k h so_far =
     ∙ ap (λ (u : List ℕ). packed_with 4 0 (take i cs) ++ u) (sym p)
     ∙ sym (packed_append 4 0 1 (take i cs) (x ∷ y ∷ []) (a, (b, tt)) refl (λ g. absurd (omega arith)))
     ∙ ap (packed_with 4 0) (sym t))
+
+pub pairs_none : packed_with 4 0 [] ≡ []
+unfolding packed_with digits
+pairs_none = refl
+
+pub pairs_all : (cs : List ℕ) → length cs ≡ 32 → (k : ℕ) → 16 ≤ k → overlay (replicate 16 0) 0 (packed_with 4 0 (take (2 * k) cs)) ≡ packed_with 4 0 cs
+pairs_all cs l k h =
+    ap (λ (ds : List ℕ). overlay (replicate 16 0) 0 (packed_with 4 0 ds)) (take_all (2 * k) cs (omega arith))
+    ∙ overlay_whole (replicate 16 0) (packed_with 4 0 cs) (packed_length 4 0 cs ∙ rw l)
 
 -- ---- the two bytes of eight levels of two bits
 

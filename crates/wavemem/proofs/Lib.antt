@@ -9,3 +9,4 @@ pub mod Scanning
 pub mod Packing
 pub mod Blocks
 pub mod Parts
+pub mod Walk

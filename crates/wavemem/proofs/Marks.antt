@@ -8,18 +8,18 @@ use native.Mathlib.Nat.{zero-lt-suc, one-le-pow, le-mul_of_pos_right}
 use native.Mathlib.Omega.{arith}
 use borrow.Author.Tests.{eqb-true, eq-eqb, ne_eqb}
 use lib.Dec.{T, eqb, leb}
-use lib.Bits.{bit_and}
+use lib.Bits.{bit_and, bit_or, bit_xor, mask_lt}
 use lib.ListN.{length}
 use Rattle.value.specs.declared.States.{States}
 use Rattle.value.specs.Slice.{any}
 use Rattle.value.specs.Digits.{number, digits, Below}
-use Rattle.value.specs.Level.{fold, fold_all, code_of, codes_of, codes_in}
+use Rattle.value.specs.Level.{fold, fold_all, code_of, codes_of, codes_in, place_in}
 use Rattle.value.specs.Answer.{holds_one, holds_all}
 use Rattle.value.proofs.Tests.{all_below, implies, both, by_eq}
-use Rattle.value.proofs.Classes.{each_byte, same_tests, not_or}
+use Rattle.value.proofs.Classes.{each_byte, same_tests, not_or, within}
 use Rattle.value.proofs.Digits.{digits_below}
 use Rattle.wavemem.specs.Short.{zeros, marks}
-use Rattle.wavemem.proofs.Lanes.{Lows, by_and, lanes, in_lanes, of_lanes, number_back}
+use Rattle.wavemem.proofs.Lanes.{Lows, itself, by_and, by_or, by_xor, constant, kept, added, lanes, in_lanes, of_lanes, number_back}
 
 map_below : {A : Type 0} (B : ℕ) (f g : ℕ → A) → ((x : ℕ) → x < B → f x ≡ g x) → (v : List ℕ) → Below B v → map f v ≡ map g v
 map_below B f g h [] b = refl
@@ -79,6 +79,43 @@ module _ (w : ℕ) where
       → bit_and a b ≡ marks (map (λ (x : ℕ). f x || g x) (digits 256 8 w))
   marks_and f g d e = ap₂ bit_and d e ∙ marks_are (λ (x : ℕ). f x || g x) (λ x h. mark_and (f x) (g x)) (by_and (marks_lanes f) (marks_lanes g))
 
+-- ---- the formulas
+
+-- no sum leaves its byte
+no_carry : (x : ℕ) → x < 256 → bit_and x 127 % 256 + 127 % 256 < 256
+no_carry x h = omega (arith, mask_lt x 7)
+
+pub set_told : (x : ℕ) → x < 2 ^ 64 → bit_and (bit_or (bit_and x 0x7f7f7f7f7f7f7f7f + 0x7f7f7f7f7f7f7f7f) x) 0x8080808080808080 ≡ marks (zeros x)
+unfolding number
+set_told x h =
+    set_bytes x (kept 128 (omega arith) (omega arith) (by_or (added (kept 127 (omega arith) (omega arith) (itself h)) (constant 127 (omega arith)) no_carry) (itself h))) tt
+
+pub two_told : (w : ℕ) → w < 2 ^ 64 → zeros (bit_and (bit_xor w 0x3030303030303030) 0xfefefefefefefefe) ≡ map (holds_one 2) (digits 256 8 w)
+unfolding number holds_one code_of place_in fold
+two_told w h = zeros_are w (by_and (by_xor (itself h) (constant 48 (omega arith))) (constant 254 (omega arith))) ∙ by_tests w _ (holds_one 2) tt
+
+pub four_told : (w : ℕ) {two xz : ℕ} → w < 2 ^ 64 → two ≡ marks (map (holds_one 2) (digits 256 8 w))
+    → xz ≡ marks (zeros (bit_xor (bit_and (bit_or w 0x2020202020202020) 0xfdfdfdfdfdfdfdfd) 0x7878787878787878)) → bit_and two xz ≡ marks (map (holds_one 4) (digits 256 8 w))
+unfolding number holds_one code_of place_in fold
+four_told w h two xz =
+    let is = zeros_are w (by_xor (by_and (by_or (itself h) (constant 32 (omega arith))) (constant 253 (omega arith))) (constant 120 (omega arith))) in
+    marks_and w (holds_one 2) _ two (xz ∙ ap marks is) ∙ ap marks (by_tests w _ (holds_one 4) tt)
+
+abbrev small : ℕ → ℕ
+small w = bit_or w 0x2020202020202020
+
+pub nine_told : (w : ℕ) {four uw hl dash : ℕ} → w < 2 ^ 64 → four ≡ marks (map (holds_one 4) (digits 256 8 w))
+    → uw ≡ marks (zeros (bit_xor (bit_and (small w) 0xfdfdfdfdfdfdfdfd) 0x7575757575757575)) → hl ≡ marks (zeros (bit_xor (bit_and (small w) 0xfbfbfbfbfbfbfbfb) 0x6868686868686868))
+    → dash ≡ marks (zeros (bit_xor w 0x2d2d2d2d2d2d2d2d)) → bit_and four (bit_and (bit_and uw hl) dash) ≡ marks (map (holds_one 9) (digits 256 8 w))
+unfolding number holds_one code_of place_in fold
+nine_told w h four uw hl dash =
+    let s = by_or {L = 8} {n = 8} {w = w} (itself h) (constant 32 (omega arith)) in
+    let is_uw = zeros_are w (by_xor (by_and s (constant 253 (omega arith))) (constant 117 (omega arith))) in
+    let is_hl = zeros_are w (by_xor (by_and s (constant 251 (omega arith))) (constant 104 (omega arith))) in
+    let is_dash = zeros_are w (by_xor (itself h) (constant 45 (omega arith))) in
+    marks_and w (holds_one 4) _ four (marks_and w _ _ (marks_and w _ _ (uw ∙ ap marks is_uw) (hl ∙ ap marks is_hl)) (dash ∙ ap marks is_dash))
+    ∙ ap marks (by_tests w _ (holds_one 9) tt)
+
 -- ---- all bytes
 
 unfoldable every : List Bool → Bool
@@ -115,3 +152,17 @@ module _ (s : States) (w r : ℕ) (h : r < 2 ^ 64) (e : zeros r ≡ map (holds_o
 
   pub not_held : (r ≡ 0 → ⊥) → false ≡ holds_all s (digits 256 8 w)
   not_held z = sym (ne_eqb r 0 z) ∙ none_beside
+
+  pub held_codes : r ≡ 0 → Below (codes_in s) (codes_of (fold_all (digits 256 8 w)))
+  held_codes z = within (digits 256 8 w) s (all_held z)
+
+-- the same of one that has marks
+module _ (s : States) (w r : ℕ) (h : r < 2 ^ 64) (e : r ≡ marks (map (holds_one (codes_in s)) (digits 256 8 w))) where
+  pub all_marked : r ≡ 0 → true ≡ holds_all s (digits 256 8 w)
+  all_marked = all_held s w r h (zeros_marks w (holds_one (codes_in s)) e)
+
+  pub not_marked : (r ≡ 0 → ⊥) → false ≡ holds_all s (digits 256 8 w)
+  not_marked = not_held s w r h (zeros_marks w (holds_one (codes_in s)) e)
+
+  pub marked_codes : r ≡ 0 → Below (codes_in s) (codes_of (fold_all (digits 256 8 w)))
+  marked_codes = held_codes s w r h (zeros_marks w (holds_one (codes_in s)) e)

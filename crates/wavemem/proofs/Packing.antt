@@ -1,21 +1,21 @@
 -- The working number and packed levels: those of one byte, those of two parts, and a first byte that is not full.
 -- Assumes nothing.
 use mathlib.Core.Path.{◌≡◌, refl, sym, ap, ap₂, ◌∙◌}
-use mathlib.Core.Bool.{Bool, true, ◌&&◌}
+use mathlib.Core.Bool.{Bool, true, false, ◌&&◌}
 use mathlib.Core.List.{List, [], ◌∷◌, ◌++◌, map-append}
 use Prim.Native.Nat.{ℕ, zero, suc, ◌+◌, ◌-◌, ◌*◌, ◌/◌, ◌%◌, ◌^◌, ◌≤◌, ◌<◌}
 use native.Mathlib.Nat.{zero-lt-suc, add-mul, mul_assoc, suc-mul, zero-mul, mul-le-mul_right, lt_of_lt_of_le}
 use native.Mathlib.Numerals.{add-one}
 use native.Mathlib.Omega.{arith}
 use lib.Dec.{eqb, leb, ltb, leb→le, ltb→lt}
-use lib.ListN.{length, get_or, take, drop, set, length-append, length-map, length-drop, take-append-drop, get_or-map}
+use lib.ListN.{length, get_or, take, drop, set, length-set, length-append, length-map, length-drop, take-append-drop, get_or-map}
 use lib.Seq.{length-take-le, take-add, take-suc, take_all, drop-cons}
 use lib.Bits.{bit_and, bit_or, or_shifted, or_shifted_r, or_zero_r}
 use lib.Pow.{pow-add, pow_mono, shl_exact}
-use borrow.Author.Tests.{eqb-true, lt-ltb}
+use borrow.Author.Tests.{eqb-true, eq-eqb, ne_eqb, lt-ltb}
 use Rattle.value.specs.declared.States.{States}
 use Rattle.value.specs.declared.States.TheVariants.{Two, Four, Nine}
-use Rattle.std.specs.Prelude.{Option, Some, None}
+use Rattle.std.specs.Prelude.{unwrap_or}
 use Rattle.value.specs.Digits.{number, digits, Below}
 use Rattle.value.specs.Slice.{part, overlay, same}
 use Rattle.value.specs.Level.{fold, fold_all, place_in, code_of, codes_of, bits_of, len_of}
@@ -27,15 +27,11 @@ use Rattle.value.proofs.Classes.{each_byte, code_by}
 use Rattle.value.proofs.Digits.{below_at, below_take, below_drop, pow_pow, number_lt, number_append, number_more, digits_length, digits_append}
 use Rattle.wavemem.specs.Packed.{packed_with, packed_from, first_count, Codes, OneWord, OneByte, ByLowBits, WholeBytes, Packable}
 
--- the number that an answer tells
-abbrev number_told : Option ℕ → ℕ
-number_told (Some n) = n
-number_told None = 9
-
-pub code_told : (c : ℕ) {answer : Option ℕ} → c < 256 → char_code c ≡ answer → number_told answer ≡ code_of (fold c)
+-- the code of a character, and 9 of a foreign byte
+pub code_told : (c : ℕ) → c < 256 → code_of (fold c) ≡ unwrap_or (char_code c) 9
 unfolding char_code code_of place_in fold
-code_told c h e =
-    rw (← e) (eqb-true (number_told (char_code c)) (code_of (fold c)) (from_t _ (at_below (λ (n : ℕ). eqb (number_told (char_code n)) (code_of (fold n))) 256 tt c h)))
+code_told c h =
+    eqb-true (code_of (fold c)) (unwrap_or (char_code c) 9) (from_t _ (at_below (λ (n : ℕ). eqb (code_of (fold n)) (unwrap_or (char_code n) 9)) 256 tt c h))
 
 -- ---- the working number
 
@@ -62,21 +58,21 @@ known_place c h k =
     let t = to_t (test c) (each_byte (λ (n : ℕ). ltb (code_of (fold n)) 9) test tt c h (lt-ltb (code_of (fold c)) 9 k)) in
     (leb→le 8 low (and_left (leb 8 low) (ltb low 27) t), ltb→lt low 27 (and_right (leb 8 low) (ltb low 27) t))
 
--- of the code of the next character
+-- the code of the next character
+pub code_below : (n : ℕ) (v : List ℕ) (i : ℕ) → Below n (codes_of (fold_all v)) → i < length v → code_of (fold (get_or v i 0)) < n
+code_below n v i below more = rw (← code_at v i) (below_at n (codes_of (fold_all v)) below i (code_of (fold 0)) (rw (length-map, length-map) more))
+
 module _ {s : States} {v : List ℕ} (ok : OneWord s v) (i : ℕ) (more : i < length v) where
-  more_codes : i < length (codes_of (fold_all v))
-  more_codes = rw (length-map, length-map) more
+  pub low_from : get_or v i 0 < 256 → 8 ≤ bit_and (get_or v i 0) 31
+  low_from byte = (known_place (get_or v i 0) byte (code_below 9 v i ok.codes.known more)).0
 
-  pub code_below : (n : ℕ) → Below n (codes_of (fold_all v)) → code_of (fold (get_or v i 0)) < n
-  code_below n below = rw (← code_at v i) (below_at n (codes_of (fold_all v)) below i (code_of (fold 0)) more_codes)
-
-  pub low_place : get_or v i 0 < 256 → (8 ≤ bit_and (get_or v i 0) 31) × (bit_and (get_or v i 0) 31 < 27)
-  low_place byte = known_place (get_or v i 0) byte (code_below 9 ok.codes.known)
+  pub low_within : get_or v i 0 < 256 → bit_and (get_or v i 0) 31 < 27
+  low_within byte = (known_place (get_or v i 0) byte (code_below 9 v i ok.codes.known more)).1
 
   pub next_code : (b working c : ℕ) → b ≡ bits_of s → working ≡ number (2 ^ b) (take i (codes_of (fold_all v))) → c ≡ code_of (fold (get_or v i 0))
       → bit_or (working * 2 ^ b % 2 ^ 64) c ≡ number (2 ^ b) (take (i + 1) (codes_of (fold_all v)))
   next_code b working c e so_far is =
-      shifted b (codes_of (fold_all v)) (rw e ok.codes.below) (rw (length-map, length-map, e) ok.short) i c (code_of (fold 0)) working more_codes
+      shifted b (codes_of (fold_all v)) (rw e ok.codes.below) (rw (length-map, length-map, e) ok.short) i c (code_of (fold 0)) working (rw (length-map, length-map) more)
       (is ∙ sym (code_at v i))
       so_far
 
@@ -151,9 +147,6 @@ drop_codes {s} f v ok = record { known = rw codes_drop (below_drop 9 _ ok.known 
 pub take_codes : {s : States} (m : ℕ) (v : List ℕ) → Codes s (codes_of (fold_all v)) → Codes s (codes_of (fold_all (take m v)))
 take_codes {s} m v ok = record { known = rw codes_take (below_take 9 _ ok.known m); below = rw codes_take (below_take (2 ^ bits_of s) _ ok.below m) }
 
-pub one_word : {s : States} {v : List ℕ} → OneByte s v → OneWord s v
-one_word ok = record { codes = ok.codes; short = omega (arith, ok.short) }
-
 pub byte_small : {s : States} {v : List ℕ} → OneByte s v → number (2 ^ bits_of s) (codes_of (fold_all v)) < 256
 byte_small {s} {v} ok =
     let cs = codes_of (fold_all v) in
@@ -224,13 +217,17 @@ packed_one b meta cs below some few marked fits free =
     let z : meta ≡ 0 = omega arith in
     rw (n, z, or_zero_r) (ap (λ (x : ℕ). x ∷ []) (omega arith)))
 
--- a string of one byte
-pub one_packed : (s : States) (v : List ℕ) → OneByte s v → 0 < length v * bits_of s → {x : ℕ} → x ≡ number (2 ^ bits_of s) (codes_of (fold_all v)) → x ∷ [] ≡ packed_from s 0 v
-one_packed s v ok some is =
-    let cs = codes_of (fold_all v) in
-    sym
-    (packed_one (bits_of s) 0 cs ok.codes.below (rw length_codes some) (rw length_codes ok.short) refl (omega arith) (λ h. absurd (omega arith))
-    ∙ ap (λ (y : ℕ). y ∷ []) (or_zero_r _ ∙ sym is))
+-- a turn to one byte
+module _ (s : States) (v : List ℕ) (ok : Codes s (codes_of (fold_all v))) (short : length v * bits_of s ≤ 8) {x : ℕ} (is : x ≡ number (2 ^ bits_of s) (codes_of (fold_all v))) where
+  pub turn_small : x < 256
+  turn_small = let b : OneByte s v = record { codes = ok; short = short } in omega (arith, is, byte_small b)
+
+  pub turn_byte : 0 < length v * bits_of s → x ∷ [] ≡ packed_from s 0 v
+  turn_byte some =
+      let cs = codes_of (fold_all v) in
+      sym
+      (packed_one (bits_of s) 0 cs ok.below (rw length_codes some) (rw length_codes short) refl (omega arith) (λ h. absurd (omega arith))
+      ∙ ap (λ (y : ℕ). y ∷ []) (or_zero_r _ ∙ sym is))
 
 -- a string, and behind it one that fills whole bytes
 pub packed_parts : (s : States) (meta : ℕ) (v w : List ℕ) → Below (2 ^ bits_of s) (codes_of (fold_all w)) → len_of (length w) s * per_byte s ≡ length w
@@ -256,114 +253,116 @@ empty : (l : List ℕ) → length l ≡ 0 → l ≡ []
 empty [] e = refl
 empty (x ∷ l) e = absurd (omega arith)
 
--- the first byte, and the string behind it
-module _ {s : States} {v : List ℕ} {room at meta : ℕ} (ok : Packable s v room at meta) where
-  abbrev first : ℕ
-  first = first_count s (length v)
+-- the first byte, and the string behind it, as it is lent
+module _ {s : States} {v : List ℕ} {room at meta first all : ℕ} (ok : Packable s v room at meta) (is : first ≡ first_count s (length v)) (full : all ≡ per_byte s) (e : first ≡ all → ⊥) where
+  -- how many bytes are behind the first
+  abbrev later : ℕ
+  later = len_of (length v) s - 1
 
-  module _ (e : first ≡ per_byte s → ⊥) where
-    -- how many bytes are behind the first
-    abbrev later : ℕ
-    later = len_of (length v) s - 1
+  abbrev behind : List ℕ
+  behind = take (length v - first) (drop first v)
 
-    some : 0 < len_of (length v) s
-    some =
-        by_le 1 (len_of (length v) s) (λ h. h)
-        (λ h.
-        let z : len_of (length v) s ≡ 0 = omega arith in
-        let y : len_of (length v) s * per_byte s ≡ 0 = rw z (zero-mul (per_byte s)) in
-        absurd (e (omega (arith, spans (length v) s))))
+  some : 0 < len_of (length v) s
+  some =
+      by_le 1 (len_of (length v) s) (λ h. h)
+      (λ h.
+      let z : len_of (length v) s ≡ 0 = omega arith in
+      let y : len_of (length v) s * per_byte s ≡ 0 = rw z (zero-mul (per_byte s)) in
+      absurd (e (omega (arith, spans (length v) s))))
 
-    behind_first : first + later * per_byte s ≡ length v
-    behind_first =
-        let y : len_of (length v) s * per_byte s ≡ later * per_byte s + per_byte s = ap (λ (x : ℕ). x * per_byte s) (omega (arith, some)) ∙ suc-mul later (per_byte s) in
-        omega (arith, spans (length v) s)
+  behind_first : first + later * per_byte s ≡ length v
+  behind_first =
+      let y : len_of (length v) s * per_byte s ≡ later * per_byte s + per_byte s = ap (λ (x : ℕ). x * per_byte s) (omega (arith, some)) ∙ suc-mul later (per_byte s) in
+      omega (arith, spans (length v) s)
 
-    rest_length : length (drop first v) ≡ later * per_byte s
-    rest_length = length-drop first v ∙ omega (arith, behind_first)
+  first_fits : first ≤ length v
+  first_fits = omega (arith, behind_first)
 
-    pub rest_size : len_of (length v) s ≡ suc (len_of (length (drop first v)) s)
-    rest_size = rw (rest_length, len_full later s) (omega (arith, some))
+  place_fits : at + 1 ≤ room
+  place_fits = omega (arith, some, ok.fits)
 
-    pub rest_whole : WholeBytes s (drop first v) room (at + 1)
-    rest_whole =
-        let f = ok.fits in
-        record {
-          codes = drop_codes first v ok.codes;
-          short = rw rest_length (omega (arith, behind_first, ok.short));
-          fits = omega (arith, rest_size);
-          full = rw (rest_length, len_full later s);
-        }
+  first_length : length (take first v) ≡ first
+  first_length = length-take-le first v first_fits
 
-    pub first_fits : first ≤ length v
-    first_fits = omega (arith, behind_first)
+  behind_is : behind ≡ drop first v
+  behind_is = take_all (length v - first) (drop first v) (rw (length-drop first v) (omega arith))
 
-    pub place_fits : at + 1 ≤ room
-    place_fits = omega (arith, some, ok.fits)
+  behind_length : length behind ≡ later * per_byte s
+  behind_length = ap length behind_is ∙ length-drop first v ∙ omega (arith, behind_first)
 
-    first_length : length (take first v) ≡ first
-    first_length = length-take-le first v first_fits
+  pub behind_size : len_of (length v) s ≡ suc (len_of (length behind) s)
+  behind_size = rw (behind_length, len_full later s) (omega (arith, some))
 
-    -- the bits of the first byte's levels
-    first_bits : (0 < first * bits_of s) × (first * bits_of s ≤ 8) × (0 < meta → first * bits_of s + 2 ≤ 8)
-    first_bits =
-        let e : length v * bits_of s ≡ first * bits_of s + later * 8 =
-        ap (λ (x : ℕ). x * bits_of s) (sym behind_first) ∙ add-mul first (later * per_byte s) (bits_of s) ∙ ap (λ (x : ℕ). first * bits_of s + x) (full_bits s _ later refl) in
-        let h = spans (length v) s in
-        let f : 1 ≤ first = omega arith in (
-          omega (arith, mul-le-mul_right (bits_of s) f, bits_pos s),
-          omega (arith, mul-le-mul_right (bits_of s) (let l : first ≤ per_byte s = omega arith in l), per_bits s),
-          λ m. omega (arith, ok.free m, some),
-        )
+  pub behind_whole : WholeBytes s behind room (at + 1)
+  behind_whole =
+      let f = ok.fits in
+      record {
+        codes = rw behind_is (drop_codes first v ok.codes);
+        short = rw behind_length (omega (arith, behind_first, ok.short));
+        fits = omega (arith, behind_size);
+        full = rw (behind_length, len_full later s);
+      }
 
-    pub first_byte : OneByte s (take first v)
-    first_byte = record { codes = take_codes first v ok.codes; short = rw first_length first_bits.1 }
+  -- the bits of the first byte's levels
+  first_bits : (0 < first * bits_of s) × (first * bits_of s ≤ 8) × (0 < meta → first * bits_of s + 2 ≤ 8)
+  first_bits =
+      let e : length v * bits_of s ≡ first * bits_of s + later * 8 =
+      ap (λ (x : ℕ). x * bits_of s) (sym behind_first) ∙ add-mul first (later * per_byte s) (bits_of s) ∙ ap (λ (x : ℕ). first * bits_of s + x) (full_bits s _ later refl) in
+      let h = spans (length v) s in
+      let f : 1 ≤ first = omega arith in (
+        omega (arith, mul-le-mul_right (bits_of s) f, bits_pos s),
+        omega (arith, mul-le-mul_right (bits_of s) (let l : first ≤ per_byte s = omega arith in l), per_bits s),
+        λ m. omega (arith, ok.free m, some),
+      )
 
-    pub packed_cons : (r : ℕ) → meta < 256 → r ≡ number (2 ^ bits_of s) (codes_of (fold_all (take first v))) → packed_from s meta v ≡ bit_or r meta ∷ packed_from s 0 (drop first v)
-    packed_cons r fits n =
-        let u = take first v in
-        let l : length (codes_of (fold_all u)) ≡ first = length_codes u ∙ first_length in
-        ap (packed_from s meta) (sym (take-append-drop first v))
-        ∙ packed_parts s meta u (drop first v) rest_whole.codes.below rest_whole.full (λ h. rw first_length first_bits.0)
-        ∙ ap (λ (x : List ℕ). x ++ packed_from s 0 (drop first v))
-        (packed_one (bits_of s) meta (codes_of (fold_all u)) first_byte.codes.below (rw l first_bits.0) (rw l first_bits.1) ok.marked fits (rw l first_bits.2) ∙ ap (λ (x : ℕ). bit_or x meta ∷ []) (sym n))
+  pub first_byte : OneByte s (take first v)
+  first_byte = record { codes = take_codes first v ok.codes; short = rw first_length first_bits.1 }
 
-    -- the part of the string that is lent
-    pub rest_is : take (length v - first) (drop first v) ≡ drop first v
-    rest_is = take_all (length v - first) (drop first v) (rw (length-drop first v) (omega arith))
+  packed_cons : (r : ℕ) → meta < 256 → r ≡ number (2 ^ bits_of s) (codes_of (fold_all (take first v))) → packed_from s meta v ≡ bit_or r meta ∷ packed_from s 0 behind
+  packed_cons r fits n =
+      let u = take first v in
+      let l : length (codes_of (fold_all u)) ≡ first = length_codes u ∙ first_length in
+      ap (packed_from s meta) (sym (take-append-drop first v) ∙ ap (λ (w : List ℕ). u ++ w) (sym behind_is))
+      ∙ packed_parts s meta u behind behind_whole.codes.below behind_whole.full (λ h. rw first_length first_bits.0)
+      ∙ ap (λ (x : List ℕ). x ++ packed_from s 0 behind)
+      (packed_one (bits_of s) meta (codes_of (fold_all u)) first_byte.codes.below (rw l first_bits.0) (rw l first_bits.1) ok.marked fits (rw l first_bits.2) ∙ ap (λ (x : ℕ). bit_or x meta ∷ []) (sym n))
 
-    module _ (l : List ℕ) (long : length l ≡ room) (r : ℕ) (fits : meta < 256) (is : r ≡ number (2 ^ bits_of s) (codes_of (fold_all (take first v)))) where
-      abbrev rest : List ℕ
-      rest = packed_from s 0 (drop first v)
+  none_behind : first ≡ length v → len_of (length behind) s ≡ 0
+  none_behind only = let z : length behind ≡ 0 = rw (behind_is, length-drop) (omega (arith, only)) in ap (λ (n : ℕ). len_of n s) z ∙ len_none s
 
-      pub first_stored : overlay (set l at (bit_or r meta)) (at + 1) rest ≡ overlay l at (packed_from s meta v)
-      first_stored =
-          let x = bit_or r meta in
-          ap (λ (o : List ℕ). overlay o (at + 1) rest) (sym (overlay_one l at x (omega (arith, place_fits))))
-          ∙ overlay_overlay l at (x ∷ []) rest (at + 1) (omega arith) (omega (arith, place_fits))
-          ∙ ap (overlay l at) (sym (packed_cons r fits is))
+  no_rest : first ≡ length v → packed_from s 0 behind ≡ []
+  no_rest only = empty (packed_from s 0 behind) (packed_from_length s 0 behind ∙ none_behind only)
 
-      pub first_compared : same (part at (len_of (length v) s) l) (packed_from s meta v) ≡ eqb (get_or l at 0) (bit_or r meta) && same (part (at + 1) (len_of (length (drop first v)) s) l) rest
-      unfolding same part
-      first_compared =
-          ap₂ (λ (n : ℕ) (q : List ℕ). same (take n (drop at l)) q) rest_size (packed_cons r fits is)
-          ∙ ap (λ (q : List ℕ). same (take (suc (len_of (length (drop first v)) s)) q) (bit_or r meta ∷ rest)) (drop-cons l at 0 (omega (arith, place_fits)))
-          ∙ ap (λ (n : ℕ). eqb (get_or l at 0) (bit_or r meta) && same (take (len_of (length (drop first v)) s) (drop n l)) rest) (sym (add-one at))
+  module _ (l : List ℕ) (long : length l ≡ room) (r : ℕ) (fits : meta < 256) (told : r ≡ number (2 ^ bits_of s) (codes_of (fold_all (take first v)))) where
+    -- what is stored behind the first byte
+    pub behind_lent : WholeBytes s behind (length (set l at (bit_or r meta))) (at + 1)
+    behind_lent = rw (length-set, long) behind_whole
 
-      -- where the first byte is the only one
-      module _ (only : first ≡ length v) where
-        none_behind : length (drop first v) ≡ 0
-        none_behind = length-drop first v ∙ omega (arith, only)
+    pub first_stored : overlay (set l at (bit_or r meta)) (at + 1) (packed_from s 0 behind) ≡ overlay l at (packed_from s meta v)
+    first_stored =
+        let x = bit_or r meta in
+        ap (λ (o : List ℕ). overlay o (at + 1) (packed_from s 0 behind)) (sym (overlay_one l at x (omega (arith, place_fits))))
+        ∙ overlay_overlay l at (x ∷ []) (packed_from s 0 behind) (at + 1) (omega arith) (omega (arith, place_fits))
+        ∙ ap (overlay l at) (sym (packed_cons r fits told))
 
-        no_rest : rest ≡ []
-        no_rest = empty rest (packed_from_length s 0 (drop first v) ∙ ap (λ (n : ℕ). len_of n s) none_behind ∙ len_none s)
+    pub only_stored : first ≡ length v → set l at (bit_or r meta) ≡ overlay l at (packed_from s meta v)
+    only_stored only = sym (overlay_nil (set l at (bit_or r meta)) (at + 1)) ∙ ap (overlay (set l at (bit_or r meta)) (at + 1)) (sym (no_rest only)) ∙ first_stored
 
-        pub only_size : len_of (length v) s ≡ 1
-        only_size = rest_size ∙ ap (λ (n : ℕ). suc (len_of n s)) none_behind ∙ ap suc (len_none s)
+    compared : same (part at (len_of (length v) s) l) (packed_from s meta v) ≡ eqb (get_or l at 0) (bit_or r meta) && same (part (at + 1) (len_of (length behind) s) l) (packed_from s 0 behind)
+    unfolding same part
+    compared =
+        ap₂ (λ (n : ℕ) (q : List ℕ). same (take n (drop at l)) q) behind_size (packed_cons r fits told)
+        ∙ ap (λ (q : List ℕ). same (take (suc (len_of (length behind) s)) q) (bit_or r meta ∷ packed_from s 0 behind)) (drop-cons l at 0 (omega (arith, place_fits)))
+        ∙ ap (λ (n : ℕ). eqb (get_or l at 0) (bit_or r meta) && same (take (len_of (length behind) s) (drop n l)) (packed_from s 0 behind)) (sym (add-one at))
 
-        pub only_stored : set l at (bit_or r meta) ≡ overlay l at (packed_from s meta v)
-        only_stored = sym (overlay_nil (set l at (bit_or r meta)) (at + 1)) ∙ ap (overlay (set l at (bit_or r meta)) (at + 1)) (sym no_rest) ∙ first_stored
+    -- where the first byte is another, where it is equal, and where it is the only one
+    pub first_differs : (get_or l at 0 ≡ bit_or r meta → ⊥) → false ≡ same (part at (len_of (length v) s) l) (packed_from s meta v)
+    first_differs h = sym (compared ∙ rw (ne_eqb _ _ h))
 
-        pub only_compared : true ≡ same (part (at + 1) (len_of (length (drop first v)) s) l) rest
-        unfolding same part
-        only_compared = sym (ap₂ (λ (n : ℕ) (q : List ℕ). same (take (len_of n s) (drop (at + 1) l)) q) none_behind no_rest ∙ ap (λ (n : ℕ). same (take n (drop (at + 1) l)) []) (len_none s))
+    pub behind_compared : get_or l at 0 ≡ bit_or r meta
+        → same (part (at + 1) (len_of (length behind) s) l) (packed_from s 0 behind) ≡ same (part at (len_of (length v) s) l) (packed_from s meta v)
+    behind_compared h = sym (compared ∙ rw (eq-eqb _ _ h))
+
+    pub only_compared : get_or l at 0 ≡ bit_or r meta → first ≡ length v → true ≡ same (part at (len_of (length v) s) l) (packed_from s meta v)
+    unfolding same part
+    only_compared h only = sym (ap₂ (λ (n : ℕ) (q : List ℕ). same (take n (drop (at + 1) l)) q) (none_behind only) (no_rest only)) ∙ behind_compared h

@@ -78,10 +78,10 @@ module _ {s : States} {v : List ℕ} {room at n from to : ℕ} (ok : WholeBytes 
   pub back_lent : WholeBytes s (take (length v - from) (drop from v)) room to × (length (take (length v - from) (drop from v)) % n ≡ 0)
   back_lent = rw back_is (back_whole, rw length-drop p.turns)
 
-  both_sizes : to + len_of (length (drop from v)) s ≡ at + len_of (length v) s
+  pub both_sizes : to + len_of (length (drop from v)) s ≡ at + len_of (length v) s
   both_sizes = rw length-drop (omega (arith, p.place, sizes.0))
 
-  both_packed : packed_from s 0 (take from v) ++ packed_from s 0 (drop from v) ≡ packed_from s 0 v
+  pub both_packed : packed_from s 0 (take from v) ++ packed_from s 0 (drop from v) ≡ packed_from s 0 v
   both_packed = sym (packed_parts s 0 (take from v) (drop from v) back_whole.codes.below back_whole.full (λ h. absurd (omega arith))) ∙ ap (packed_from s 0) (take-append-drop from v)
 
   -- bytes stored behind those of the front
@@ -106,25 +106,9 @@ module _ {s : States} {v : List ℕ} {room at n from to : ℕ} (ok : WholeBytes 
       (part_length bytes at a (omega (arith, p.place, back_whole.fits)) ∙ sym front_packed)
       ∙ ap (λ (k : ℕ). same (part at (len_of k s) bytes) (packed_from s 0 (take from v)) && same (part to b bytes) (packed_from s 0 (drop from v))) (sym front_length)
 
--- two calls that store, of the characters before a place and of those behind it
-module _ {s : States} {v : List ℕ} {room at n from : ℕ} (ok : WholeBytes s v room at) (p : Passed s (length v) at n from (at + len_of from s)) (d : List ℕ) (long : length d ≡ room)
-    {to : ℕ} {out : List ℕ} (first : (to ≡ at + len_of (length (take from v)) s) × (out ≡ overlay d at (packed_from s 0 (take from v)))) where
-  behind : Passed s (length v) at n from to
-  behind = record { within = p.within; turns = p.turns; full = p.full; place = rw (front_length ok p) at first.0 }
-
-  pub second_lent : WholeBytes s (take (length v - from) (drop from v)) (length out) to × (length (take (length v - from) (drop from v)) % n ≡ 0)
-  second_lent = rw (front_stored ok behind d long first.1, long) (back_lent ok behind)
-
-  pub both_stored : {r : ℕ} {all : List ℕ}
-      → (r ≡ to + len_of (length (take (length v - from) (drop from v))) s) × (all ≡ overlay out to (packed_from s 0 (take (length v - from) (drop from v))))
-      → (r ≡ at + len_of (length v) s) × (all ≡ overlay d at (packed_from s 0 v))
-  both_stored second =
-      let h = rw (back_is ok behind) at second in
-      (h.0 ∙ both_sizes ok behind, h.1 ∙ behind_stored ok behind d (packed_from s 0 (drop from v)) long first.1 ∙ ap (overlay d at) (both_packed ok behind))
-
 -- ---- turns of so many characters
 
-pub passed_start : (s : States) {w at n to : ℕ} → w % n ≡ 0 → to ≡ at → Passed s w at n 0 to
+passed_start : (s : States) {w at n to : ℕ} → w % n ≡ 0 → to ≡ at → Passed s w at n 0 to
 passed_start s e f = record { within = omega arith; turns = rw sub-zero e; full = rw (len_none s) (zero-mul (per_byte s)); place = rw (len_none s) (omega arith) }
 
 pub packed_none : (s : States) → packed_from s 0 [] ≡ []
@@ -202,8 +186,8 @@ pub record Stored (s : States) (v d : List ℕ) (at n : ℕ) (out : List ℕ) (f
   pub passed : Passed s (length v) at n from to
   pub bytes : out ≡ overlay d at (packed_from s 0 (take from v))
 
-pub stored_start : (s : States) {v d : List ℕ} {at n to : ℕ} → length v % n ≡ 0 → to ≡ at → Stored s v d at n d 0 to
-stored_start s {d = d} {at} e f = record { passed = passed_start s e f; bytes = rw packed_none (sym (overlay_nil d at)) }
+pub stored_start : (s : States) {v d : List ℕ} {at n : ℕ} → length v % n ≡ 0 → Stored s v d at n d (0 * n) at
+stored_start s {d = d} {at} e = rw zero-mul (record { passed = passed_start s e refl; bytes = rw packed_none (sym (overlay_nil d at)) })
 
 module _ {s : States} {v d : List ℕ} {at n : ℕ} (ok : WholeBytes s v (length d) at) {out : List ℕ} {from to : ℕ} (h : Stored s v d at n out from to) where
   pub stored_long : length out ≡ length d
@@ -225,9 +209,6 @@ module _ {s : States} {v d : List ℕ} {at n : ℕ} (ok : WholeBytes s v (length
 pub record Agrees (s : States) (v bytes : List ℕ) (at n from to : ℕ) : Type 0 where
   pub passed : Passed s (length v) at n from to
   pub left : agree s bytes to (drop from v) ≡ agree s bytes at v
-
-pub agrees_start : (s : States) {v bytes : List ℕ} {at n to : ℕ} → length v % n ≡ 0 → to ≡ at → Agrees s v bytes at n 0 to
-agrees_start s {v} {bytes} e f = record { passed = passed_start s e f; left = ap (λ (k : ℕ). agree s bytes k v) f }
 
 pub agrees_end : {s : States} {v bytes : List ℕ} {at n from to : ℕ} → Agrees s v bytes at n from to → length v ≤ from → true ≡ agree s bytes at v
 unfolding same

@@ -1,6 +1,7 @@
 -- Inner: strings of at most eight characters as one word.
 -- Assumes nothing.
-use Rattle.std.specs.Prelude.{ℕ, ◌-◌, ◌^◌, ◌≡◌, Bool, cond, List, map, ◌++◌, eqb, length, replicate, Option, Some, None, MatchOption}
+use Rattle.std.specs.Prelude.{ℕ, ◌-◌, ◌/◌, ◌^◌, ◌<◌, ◌≡◌, Bool, cond, List, map, ◌++◌, eqb, length, replicate, Option, Some, None, MatchOption}
+use Rattle.std.specs.Int.Bits.{bit_and, bit_or}
 use Rattle.value.specs.Digits.{number, digits}
 use Rattle.value.specs.Level.{fold_all, codes_of, bits_of}
 use Rattle.value.specs.Answer.{least_states}
@@ -26,3 +27,10 @@ pub record Told (value : List ℕ) (t : Scanned) : Type 0 where
 -- both, or that a character is foreign
 abbrev pub Scan : List ℕ → Option Scanned → Type 0
 Scan value r = MatchOption r (least_states value ≡ None) (Told value)
+
+-- a step of a squeeze, as a shift and a mask: the shift is within a word, and what the step makes of a number
+abbrev pub InWord : ℕ × ℕ → Type 0
+InWord step = step.0 < 64
+
+abbrev pub pushed_by : ℕ → ℕ × ℕ → ℕ
+pushed_by x step = bit_and (bit_or x (x / 2 ^ step.0)) step.1

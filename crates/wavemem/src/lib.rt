@@ -20,6 +20,7 @@ mod table;
 mod turns;
 
 // The byte of so few characters that one byte holds them.
+#[tactic(auto, using(crate::proofs::Packing::byte_small))]
 fn byte_from_ascii(states: States, value: &[u8]) -> u8
     requires { OneByte states value.now }
     ensures { result ≡ number (2 ^ bits_of states) (codes_of (fold_all value.now)) }
@@ -28,6 +29,7 @@ fn byte_from_ascii(states: States, value: &[u8]) -> u8
 }
 
 // Eight bytes as one number, the first one highest.
+#[tactic(auto, using(crate::proofs::Words::be_number))]
 pub fn word(value: &[u8]) -> u64
     requires { length value.now ≡ 8 }
     ensures { result ≡ number 256 value.now }
@@ -39,6 +41,7 @@ pub fn word(value: &[u8]) -> u64
 }
 
 // The number of at most 64 characters 0 and 1, by their lowest bits.
+#[tactic(auto, unfolding(value::specs::Digits::number))]
 fn few_bits(value: &[u8]) -> u64
     requires { OneWord States.Two value.now }
     ensures { result ≡ number 2 (codes_of (fold_all value.now)) }
@@ -125,6 +128,7 @@ fn first_count(states: States, width: usize) -> usize
 }
 
 // Stores the levels of a string from a place on, with meta data in the top of the first byte. Returns the place behind them.
+#[tactic(auto, using(crate::proofs::Packing::behind_size, crate::proofs::Packing::first_stored, crate::proofs::Packing::only_stored))]
 pub fn write_n_state_from_ascii(
     states: States,
     value: &[u8],
@@ -148,6 +152,7 @@ pub fn write_n_state_from_ascii(
 }
 
 // Whether the bytes from a place on are those that `write_n_state_from_ascii` would store there.
+#[tactic(auto, using(crate::proofs::Packing::first_differs, crate::proofs::Packing::behind_compared, crate::proofs::Packing::only_compared))]
 pub fn equals_n_state_from_ascii(
     states: States,
     value: &[u8],

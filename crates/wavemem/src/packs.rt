@@ -41,6 +41,7 @@ impl Packs<8, 1> for TwoByWords {
 
     ghost fills = { Prim.search rules };
 
+    #[tactic(auto, using(crate::proofs::Words::word_bytes, value::proofs::Digits::below_all))]
     fn pack(&self, chars: &[u8; 8]) -> [u8; 1] {
         [two_of_word(word(chars)) as u8]
     }
@@ -55,6 +56,7 @@ impl Packs<8, 2> for FourByWords {
 
     ghost fills = { Prim.search rules };
 
+    #[tactic(auto, using(crate::proofs::Words::word_bytes, value::proofs::Digits::below_all, crate::proofs::Blocks::word_small, crate::proofs::Blocks::two_bytes))]
     fn pack(&self, chars: &[u8; 8]) -> [u8; 2] {
         (four_of_word(word(chars)) as u16).to_be_bytes()
     }
@@ -77,6 +79,7 @@ impl Packs<32, 16> for NineByBlocks {
 
 // The code of a character that is not foreign, each of its four bits by bits of the character: no load and no jump, so that a loop over
 // it is compiled to wide instructions.
+#[tactic(auto, using(crate::proofs::Blocks::by_bits_lem))]
 fn code_by_bits(c: u8) -> u8
     ensures { code_of (fold c) < 9 → result ≡ code_of (fold c) }
 {
@@ -93,6 +96,7 @@ fn code_by_bits(c: u8) -> u8
 }
 
 // The codes of 32 characters.
+#[tactic(auto, using(value::proofs::Slices::overlay_nil, crate::proofs::Blocks::code_filled, crate::proofs::Blocks::all_filled))]
 fn codes_of_block(chars: &[u8; 32]) -> [u8; 32]
     requires { Below 9 (codes_of (fold_all chars.now)) }
     ensures { result ≡ codes_of (fold_all chars.now) }
@@ -105,6 +109,7 @@ fn codes_of_block(chars: &[u8; 32]) -> [u8; 32]
 }
 
 // The bytes of 32 levels of the set Nine.
+#[tactic(auto, using(crate::proofs::Blocks::pairs_none, crate::proofs::Blocks::pair_stored, crate::proofs::Blocks::pairs_all, value::proofs::Slices::overlay_nil))]
 fn join_pairs(codes: [u8; 32]) -> [u8; 16]
     requires { Below 16 codes }
     ensures { result ≡ packed_with 4 0 codes }

@@ -24,6 +24,7 @@ fn levels_for(states: States, value: &[u8], size: usize) -> u64
 }
 
 // Of a string for an entry of a size.
+#[tactic(auto, using(crate::proofs::Scanning::codes_told))]
 pub fn scan(value: &[u8], size: usize) -> Option<Scanned>
     requires { length value.now ≤ 4096 }
     ensures { ScanFor value.now size result }

@@ -1,9 +1,9 @@
 // Strings of at most eight characters, each read once, as one word: the first character in the highest byte.
-ghost use Rattle.std.specs.Prelude.{◌≡◌, ◌≤◌, length, map};
+ghost use Rattle.std.specs.Prelude.{◌≡◌, ◌≤◌, All, fold, length, map};
 ghost use Rattle.value.specs.Digits.{number, digits, Below};
 ghost use Rattle.value.specs.Level.{fold_all, codes_of};
 ghost use Rattle.value.specs.Answer.{holds_one};
-ghost use Rattle.wavemem.specs.Short.{padded, zeros, marks, Scan};
+ghost use Rattle.wavemem.specs.Short.{padded, zeros, marks, Scan, InWord, pushed_by};
 
 use crate::word;
 use value::States;
@@ -16,6 +16,7 @@ pub struct Scanned {
 }
 
 // The word of a string, with characters 0 in front of a shorter one.
+#[tactic(auto, using(crate::proofs::Words::padded_more, value::proofs::Digits::below_all), unfolding(value::specs::Digits::number))]
 fn padded_word(value: &[u8]) -> u64
     requires { length value.now ≤ 8 }
     ensures { result ≡ number 256 (padded value.now) }
@@ -31,6 +32,7 @@ fn padded_word(value: &[u8]) -> u64
 }
 
 // Levels of one bit, a byte apart, pushed together: with no masks between the steps, so that a loop over words is compiled to wide instructions.
+#[tactic(auto, using(crate::proofs::Squeeze::bits_squeezed))]
 fn squeeze_1(x: u64) -> u64
     requires { Below 2 (digits 256 8 x) }
     ensures { result ≡ number 2 (digits 256 8 x) }
@@ -40,14 +42,31 @@ fn squeeze_1(x: u64) -> u64
     (z | (z >> 28)) & 255
 }
 
+// Lanes pushed together by steps, each a shift that joins neighbours and a mask of what they make.
+pub fn squeeze<const STEPS: usize>(x: u64, steps: &[(u32, u64); STEPS]) -> u64
+    requires { All InWord steps.now }
+    ensures { result ≡ fold pushed_by x steps.now }
+{
+    let mut y = x;
+    for (shift, mask) in steps {
+        y = (y | (y >> *shift)) & *mask;
+    }
+    y
+}
+
 // Levels of two bits, where masks are needed.
 fn squeeze_2(x: u64) -> u64
     requires { Below 4 (digits 256 8 x) }
     ensures { result ≡ number 4 (digits 256 8 x) }
 {
-    let y = (x | (x >> 6)) & 0x000f_000f_000f_000f;
-    let z = (y | (y >> 12)) & 0x0000_00ff_0000_00ff;
-    (z | (z >> 24)) & 0xffff
+    squeeze(
+        x,
+        &[
+            (6, 0x000f_000f_000f_000f),
+            (12, 0x0000_00ff_0000_00ff),
+            (24, 0xffff),
+        ],
+    )
 }
 
 // Levels of four bits.
@@ -55,12 +74,18 @@ fn squeeze_4(x: u64) -> u64
     requires { Below 16 (digits 256 8 x) }
     ensures { result ≡ number 16 (digits 256 8 x) }
 {
-    let y = (x | (x >> 4)) & 0x00ff_00ff_00ff_00ff;
-    let z = (y | (y >> 8)) & 0x0000_ffff_0000_ffff;
-    (z | (z >> 16)) & 0xffff_ffff
+    squeeze(
+        x,
+        &[
+            (4, 0x00ff_00ff_00ff_00ff),
+            (8, 0x0000_ffff_0000_ffff),
+            (16, 0xffff_ffff),
+        ],
+    )
 }
 
 // The number of eight characters 0 1.
+#[tactic(auto, using(crate::proofs::Codes::two_codes))]
 pub fn two_of_word(w: u64) -> u64
     requires { Below 2 (codes_of (fold_all (digits 256 8 w))) }
     ensures { result ≡ number 2 (codes_of (fold_all (digits 256 8 w))) }
@@ -69,6 +94,7 @@ pub fn two_of_word(w: u64) -> u64
 }
 
 // The number of eight characters 0 1 x z. Bits tell each one's code.
+#[tactic(auto, using(crate::proofs::Codes::four_codes))]
 pub fn four_of_word(w: u64) -> u64
     requires { Below 4 (codes_of (fold_all (digits 256 8 w))) }
     ensures { result ≡ number 4 (codes_of (fold_all (digits 256 8 w))) }
@@ -77,6 +103,7 @@ pub fn four_of_word(w: u64) -> u64
 }
 
 // The number of eight characters 0 1 x z h u w l -, each bit of the codes by itself.
+#[tactic(auto, using(crate::proofs::Codes::nine_codes, value::proofs::Digits::below_mono))]
 fn nine_of_word(w: u64) -> u64
     requires { Below 9 (codes_of (fold_all (digits 256 8 w))) }
     ensures { result ≡ number 16 (codes_of (fold_all (digits 256 8 w))) }
@@ -94,6 +121,7 @@ fn nine_of_word(w: u64) -> u64
 }
 
 // The top bit of each byte that is not 0.
+#[tactic(auto, using(crate::proofs::Marks::set_told))]
 fn set_bytes(x: u64) -> u64
     ensures { result ≡ marks (zeros x) }
 {
@@ -101,6 +129,7 @@ fn set_bytes(x: u64) -> u64
 }
 
 // A byte 0 for each character 0 1, and another for every other byte.
+#[tactic(auto, using(crate::proofs::Marks::two_told))]
 fn beside_two(w: u64) -> u64
     ensures { zeros result ≡ map (holds_one 2) (digits 256 8 w) }
 {
@@ -108,6 +137,7 @@ fn beside_two(w: u64) -> u64
 }
 
 // The top bit of each byte that is no character 0 1 x z.
+#[tactic(auto, using(crate::proofs::Marks::four_told))]
 fn beside_four(w: u64) -> u64
     ensures { result ≡ marks (map (holds_one 4) (digits 256 8 w)) }
 {
@@ -116,6 +146,7 @@ fn beside_four(w: u64) -> u64
 }
 
 // The top bit of each foreign byte. The compiler shares what it has of `beside_four` already.
+#[tactic(auto, using(crate::proofs::Marks::nine_told))]
 fn beside_nine(w: u64) -> u64
     ensures { result ≡ marks (map (holds_one 9) (digits 256 8 w)) }
 {
@@ -127,6 +158,7 @@ fn beside_nine(w: u64) -> u64
 }
 
 // The least set of eight characters, and the number of their levels.
+#[tactic(auto, using(crate::proofs::Marks::all_held, crate::proofs::Marks::not_held, crate::proofs::Marks::all_marked, crate::proofs::Marks::not_marked, value::proofs::Classes::is_two, value::proofs::Classes::is_four, value::proofs::Classes::is_nine, value::proofs::Classes::is_foreign_lem))]
 fn scan_word(w: u64) -> Option<Scanned>
     ensures { Scan (digits 256 8 w) result }
 {
@@ -152,6 +184,7 @@ fn scan_word(w: u64) -> Option<Scanned>
 }
 
 // The least set of a string, and the number of its levels: characters 0 in front change neither.
+#[tactic(auto, using(crate::proofs::Scans::padded_scan, value::proofs::Digits::below_all))]
 pub fn scan_short(value: &[u8]) -> Option<Scanned>
     requires { length value.now ≤ 8 }
     ensures { Scan value.now result }

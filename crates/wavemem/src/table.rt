@@ -6,13 +6,13 @@ ghost use Rattle.wavemem.specs.Packed.{OneWord, ByLowBits};
 
 use value::States;
 
-// The code of a letter.
-fn code_of(letter: u8) -> u8
-    requires { code_of (fold letter) < 9 }
-    ensures { result ≡ code_of (fold letter) }
+// The code of a character, and 9 of a foreign byte.
+#[tactic(auto, using(crate::proofs::Packing::code_told))]
+fn code_of(value: u8) -> u8
+    ensures { result ≡ code_of (fold value) }
 {
-    let Some(code) = value::bit_char_to_num(letter) else {
-        unreachable!();
+    let Some(code) = value::bit_char_to_num(value) else {
+        return 9;
     };
     code
 }
@@ -26,7 +26,6 @@ pub struct Table {
 
 impl Table {
     // The compiler works it out, so that no jump of the match is left.
-    #[tactic(auto, unfolding(value::specs::Level::code_of, value::specs::Level::place_in, value::specs::Level::fold))]
     pub fn new() -> Table {
         let u = code_of(b'U');
         let x = code_of(b'X');
@@ -43,6 +42,7 @@ impl Table {
     }
 
     // The number of so few characters that 64 bits hold their levels. None is foreign.
+    #[tactic(auto, using(crate::proofs::Packing::low_from, crate::proofs::Packing::low_within), unfolding(value::specs::Digits::number))]
     pub fn number(&self, states: States, value: &[u8]) -> u64
         requires { OneWord states value.now }
         ensures { result ≡ number (2 ^ bits_of states) (codes_of (fold_all value.now)) }

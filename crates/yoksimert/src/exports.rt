@@ -44,13 +44,13 @@ fn read(
     ensures { told_entry result ≡ flat_read flat bytes.now byte_start entry }
 {
     let description = Description::try_from(flat)?;
+    let size = description.encoding.size();
     let record = Record {
         description,
         bytes,
         byte_start,
     };
     let answer = record.read_entry(entry)?;
-    let size = description.encoding.size();
     let end = byte_start + (entry as usize * size + size);
     let length = answer.part.len();
     Ok(FlatEntry {

@@ -4,14 +4,9 @@ use mathlib.Core.Path.{refl, ◌∙◌}
 use native.Mathlib.Omega.{arith}
 use Prim.Native.Nat.{◌<◌}
 use lib.ListN.{length, get_or}
-use Rattle.value.specs.Digits.{number}
 use Rattle.value.proofs.Classes.{binary_bit}
 use Rattle.wavemem.proofs.Packing.{code_below, next_code}
 use Rattle.wavemem.proofs.few_bits.Goals as goal
-
-pub loop-c-init : goal.loop-c-init
-unfolding number
-loop-c-init c = refl
 
 pub loop-c-preserved : goal.loop-c-preserved
 loop-c-preserved c =
@@ -20,4 +15,4 @@ loop-c-preserved c =
     let ok = c.requires in
     next_code ok i more 1 c.loop-c.working _ refl c.loop-c.invariant
     (c.from-bit.ensures
-    ∙ binary_bit (get_or c.args.value.now i 0) (omega (arith, c.type_inv.value i)) (code_below ok i more 2 ok.codes.below))
+    ∙ binary_bit (get_or c.args.value.now i 0) (omega (arith, c.type_inv.value i)) (code_below 2 c.args.value.now i ok.codes.below more))

@@ -1,5 +1,6 @@
 -- `wavemem::short::squeeze_2` meets its contract.
 -- Assumes nothing.
+use mathlib.Core.Path.{◌∙◌}
 use native.Mathlib.Omega.{arith}
 use Rattle.value.specs.Digits.{number}
 use Rattle.wavemem.proofs.Squeeze.{squeezed}
@@ -7,4 +8,4 @@ use Rattle.wavemem.proofs.short.squeeze_2.Goals as goal
 
 pub returns : goal.returns
 unfolding number
-returns c = squeezed 3 8 2 c.args.x (omega arith) (omega arith) c.requires
+returns c = c.squeeze.ensures ∙ squeezed 3 8 2 c.args.x (omega arith) (omega arith) c.requires

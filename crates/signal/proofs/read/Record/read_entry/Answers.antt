@@ -11,6 +11,3 @@ has c = record { sound = sym c.is_bad_bytes.ensures ∙ c.if-is_bad_bytes.false;
 
 pub entry_at-requires : goal.entry_at-requires
 entry_at-requires c = inside (has (goal.at.entry_at-requires c).Else-self-entry)
-
-pub entry_answer-requires : goal.entry_answer-requires
-entry_answer-requires c = rw c.entry_at.ensures (whole (has (goal.at.entry_answer-requires c).Else-self-entry))

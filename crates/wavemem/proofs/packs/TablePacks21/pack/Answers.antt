@@ -2,16 +2,11 @@
 -- Assumes nothing.
 use native.Mathlib.Omega.{arith}
 use Rattle.value.specs.declared.States.TheVariants.{Nine}
-use Rattle.wavemem.specs.Packed.{OneByte}
-use Rattle.wavemem.proofs.Packing.{byte_small, one_packed}
-use Rattle.wavemem.proofs.packs.TablePacks21.pack.Goals.{Start}
+use Rattle.wavemem.proofs.Packing.{turn_small, turn_byte}
 use Rattle.wavemem.proofs.packs.TablePacks21.pack.Goals as goal
 
-one : (s : Start) → OneByte Nine s.args.chars.now
-one s = record { codes = s.requires; short = omega arith }
-
 pub overflow_cast-result : goal.overflow_cast-result
-overflow_cast-result c = omega (arith, c.number.ensures, byte_small (one (goal.at.overflow_cast-result c).Start))
+overflow_cast-result c = omega (arith, turn_small Nine c.args.chars.now c.requires (omega arith) c.number.ensures)
 
 pub returns : goal.returns
-returns c = one_packed Nine c.args.chars.now (one (goal.at.returns c).Start) (omega arith) c.number.ensures
+returns c = turn_byte Nine c.args.chars.now c.requires (omega arith) c.number.ensures (omega arith)

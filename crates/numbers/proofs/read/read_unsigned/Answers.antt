@@ -1,9 +1,9 @@
--- `numbers::read::read_binary` meets its contract.
+-- `numbers::read::read_unsigned` meets its contract.
 -- Assumes nothing.
 use mathlib.Core.Path.{◌∙◌}
 use Rattle.signal.proofs.Reading.{vector_given}
 use Rattle.numbers.proofs.Replies.{vector_told, read_on_lem}
-use Rattle.numbers.proofs.read.read_binary.Goals as goal
+use Rattle.numbers.proofs.read.read_unsigned.Goals as goal
 
 pub returns : goal.returns
 returns c =
