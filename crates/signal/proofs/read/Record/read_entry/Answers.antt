@@ -1,7 +1,7 @@
 -- `signal::read::Record::read_entry` meets its contract.
 -- Assumes nothing.
 use mathlib.Core.Path.{sym, ◌∙◌}
-use Rattle.signal.proofs.Reading.{HasEntry, inside, whole}
+use Rattle.signal.proofs.Reading.{HasEntry, inside}
 use Rattle.signal.proofs.read.Record.read_entry.Goals.{Else-self-entry}
 use Rattle.signal.proofs.read.Record.read_entry.Goals as goal
 
