@@ -10,10 +10,10 @@ fn derivation(line: &mut Line) -> Result<DerivedBitVecSignal, Otherwise> {
     let width = line.number()?;
     let input_count = line.number()?;
     let mut inputs = [0; 8];
-    line.list(&mut inputs)?;
+    line.fill(&mut inputs)?;
     let piece_count = line.number()?;
     let mut bits = [0; 64];
-    line.list(&mut bits)?;
+    line.fill(&mut bits)?;
     Ok(DerivedBitVecSignal {
         width,
         input_count,

@@ -37,15 +37,15 @@ impl Room {
 // ---- descriptions
 
 pub fn description(line: &mut Line) -> Result<Description, Otherwise> {
-    let kind = line.field()?;
+    let kind = line.field();
     let width = line.number()?;
     let mark: u8 = line.number()?;
     let max_states = States::try_from(mark).map_err(|_| Otherwise)?;
     let count = line.number()?;
     let encoding = match kind {
-        "e" => Encoding::Event,
-        "r" => Encoding::Real,
-        "b" => Encoding::BitVector { width, max_states },
+        [b'e'] => Encoding::Event,
+        [b'r'] => Encoding::Real,
+        [b'b'] => Encoding::BitVector { width, max_states },
         _ => return Err(Otherwise),
     };
     Ok(Description::new(encoding, count))
@@ -96,12 +96,12 @@ pub fn add(line: &mut Line) -> Result<(), Otherwise> {
     let indices = line.list(&mut room.indices)?;
     let index_start = line.number()?;
     let index = line.number()?;
-    let added = match line.field()? {
-        "t" => {
+    let added = match line.field() {
+        [b't'] => {
             let value = line.list(&mut value)?;
             record.add_change(bytes, byte_start, indices, index_start, index, value)
         }
-        "r" => {
+        [b'r'] => {
             let bits = line.number()?;
             record.add_real(bytes, byte_start, indices, index_start, index, bits)
         }

@@ -5,6 +5,7 @@ use mathlib.Core.Bool.{Bool, true, false, cond, not, ◌&&◌, ◌||◌, true≢
 use mathlib.Core.List.{List, [], ◌∷◌, ◌++◌, map, map-append}
 use Prim.Native.Nat.{ℕ, zero, suc, ◌+◌, ◌-◌, ◌≤◌, ◌<◌}
 use native.Mathlib.Nat.{zero-add}
+use native.Mathlib.Numerals.{add-one}
 use native.Mathlib.Omega.{arith}
 use borrow.Author.Tests.{ltb-false, leb-false, lt-ltb, le-ltb, le-leb, lt-leb}
 use lib.Dec.{leb, ltb}
@@ -192,18 +193,49 @@ module _ {d : DerivedBitVecSignal} {side : Side} {e : Extract} (j : Joining side
   pub some_piece : merges side e (pieces_of d) ≡ true → 0 < d.piece_count
   some_piece t = merges_some d.bits d.piece_count fitting e side t
 
-  -- the fields of a derivation that a piece has joined
-  pub piece_put : (n : ℕ) (l : List ℕ) → n ≡ cond (merges side e (pieces_of d)) d.piece_count (suc d.piece_count)
-      → l ≡ overlay d.bits 0 (map packed_of (piece_added side e (pieces_of d)))
-      → ◌≡◌ {A = DerivedBitVecSignal}
+  -- a derivation with the piece on a side, by its number of pieces and their packed numbers
+  abbrev Put : Side → ℕ → List ℕ → Type 0
+  Put s n l =
+      ◌≡◌ {A = DerivedBitVecSignal}
       (record { width = d.width + e.width; input_count = d.input_count; inputs = d.inputs; piece_count = n; bits = l })
-      (with_pieces d (piece_added side e (pieces_of d)))
-  piece_put n l count q =
-      let w : d.width + e.width ≡ sum (map piece_width (piece_added side e (pieces_of d))) = rw (sum_added side e (pieces_of d)) (omega (arith, j.whole)) in
-      let z : n ≡ length (piece_added side e (pieces_of d)) =
-      count ∙ ap (λ (k : ℕ). cond (merges side e (pieces_of d)) k (suc k)) (sym (count_is d.bits d.piece_count fitting))
-      ∙ sym (length_added side e (pieces_of d)) in
+      (with_pieces d (piece_added s e (pieces_of d)))
+
+  piece_put : (s : Side) (n : ℕ) (l : List ℕ) → n ≡ cond (merges s e (pieces_of d)) d.piece_count (suc d.piece_count)
+      → l ≡ overlay d.bits 0 (map packed_of (piece_added s e (pieces_of d))) → Put s n l
+  piece_put s n l count q =
+      let w : d.width + e.width ≡ sum (map piece_width (piece_added s e (pieces_of d))) = rw (sum_added s e (pieces_of d)) (omega (arith, j.whole)) in
+      let z : n ≡ length (piece_added s e (pieces_of d)) =
+      count ∙ ap (λ (k : ℕ). cond (merges s e (pieces_of d)) k (suc k)) (sym (count_is d.bits d.piece_count fitting))
+      ∙ sym (length_added s e (pieces_of d)) in
       λ i. record { width = w i; input_count = d.input_count; inputs = d.inputs; piece_count = z i; bits = q i }
+
+  -- what is shown of a side is shown of the piece's
+  module _ {s : Side} (is : side ≡ s) {b : Bool} (told : merges side e (pieces_of d) ≡ b) where
+    abbrev there : merges s e (pieces_of d) ≡ b
+    there = ap (λ (t : Side). merges t e (pieces_of d)) (sym is) ∙ told
+
+    put_there : (n : ℕ) (l : List ℕ) → n ≡ cond b d.piece_count (suc d.piece_count)
+        → l ≡ overlay d.bits 0 (map packed_of (piece_added s e (pieces_of d))) → Put side n l
+    put_there n l count q =
+        piece_put s n l (count ∙ ap (λ (t : Bool). cond t d.piece_count (suc d.piece_count)) (sym there)) q
+        ∙ ap (λ (t : Side). with_pieces d (piece_added t e (pieces_of d))) (sym is)
+
+  module _ (merging : merges side e (pieces_of d) ≡ true) where
+    pub merged_left_put : side ≡ Left → Put side d.piece_count (set d.bits 0 (packed_of (merged e (extract_of (get_or d.bits 0 0)))))
+    merged_left_put is = put_there is merging d.piece_count _ refl (put_left_one d.bits d.piece_count e fitting (there is merging))
+
+    pub merged_right_put : side ≡ Right
+        → Put side d.piece_count (set d.bits (d.piece_count - 1) (packed_of (merged (extract_of (get_or d.bits (d.piece_count - 1) 0)) e)))
+    merged_right_put is = put_there is merging d.piece_count _ refl (put_right_one d.bits d.piece_count fitting e (there is merging))
+
+  module _ (apart : merges side e (pieces_of d) ≡ false) where
+    pub left_put : side ≡ Left → Put side (d.piece_count + 1) (overlay d.bits 0 (packed_of e ∷ take d.piece_count d.bits))
+    left_put is = put_there is apart (d.piece_count + 1) _ (add-one d.piece_count) (put_left_more d.bits d.piece_count fitting e (there is apart))
+
+    pub right_put : side ≡ Right → Put side (d.piece_count + 1) (set d.bits d.piece_count (packed_of e))
+    right_put is =
+        put_there is apart (d.piece_count + 1) _ (add-one d.piece_count)
+        (put_right_more d.bits d.piece_count fitting e (there is apart) (omega (arith, j.sized.bits, j.unmerged apart)))
 
 module _ {d : DerivedBitVecSignal} {number name : ℕ} (n : Named d number name) where
   names_are : length (names_of d) ≡ d.input_count

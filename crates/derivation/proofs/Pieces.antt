@@ -3,7 +3,7 @@
 use mathlib.Core.Path.{◌≡◌, refl, sym, ap, ap₂, ◌∙◌}
 use mathlib.Core.Bool.{Bool, true, false, cond, not, ◌&&◌, ◌||◌, true≢false}
 use mathlib.Core.List.{List, [], ◌∷◌, ◌++◌, map, map-append}
-use Prim.Native.Nat.{ℕ, suc, ◌+◌, ◌*◌, ◌/◌, ◌%◌, ◌^◌, ◌≤◌, ◌<◌}
+use Prim.Native.Nat.{ℕ, zero, suc, ◌+◌, ◌-◌, ◌*◌, ◌/◌, ◌%◌, ◌^◌, ◌≤◌, ◌<◌}
 use native.Mathlib.Omega.{arith}
 use borrow.Author.Tests.{ltb-false, leb-false, eqb-true, eqb-false, lt-ltb, le-ltb, lt-leb, eq-eqb, ne_eqb, not-false}
 use lib.Dec.{eqb, leb, ltb}
@@ -15,12 +15,12 @@ use Rattle.value.specs.Slice.{part, any, sum}
 use Rattle.value.specs.Level.{place_in}
 use Rattle.value.proofs.Slices.{part_overlay, overlay_length, any_append}
 use Rattle.value.proofs.Tests.{or_left, or_right, or_both, by_le}
-use Rattle.fst.specs.Refusal.{◌⇐◌, given, tried, Outcome, outcome}
+use Rattle.fst.specs.Refusal.{◌⇐◌, given, refused, tried, Outcome, outcome}
 use Rattle.derivation.specs.declared.Extract.{Extract}
 use Rattle.derivation.specs.declared.DerivedBitVecSignal.{DerivedBitVecSignal}
 use Rattle.derivation.specs.declared.Side.{Side}
 use Rattle.derivation.specs.declared.Side.TheVariants.{Left, Right}
-use Rattle.derivation.specs.Piece.{Sized, packed_of, extract_of, end_of, pieces_of, names_of, is_bad_piece, piece_width, is_bad_derivation, adjoin, merged, merging, piece_added, name_added, piece_of, derivation_with, is_bad_range, is_overfull, add_piece}
+use Rattle.derivation.specs.Piece.{Sized, packed_of, extract_of, end_of, pieces_of, names_of, is_bad_piece, piece_width, is_bad_derivation, adjoin, merged, merging, piece_added, name_added, piece_of, derivation_with, is_bad_range, is_overfull, add_piece, add_full, identity_of, slice_of, empty_derivation}
 
 -- ---- packing
 
@@ -318,3 +318,25 @@ module _ (d : DerivedBitVecSignal) (side : Side) (name msb lsb : ℕ) where
       (good_among d.input_count (length new) (omega (arith, names_length (names_of d) name)) (pieces_of d) s.pieces)
       (is_good_piece (length new) (piece_of d name msb lsb) (omega arith) (place_below (names_of d) name) (omega arith)) in
       rw (accepted d side name msb lsb n.0 n.1 n.2) (leaves d z new ps n.2 fine)
+
+-- ---- all wires of a signal
+
+pub full_wide : (d : DerivedBitVecSignal) (side : Side) (name w : ℕ) → 0 < w → add_full d side name w ≡ add_piece d side name (w - 1) 0
+unfolding add_full
+full_wide d side name zero h = absurd (omega arith)
+full_wide d side name (suc w) h = let n : w ≡ suc w - 1 = omega arith in ap (λ (k : ℕ). add_piece d side name k 0) n
+
+pub full_none : (d : DerivedBitVecSignal) (side : Side) (name w : ℕ) → w ≤ 0 → add_full d side name w ≡ outcome d (tried (14 ⇐ is_bad_derivation d ∷ []) (given d))
+unfolding add_full
+full_none d side name zero h = refl
+full_none d side name (suc w) h = absurd (omega arith)
+
+pub identity_wide : (name w : ℕ) → 0 < w → identity_of name w ≡ slice_of name (w - 1) 0
+unfolding identity_of
+identity_wide name zero h = absurd (omega arith)
+identity_wide name (suc w) h = let n : w ≡ suc w - 1 = omega arith in ap (λ (k : ℕ). slice_of name k 0) n
+
+pub identity_none : (name w : ℕ) → w ≤ 0 → identity_of name w ≡ outcome empty_derivation (refused 12)
+unfolding identity_of
+identity_none name zero h = refl
+identity_none name (suc w) h = absurd (omega arith)

@@ -16,6 +16,7 @@ const MAX_INPUTS: u32 = 8;
 const MAX_PIECES: u32 = 64;
 
 // Puts a number in front of the first `count`, which move up by one.
+#[tactic(auto, using(crate::proofs::Walks::shifted))]
 fn insert_first(bits: &mut [u64; 64], count: usize, value: u64)
     requires { (count < 64) × (length bits.old ≡ 64) }
     ensures { bits.new ≡ overlay bits.old 0 (value ∷ take count bits.old) }
@@ -105,6 +106,7 @@ impl DerivedBitVecSignal {
     }
 
     // The piece of bits msb to lsb of a name, which gets the next number where it is new.
+    #[tactic(auto, using(crate::proofs::Pieces::good_range, crate::proofs::Walks::number_known, crate::proofs::Walks::number_missing))]
     fn make_extract(&self, signal: u32, msb: u32, lsb: u32) -> Extract
         requires { is_bad_range msb lsb ≡ false }
         ensures { result ≡ piece_of self.now signal msb lsb }
@@ -126,7 +128,7 @@ impl DerivedBitVecSignal {
     }
 
     // Whether a piece merges with its neighbour.
-    #[tactic(auto, using(crate::proofs::Joins::merges_empty))]
+    #[tactic(auto, using(crate::proofs::Joins::merges_empty, crate::proofs::Joins::merges_left, crate::proofs::Joins::merges_right))]
     fn merges(&self, side: Side, extract: Extract) -> bool
         ensures { result ≡ merges side extract (pieces_of self.now) }
     {
@@ -148,6 +150,7 @@ impl DerivedBitVecSignal {
     }
 
     // The piece and its neighbour become one.
+    #[tactic(auto, using(crate::proofs::Joins::some_piece, crate::proofs::Joins::narrow_at, crate::proofs::Joins::merged_left_put, crate::proofs::Joins::merged_right_put))]
     fn merge(&mut self, side: Side, extract: Extract)
         requires joining { Joining side self.old extract }
         requires merging { merges side extract (pieces_of self.old) ≡ true }
@@ -168,6 +171,7 @@ impl DerivedBitVecSignal {
     }
 
     // The piece takes a place of its own.
+    #[tactic(auto, using(crate::proofs::Joins::left_put, crate::proofs::Joins::right_put))]
     fn insert(&mut self, side: Side, extract: Extract)
         requires joining { Joining side self.old extract }
         requires apart { merges side extract (pieces_of self.old) ≡ false }
@@ -195,6 +199,7 @@ impl DerivedBitVecSignal {
     }
 
     // Keeps the name of an input's number, where that is the next number.
+    #[tactic(auto, using(crate::proofs::Joins::name_put, crate::proofs::Joins::name_kept))]
     fn put_name(&mut self, number: u16, signal: u32)
         requires { Named self.old number signal }
         ensures { self.new ≡ with_names self.old (name_added signal (names_of self.old)) }
@@ -206,6 +211,7 @@ impl DerivedBitVecSignal {
     }
 
     // The next derivation. The numbers are tried in the order 14, 12, 13.
+    #[tactic(auto, using(crate::proofs::Pieces::refused_bad, crate::proofs::Pieces::refused_range))]
     fn with_piece(
         mut self,
         side: Side,
@@ -231,6 +237,7 @@ impl DerivedBitVecSignal {
     }
 
     // The next derivation with all wires of a signal. No wires add nothing.
+    #[tactic(auto, using(crate::proofs::Pieces::full_wide, crate::proofs::Pieces::full_none), unfolding(fst::specs::Refusal::tried))]
     fn with_wires(self, side: Side, signal: u32, width: u32) -> Result<DerivedBitVecSignal, Refusal>
         ensures { outcome self (added_of result) ≡ add_full self side signal width }
     {
@@ -293,6 +300,7 @@ impl DerivedBitVecSignal {
     }
 
     // The derivation of all wires of a signal.
+    #[tactic(auto, using(crate::proofs::Pieces::identity_wide, crate::proofs::Pieces::identity_none))]
     pub fn new_identity(signal: u32, width: u32) -> Joined
         ensures { joined_of result ≡ identity_of signal width }
     {

@@ -20,6 +20,7 @@ impl From<u64> for Extract {
 impl From<Extract> for u64 {
     ghost from_gives = { λ extract number. number ≡ packed_of extract };
 
+    #[tactic(auto, using(crate::proofs::Pieces::packed_bits))]
     fn from(extract: Extract) -> u64 {
         (u64::from(extract.signal) << 48)
             | (u64::from(extract.width) << 32)

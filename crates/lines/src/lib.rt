@@ -5,7 +5,9 @@ ghost use Rattle.std.specs.Prelude.{◌<◌};
 
 use std::fmt;
 use std::fmt::{Display, Formatter, Write};
-use std::str::FromStr;
+
+// The number below 2^64 that has most digits has so many.
+const MOST_DIGITS: usize = 20;
 
 // A line that can't be read, or one whose call comes out otherwise.
 #[derive(Drop)]
@@ -20,26 +22,32 @@ impl From<fmt::Error> for Otherwise {
 // What of a line is neither read nor written yet.
 #[derive(Drop)]
 pub struct Line<'a> {
-    rest: &'a str,
+    rest: &'a [u8],
 }
 
 impl<'a> Line<'a> {
-    pub fn new(rest: &'a str) -> Line<'a> {
+    pub fn new(rest: &'a [u8]) -> Line<'a> {
         Line { rest }
     }
 
-    // The next field, with the space behind it: what goes in is never a line's last field.
-    pub fn field(&mut self) -> Result<&'a str, Otherwise> {
-        let (field, rest) = self.rest.split_once(' ').ok_or(Otherwise)?;
-        self.rest = rest;
-        Ok(field)
+    // The next field, with the space behind it. Where none is left, it is empty.
+    pub fn field(&mut self) -> &'a [u8] {
+        let mut fields = self.rest.splitn(2, |character| *character == b' ');
+        let field = fields.next().unwrap_or(&[]);
+        self.rest = fields.next().unwrap_or(&[]);
+        field
     }
 
-    pub fn number<N: FromStr + Drop>(&mut self) -> Result<N, Otherwise>
+    // A number of one to twenty digits, which fits its type. No sign is a digit.
+    pub fn number<N: TryFrom<u64>>(&mut self) -> Result<N, Otherwise>
     where
-        N::Err: Drop,
+        N::Error: Drop,
     {
-        self.field()?.parse().map_err(|_| Otherwise)
+        let digits = self.field();
+        if digits.is_empty() || MOST_DIGITS < digits.len() {
+            return Err(Otherwise);
+        }
+        N::try_from(number(10, digits)?).map_err(|_| Otherwise)
     }
 
     // The part of `out` that a list fills.
@@ -47,17 +55,32 @@ impl<'a> Line<'a> {
     where
         E::Error: Drop,
     {
-        let field = self.field()?;
-        let digits = if field == "." { "" } else { field };
-        let elements = digits.as_bytes().chunks_exact(E::digits());
+        let digits = match self.field() {
+            [b'.'] => &[],
+            digits => digits,
+        };
+        let elements = digits.chunks_exact(E::digits());
         if !elements.remainder().is_empty() {
             return Err(Otherwise);
         }
         let (list, _) = out.split_at_mut_checked(elements.len()).ok_or(Otherwise)?;
         for (element, digits) in list.iter_mut().zip(elements) {
-            *element = E::try_from(base_16(digits)?).map_err(|_| Otherwise)?;
+            *element = E::try_from(number(16, digits)?).map_err(|_| Otherwise)?;
         }
         Ok(list)
+    }
+
+    // A list that fills all of `out`.
+    pub fn fill<E: Element>(&mut self, out: &mut [E]) -> Result<(), Otherwise>
+    where
+        E::Error: Drop,
+    {
+        let length = out.len();
+        if self.list(out)?.len() == length {
+            Ok(())
+        } else {
+            Err(Otherwise)
+        }
     }
 
     // Refused while something is left.
@@ -73,7 +96,7 @@ impl<'a> Line<'a> {
 // Writing takes the text off the line's front, or fails where another stands there.
 impl Write for Line<'_> {
     fn write_str(&mut self, text: &str) -> fmt::Result {
-        self.rest = self.rest.strip_prefix(text).ok_or(fmt::Error)?;
+        self.rest = self.rest.strip_prefix(text.as_bytes()).ok_or(fmt::Error)?;
         Ok(())
     }
 }
@@ -121,18 +144,24 @@ impl<E: Element> Display for Elements<'_, E> {
     }
 }
 
-// No capital is a digit.
-fn digit(character: u8) -> Result<u64, Otherwise> {
+// The value of a digit of any base up to 16. No capital is a digit.
+fn digit(character: u8) -> Option<u64> {
     match character {
-        b'0'..=b'9' => Ok(u64::from(character - b'0')),
-        b'a'..=b'f' => Ok(u64::from(character - b'a' + 10)),
-        _ => Err(Otherwise),
+        b'0'..=b'9' => Some(u64::from(character - b'0')),
+        b'a'..=b'f' => Some(u64::from(character - b'a' + 10)),
+        _ => None,
     }
 }
 
-fn base_16(digits: &[u8]) -> Result<u64, Otherwise> {
-    digits.iter().try_fold(
-        0u64,
-        |number, character| Ok(number << 4 | digit(*character)?),
-    )
+fn with_digit(number: u64, base: u64, character: u8) -> Option<u64> {
+    let digit = digit(character).filter(|digit| *digit < base)?;
+    number.checked_mul(base)?.checked_add(digit)
+}
+
+// A number below 2^64 by its digits.
+fn number(base: u64, digits: &[u8]) -> Result<u64, Otherwise> {
+    digits
+        .iter()
+        .try_fold(0, |number, character| with_digit(number, base, *character))
+        .ok_or(Otherwise)
 }

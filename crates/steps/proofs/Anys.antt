@@ -4,12 +4,25 @@ use Prim.Native.Nat.{◌+◌, ◌<◌, ◌≤◌, zero, suc, ℕ}
 use native.Mathlib.Numerals.{add-one}
 use lib.ListN.{drop, get_or, length, take}
 use lib.Seq.{drop-cons}
-use mathlib.Core.Bool.{Bool, false, ◌||◌}
+use mathlib.Core.Bool.{Bool, false, true, ◌||◌}
 use mathlib.Core.List.{List, [], ◌∷◌, map}
 use mathlib.Core.Path.{◌∙◌, ◌≡◌, ap, ap₂, refl, subst, sym}
 use native.Mathlib.Omega.{arith}
-use Rattle.std.specs.List.{list_any, range_with_len}
+use denote.Param.Members.{Mut}
+use denote.Ref.{Bor}
+use Rattle.std.specs.declared.slice.Iter.{Iter}
+use Rattle.std.specs.Fn.{Called}
+use Rattle.std.specs.Iterator.{CallableAtEachTurn, YieldsThen}
+use Rattle.std.specs.List.{FoldsTo, list_any, range_with_len}
+use Rattle.std.specs.Option.{MatchOption}
+use Rattle.std.specs.Prelude.{Option}
+use Rattle.std.specs.Slice.Iter.{iter_rest}
+use Rattle.std.proofs.iter.Yields.{fronts}
+use Rattle.std.proofs.lemmas.Iterator.{YieldsList-from_slice}
+use Rattle.std.proofs.lemmas.Iterator.Adapters.{serves_from_places}
+use Rattle.std.proofs.lemmas.Iterator.Search.{any_from_yields_List}
 use Rattle.value.specs.Slice.{any, part}
+use Rattle.value.proofs.Lists.{any_map}
 use Rattle.value.proofs.Slices.{any_none}
 use Rattle.value.proofs.Tests.{or_both}
 use Rattle.runs.specs.All.{All}
@@ -24,6 +37,18 @@ any_is test (x ∷ l) = ap (λ (b : Bool). test x || b) (any_is test l)
 -- of a test that holds of no element, at a place
 pub none_here : {A : Type 0} (test : A → Bool) (l : List A) → any test l ≡ false → (x : A) (k : ℕ) → k < length l → x ≡ get_or l k x → test x ≡ false
 none_here test l n x k h e = ap test e ∙ any_none test l n k x h
+
+-- of what each element of a slice stands for, by a closure
+pub any_image : {A B F : Type 0} {g : Mut F (Bor A × Unit {0}) Bool} (test : B → Bool) (h : A → B) (l : List A) (s u : Iter A) (f : F) (r : Bool)
+    → (xs : List (Bor A)) × (o : Option (Bor A)) × (j : F) × YieldsThen fronts s xs o u × FoldsTo (λ p x q. Called g p (x, tt) false q) f xs j × MatchOption o (r ≡ false) (λ x. (r ≡ true) × ((k : F) × Called g j (x, tt) true k))
+    → iter_rest s ≡ l → ((x : Bor A) (b : Bool) (q : F) → Called g f (x, tt) b q → (q ≡ f) × (b ≡ test (h x.now))) → r ≡ any test (map h l)
+any_image test h l s u f r ran rest told =
+    any_from_yields_List (λ x. test (h x)) u f r ran (YieldsList-from_slice l rest) told ∙ any_is (λ x. test (h x)) l ∙ sym (any_map test h l)
+
+-- a closure that may be asked where a test doesn't hold, of elements of which it holds of none
+pub asked_of_none : {A F : Type 0} {R : F → Bor A → F → Type 0} {Q : F → Bor A → Type 0} (test : A → Bool) (l : List A) (s : Iter A) (f : F) → any test l ≡ false
+    → iter_rest s ≡ l → ((x : Bor A) (q : F) → R f x q → q ≡ f) → ((x : Bor A) → test x.now ≡ false → Q f x) → CallableAtEachTurn fronts R Q s f
+asked_of_none test l s f n rest same asked = serves_from_places (YieldsList-from_slice l rest) same (λ x k h e. asked x (none_here test l n x.now k h e))
 
 -- of each entry of a record, by its number
 module _ (r : Kept) (test : Indexed → Bool) (by : ℕ → Bool) (is : (k i : ℕ) → by k ≡ test (indexed_by r k i)) where

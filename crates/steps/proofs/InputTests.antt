@@ -1,6 +1,6 @@
 -- An input that is not refused with 2, its marks, and a test over the inputs in their slots.
 -- Assumes nothing.
-use Prim.Native.Nat.{◌+◌, ◌<◌, suc, zero, ℕ}
+use Prim.Native.Nat.{◌+◌, ◌<◌, ◌≤◌, suc, zero, ℕ}
 use borrow.Author.Tests.{le-leb, ne_eqb}
 use lib.Dec.{eqb, ltb}
 use lib.ListN.{get_or, length, length-map}
@@ -16,12 +16,19 @@ use Rattle.fst.specs.Record.{Kept, Lent, fits_bytes, has_no_text, is_bad_bytes, 
 use Rattle.fst.specs.declared.Description.{Description}
 use Rattle.fst.specs.declared.Encoding.{Encoding}
 use Rattle.fst.specs.declared.Encoding.TheVariants.{BitVector, Event, Real}
-use Rattle.fst.proofs.Records.{Standing, bytes_used}
+use Rattle.fst.proofs.Records.{Standing, bytes_used, standing}
 use Rattle.signal.specs.Decode.{has_bad_mark, mark_in}
-use Rattle.steps.specs.Inputs.{input_kept, is_late, lent_to}
+use Rattle.steps.specs.Inputs.{input_kept, is_bad_input, is_late, lent_to}
 use Rattle.steps.specs.declared.Input.{Input}
 
 -- ---- an input that is not 2
+
+-- its used parts lie within the lent slices
+pub bytes_reach : (bytes indices : List ℕ) (i : Input) → is_bad_input bytes indices i ≡ false → i.byte_start + used_size i.description ≤ length bytes
+bytes_reach bytes indices i h = (standing h).room.bytes
+
+pub indices_reach : (bytes indices : List ℕ) (i : Input) → is_bad_input bytes indices i ≡ false → i.index_start + i.description.count ≤ length indices
+indices_reach bytes indices i h = (standing h).room.indices
 
 abbrev pub Stands : List ℕ → List ℕ → Input → Type 0
 Stands bytes indices i = Standing i.description (lent_to bytes indices i)

@@ -15,6 +15,7 @@ use signal::read::Record;
 
 impl Input {
     // The used bytes of an input that is not 2.
+    #[tactic(auto, unfolding(value::specs::Slice::part))]
     pub fn used_bytes<'a>(&self, bytes: &'a [u8]) -> &'a [u8]
         requires { self.now.byte_start + used_size self.now.description ≤ length bytes.now }
         ensures { result.now ≡ part self.now.byte_start (used_size self.now.description) bytes.now }
@@ -24,6 +25,7 @@ impl Input {
     }
 
     // The used indices of an input that is not 2.
+    #[tactic(auto, unfolding(value::specs::Slice::part))]
     fn used_indices<'a>(&self, indices: &'a [u32]) -> &'a [u32]
         requires { self.now.index_start + self.now.description.count ≤ length indices.now }
         ensures { result.now ≡ part self.now.index_start self.now.description.count indices.now }
@@ -72,6 +74,7 @@ impl Sources<'_> {
     }
 
     // Whether it is empty or starts past index 0.
+    #[tactic(auto, using(crate::proofs::InputTests::indices_reach, crate::proofs::InputTests::late_none, crate::proofs::InputTests::late_first), unfolding(fst::specs::Record::kept_in))]
     fn is_late(&self, input: &Input) -> bool
         requires { is_bad_in self.now input.now ≡ false }
         ensures { result ≡ starts_late (its_record self.now input.now) }
@@ -80,6 +83,7 @@ impl Sources<'_> {
         used.is_empty() || used[0] != 0
     }
 
+    #[tactic(auto, using(crate::proofs::InputTests::indices_reach), unfolding(fst::specs::Record::kept_in))]
     fn is_falling(&self, input: &Input) -> bool
         requires { is_bad_in self.now input.now ≡ false }
         ensures { result ≡ indices_fall (its_record self.now input.now) }

@@ -51,6 +51,7 @@ impl Cursor {
     }
 
     // The index of the next entry.
+    #[tactic(auto, using(crate::proofs::Nexts::next_some, crate::proofs::Nexts::next_none))]
     fn next(&self, indices: &[u32]) -> Option<u32>
         requires { ReachesNow indices.now self.now }
         ensures { result ≡ next_in indices.now self.now }
@@ -63,6 +64,7 @@ impl Cursor {
     }
 
     // On by one entry, where the next one carries the index.
+    #[tactic(auto, using(crate::proofs::Nexts::next_within))]
     fn advance(&mut self, indices: &[u32], index: u32)
         requires { ReachesNow indices.now self.old }
         ensures { self.new ≡ advanced indices.now index self.old }
@@ -89,6 +91,7 @@ impl Cursor {
 
     // The bytes of the entry that it shows.
     #[inline(always)]
+    #[tactic(auto, unfolding(value::specs::Slice::part, signal::specs::Decode::entry_at))]
     fn shown<'a>(&self, bytes: &'a [u8]) -> &'a [u8]
         requires { Showing bytes.now self.now }
         ensures { result.now ≡ shown_bytes bytes.now self.now }
@@ -99,6 +102,7 @@ impl Cursor {
 
     // The levels of that entry, under its own set.
     #[inline(always)]
+    #[tactic(auto, using(crate::proofs::Levels::vector_is, signal::proofs::Reading::vector))]
     pub fn levels<'a>(&self, bytes: &'a [u8]) -> Packed<'a>
         requires { Showing bytes.now self.now }
         ensures { is_packed result ≡ shown_levels bytes.now self.now }

@@ -5,6 +5,7 @@ ghost use Rattle.steps.specs.Storing.{repeats_last, last_at, Appendable, Appende
 use layout::number::NewEntry;
 
 // Whether an entry repeats the last of so many that stand a stride apart.
+#[tactic(auto, using(crate::proofs::Appending::none_before, crate::proofs::Appending::one_before))]
 fn repeats_last(count: u32, entry: &NewEntry, stride: usize, bytes: &[u8]) -> bool
     requires { 0 < count → (count - 1) * stride + length entry.now ≤ length bytes.now }
     ensures { result ≡ repeats_last count (last_at (length entry.now) stride count bytes.now) entry.now }
@@ -16,6 +17,7 @@ fn repeats_last(count: u32, entry: &NewEntry, stride: usize, bytes: &[u8]) -> bo
 }
 
 // Stores an entry behind so many others, a stride apart, unless it repeats the last. Returns how many there are then.
+#[tactic(auto, using(crate::proofs::Appending::append_none, crate::proofs::Appending::append_one))]
 pub fn append_step(count: u32, entry: &NewEntry, stride: usize, out_bytes: &mut [u8]) -> u32
     requires { Appendable entry.now stride count out_bytes.old }
     ensures { Appended entry.now stride count out_bytes.old result out_bytes.new }

@@ -64,6 +64,7 @@ fn largest_states(inputs: &[Input]) -> States
 }
 
 // Whether the steps that are kept have room in slices of these lengths. They are counted where the inputs' entries together have none.
+#[tactic(auto, using(crate::proofs::Given::few_used, crate::proofs::Given::narrow, crate::proofs::Given::stand, layout::proofs::Sizes::size_small, steps::proofs::Totals::total_small))]
 fn steps_fit(
     derivation: &DerivedBitVecSignal,
     sources: &Sources,
@@ -124,6 +125,7 @@ fn derive_all(
 }
 
 // Derive. The numbers are tried in the order 2, 14, 15, 11, 9, 10, 7.
+#[tactic(auto, using(crate::proofs::ByRoom::refused_first))]
 pub fn derive(
     derivation: &DerivedBitVecSignal,
     sources: &Sources,

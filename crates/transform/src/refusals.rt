@@ -38,6 +38,7 @@ fn any_beyond(pieces: &[u64], inputs: &[Input]) -> bool
 }
 
 // Number 14, of inputs that are not 2.
+#[tactic(auto, using(crate::proofs::PieceTests::pieces_named, crate::proofs::PieceTests::unfit_by_beyond, derivation::proofs::Pieces::sound), unfolding(crate::specs::Derive::is_unfit))]
 fn is_unfit(derivation: &DerivedBitVecSignal, sources: &Sources) -> bool
     ensures { result ≡ is_unfit derivation.now sources.now.inputs.now.count (its_records sources.now) }
 {
@@ -165,6 +166,7 @@ fn any_bad_code(derivation: &DerivedBitVecSignal, sources: &Sources) -> bool
 }
 
 // The first number before 7 that refuses a derivation of these inputs.
+#[tactic(auto, using(crate::proofs::RefusalsInOrder::first_bad, crate::proofs::RefusalsInOrder::first_unfit, crate::proofs::RefusalsInOrder::first_falls, crate::proofs::RefusalsInOrder::first_mark, crate::proofs::RefusalsInOrder::first_code, crate::proofs::RefusalsInOrder::first_none))]
 pub fn first_refusal(derivation: &DerivedBitVecSignal, sources: &Sources) -> Result<(), Refusal>
     ensures { told result ≡ tried (first_tests derivation.now sources.now.inputs.now sources.now.bytes.now sources.now.indices.now) (given tt) }
 {

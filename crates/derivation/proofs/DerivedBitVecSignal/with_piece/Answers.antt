@@ -5,8 +5,7 @@ use mathlib.Core.Path.{◌≡◌, sym, ◌∙◌}
 use Rattle.derivation.specs.Answer.{has_no_room}
 use Rattle.derivation.proofs.Walks.{sized}
 use Rattle.derivation.proofs.Joins.{Tried, no_room, naming, joining, joined}
-use Rattle.derivation.proofs.Pieces.{refused_bad, refused_range}
-use Rattle.derivation.proofs.DerivedBitVecSignal.with_piece.Goals.{After-has_no_room, Else-has_no_room, Else-is_bad}
+use Rattle.derivation.proofs.DerivedBitVecSignal.with_piece.Goals.{After-has_no_room, Else-has_no_room}
 use Rattle.derivation.proofs.DerivedBitVecSignal.with_piece.Goals as goal
 
 -- what the tests before 13 leave
@@ -23,16 +22,6 @@ piece c =
 
 room : (c : Else-has_no_room) → has_no_room c.args.self c.args.side c.make_extract-extract.result ≡ false
 room c = sym c.has_no_room.ensures ∙ c.if-has_no_room.false
-
-pub returns-then-is_bad : goal.returns-then-is_bad
-returns-then-is_bad c =
-    let a = c.args in
-    sym (refused_bad a.self a.side a.signal a.msb a.lsb (sym c.is_bad.ensures ∙ c.if-is_bad.true))
-
-pub returns-then-is_bad_range : goal.returns-then-is_bad_range
-returns-then-is_bad_range c =
-    let a = c.args in
-    sym (refused_range a.self a.side a.signal a.msb a.lsb (sym c.is_bad.ensures ∙ c.if-is_bad.false) (sym c.is_bad_range.ensures ∙ c.if-is_bad_range.true))
 
 pub returns-then-has_no_room : goal.returns-then-has_no_room
 returns-then-has_no_room c = no_room (piece (goal.at.returns-then-has_no_room c).After-has_no_room) (sym c.has_no_room.ensures ∙ c.if-has_no_room.true)

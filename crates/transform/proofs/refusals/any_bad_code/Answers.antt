@@ -3,23 +3,21 @@
 use Prim.Native.Nat.{ℕ}
 use borrow.Author.Tests.{tests}
 use lib.ListN.{length}
-use mathlib.Core.Bool.{Bool, false}
+use mathlib.Core.Bool.{false}
 use mathlib.Core.List.{List, map}
 use mathlib.Core.Path.{◌∙◌, ◌≡◌, ap, sym}
 use native.Mathlib.Omega.{arith}
 use Rattle.std.proofs.Common.{rules}
 use Rattle.std.proofs.lemmas.Iterator.{YieldsList-from_slice, cases_from_all}
 use Rattle.std.proofs.lemmas.Iterator.Adapters.{serves_from_places}
-use Rattle.std.proofs.lemmas.Iterator.Search.{any_from_yields_List}
 use Rattle.std.specs.List.{AllWithin}
 use Rattle.value.specs.Slice.{any}
-use Rattle.value.proofs.Lists.{any_map}
 use Rattle.runs.proofs.All.{all_by}
 use Rattle.derivation.specs.Piece.{extract_of}
 use Rattle.derivation.proofs.Pieces.{sound}
 use Rattle.steps.specs.Refusals.{its_inputs, its_record, its_records}
 use Rattle.steps.specs.declared.Input.{Input}
-use Rattle.steps.proofs.Anys.{any_is, map_here}
+use Rattle.steps.proofs.Anys.{any_image, map_here}
 use Rattle.steps.proofs.InputTests.{no_input}
 use Rattle.transform.specs.Derive.{code_is_bad}
 use Rattle.transform.specs.Refusals.{SourcePick, is_uncoded}
@@ -53,7 +51,5 @@ any-requires-clause-callable c =
 pub returns : goal.returns
 returns c =
     let ks = its_records c.args.sources.now in
-    let ps = c.pieces-pieces.result.now in
-    let test : ℕ → Bool = λ n. code_is_bad ks (extract_of n) in
-    any_from_yields_List test _ _ _ c.any.ensures.ran (YieldsList-from_slice ps cc) (λ x b q k. search (rules, tests))
-    ∙ any_is test ps ∙ sym (any_map (code_is_bad ks) extract_of ps) ∙ ap (λ (l : List ℕ). any (code_is_bad ks) (map extract_of l)) c.pieces-pieces.ensures.value
+    any_image (code_is_bad ks) extract_of c.pieces-pieces.result.now _ _ _ _ c.any.ensures.ran (cc) (λ x b q k. search (rules, tests))
+    ∙ ap (λ (l : List ℕ). any (code_is_bad ks) (map extract_of l)) c.pieces-pieces.ensures.value

@@ -6,7 +6,7 @@ use mathlib.Core.Bool.{Bool}
 use mathlib.Core.Path.{◌∙◌, refl, sym}
 use native.Mathlib.Omega.{arith}
 use Rattle.std.proofs.Common.{rules}
-use Rattle.std.proofs.lemmas.Iterator.{YieldsList-from_range, serves_from_Range}
+use Rattle.std.proofs.lemmas.Iterator.{YieldsList-from_range}
 use Rattle.std.proofs.lemmas.Iterator.Search.{any_from_yields_List}
 use Rattle.value.specs.Level.{has_no_code}
 use Rattle.signal.specs.Decode.{entry_at, levels_in}
@@ -22,9 +22,6 @@ returns-then-bits-lt4 c indices l =
     let a = c.args in
     sym (entries_none (kept_with a.description a.used.now indices) (pick_is_bad a.extract)
     (λ i h. none_below a.extract a.description a.used.now c.requires (omega (arith, rw c.largest.ensures at c.bits.ensures)) i (rw l at h)))
-
-pub any-requires-clause-callable : goal.any-requires-clause-callable
-any-requires-clause-callable c = serves_from_Range (λ x q r. search rules) (λ x l h. let s = c.requires in search rules)
 
 pub returns : goal.returns
 returns c indices l =

@@ -4,7 +4,7 @@ use mathlib.Core.Path.{◌∙◌, ◌≡◌, ap, sym}
 use Rattle.signal.proofs.Reading.{inside, no_text}
 use Rattle.signal.specs.Decode.{entry_at}
 use Rattle.signal.specs.Packed.{is_packed}
-use Rattle.signal.specs.Parts.{Unpacked, unpacked}
+use Rattle.signal.specs.Parts.{unpacked}
 use native.Mathlib.Omega.{arith}
 use Rattle.transform.specs.Refusals.{EntryPick}
 use Rattle.transform.proofs.PieceTests.{levels_as, no_levels, pick_few, pick_levels, picks}
@@ -25,19 +25,10 @@ entry_at-requires c = inside (record { sound = c.requires.0.stands; below = c.re
 pub invariant_of-entry : goal.invariant_of-entry
 invariant_of-entry c = record { whole = rw c.entry_at.ensures (pick (goal.at.invariant_of-entry c).After-entry_at).whole }
 
-pub marked_levels-levels-requires : goal.marked_levels-levels-requires
-marked_levels-levels-requires c = rw c.entry_at.ensures (pick (goal.at.marked_levels-levels-requires c).After-entry_at).marked
-
 -- its levels
 module _ (m : After-marked_levels-levels) where
   told : is_packed m.marked_levels-levels.result ≡ unpacked m.in-BitVector.width m.in-BitVector.max_states (entry_at m.args.description.encoding 0 m.args.used.now m.args.k)
   told = m.marked_levels-levels.ensures ∙ ap (unpacked m.in-BitVector.width m.in-BitVector.max_states) m.entry_at.ensures
-
-pub has_bad_level-requires : goal.has_bad_level-requires
-has_bad_level-requires c =
-    let at = goal.at.has_bad_level-requires c in
-    let n : c.marked_levels-levels.result.width ≡ c.in-BitVector.width = ap (λ (u : Unpacked). u.width) (told at.After-marked_levels-levels) in
-    (rw n (pick at.After-entry_at).inside, omega (arith, c.bits.ensures, c.if-bits-lt4.false))
 
 pub returns-then-bits-lt4 : goal.returns-then-bits-lt4
 returns-then-bits-lt4 c =
