@@ -1,7 +1,7 @@
 -- Comparing entries, from what the steps of a comparison say.
 -- Assumes nothing.
 use mathlib.Core.Path.{◌≡◌, refl, sym, ap, ap₂, ◌∙◌, subst}
-use mathlib.Core.Bool.{Bool, true, false, cond, ◌&&◌}
+use mathlib.Core.Bool.{Bool, true, false, cond}
 use mathlib.Core.List.{List, [], ◌∷◌, ◌++◌, reverse}
 use Prim.Native.Nat.{ℕ, min, ◌+◌, ◌≤◌, ◌<◌}
 use native.Mathlib.Numerals.{add-one}
@@ -14,7 +14,7 @@ use lib.Seq.{take-suc, take-take, take_all, get_or-take}
 use Rattle.value.specs.declared.States.{States}
 use Rattle.std.specs.Int.{w64, from_le_bytes}
 use Rattle.value.specs.Digits.{number}
-use Rattle.value.specs.Slice.{same, any}
+use Rattle.value.specs.Slice.{same}
 use Rattle.value.specs.Level.{text_of}
 use Rattle.value.proofs.Levels.{text_inj, all_below_lem}
 use Rattle.value.proofs.Slices.{same_sound, same_refl, same_by}
@@ -22,7 +22,7 @@ use Rattle.value.proofs.Tests.{to_t, from_t, both_ways, by_eq, by_le}
 use Rattle.fst.specs.declared.Encoding.{Encoding}
 use Rattle.fst.specs.declared.Encoding.TheVariants.{Event, Real, BitVector}
 use Rattle.fst.specs.declared.Description.{Description}
-use Rattle.fst.specs.Refusal.{Reply, refused, given, Test, ◌⇐◌, tried}
+use Rattle.fst.specs.Refusal.{Reply, refused, given, ◌⇐◌, tried}
 use Rattle.fst.specs.Record.{Lent, is_bad}
 use Rattle.fst.proofs.Records.{Standing, standing}
 use Rattle.signal.specs.Decode.{Indexed, entry_at, levels_in, has_bad_mark, has_bad_code, codes_at}
@@ -44,11 +44,8 @@ le_number v l = absurd (omega arith)
 -- ---- a loop over two lists
 
 module _ (xs ys : List ℕ) where
-  pub alike_none : take 0 xs ≡ take 0 ys
-  alike_none = refl
-
-  pub alike_not : (i a b : ℕ) → a ≡ get_or xs i 0 → b ≡ get_or ys i 0 → (a ≡ b → ⊥) → false ≡ same xs ys
-  alike_not i a b p q n = both_ways false (same xs ys) (λ t. absurd t) (λ t. absurd (n (p ∙ ap (λ (l : List ℕ). get_or l i 0) (same_sound xs ys t) ∙ sym q)))
+  pub alike_at : (i : ℕ) → same xs ys ≡ true → get_or xs i 0 ≡ get_or ys i 0
+  alike_at i e = ap (λ (l : List ℕ). get_or l i 0) (same_sound xs ys (to_t (same xs ys) e))
 
   pub alike_more : (i a b : ℕ) → i < length xs → i < length ys → a ≡ get_or xs i 0 → b ≡ get_or ys i 0 → a ≡ b → take i xs ≡ take i ys → take (i + 1) xs ≡ take (i + 1) ys
   alike_more i a b h k p q e t =
@@ -103,14 +100,6 @@ pub record Sound (e : Encoding) (v : List ℕ) (h : Held) : Type 0 where
   pub code : has_bad_code e v ≡ false
   pub is : h ≡ held e v
 
-pub coded_event : (v : List ℕ) → given (held Event v) ≡ coded Event v
-unfolding coded tried has_bad_mark levels_in any
-coded_event v = refl
-
-pub coded_real : (v : List ℕ) → given (held Real v) ≡ coded Real v
-unfolding coded tried has_bad_mark levels_in any
-coded_real v = refl
-
 module _ (e : Encoding) (v : List ℕ) where
   pub sound : {h : Held} → given h ≡ coded e v → Sound e v h
   unfolding coded tried
@@ -120,16 +109,6 @@ module _ (e : Encoding) (v : List ℕ) where
       go true a q b z = cc
       go false a true b z = cc
       go false a false b z = record { mark = a; code = b; is = cc }
-
-  -- 9 or 10, before whatever is tried next
-  first_bad : {A : Type 0} {n : ℕ} → refused n ≡ coded e v → (tests : List Test) (r : Reply A) → refused n ≡ tried (9 ⇐ has_bad_mark e v ∷ 10 ⇐ has_bad_code e v ∷ tests) r
-  unfolding coded tried
-  first_bad {A} {n} h tests r = go (has_bad_mark e v) (has_bad_code e v) h
-    where
-      go : (p q : Bool) → refused n ≡ tried (9 ⇐ p ∷ 10 ⇐ q ∷ []) (given (held e v)) → refused n ≡ tried (9 ⇐ p ∷ 10 ⇐ q ∷ tests) r
-      go true q z = cc
-      go false true z = cc
-      go false false z = cc
 
 -- those of a bit vector are its levels'
 pub coded_refused : {e : Encoding} {w : ℕ} {M : States} (v : List ℕ) {n : ℕ} → e ≡ BitVector w M → refused n ≡ levels.coded w M v → refused n ≡ coded e v
@@ -147,7 +126,7 @@ unfolding coded tried
 coded_levels {e} {w} {M} v q h = let s = coded_given w M v h in rw (q, s.mark, s.code, codes_are w M v s.is)
 
 -- letters differ where codes do
-same_as_held : (a : Encoding) (x : List ℕ) (b : Encoding) (y : List ℕ) → has_bad_code a x ≡ false → has_bad_code b y ≡ false
+pub same_as_held : (a : Encoding) (x : List ℕ) (b : Encoding) (y : List ℕ) → has_bad_code a x ≡ false → has_bad_code b y ≡ false
     → same_held (held a x) (held b y) ≡ same_value a x b y
 unfolding same_held same_value same_real
 same_as_held Event x Event y p q = refl
@@ -165,20 +144,8 @@ same_as_held (BitVector w M) x (BitVector z N) y p q =
 
 -- ---- a pair
 
-pub first_refused : (a b : Encoding) (x y : List ℕ) (i j : ℕ) {n : ℕ} → refused n ≡ coded a x → refused n ≡ pair_of a x i b y j
-unfolding pair_of
-first_refused a b x y i j h = first_bad a x h _ _
-
 module _ (a b : Encoding) (x y : List ℕ) (i j : ℕ) {h : Held} (s : given h ≡ coded a x) where
-  pub second_refused : {n : ℕ} → refused n ≡ coded b y → refused n ≡ pair_of a x i b y j
-  unfolding pair_of tried
-  second_refused z = let p = sound a x s in rw (p.mark, p.code) (first_bad b y z [] (given (eqb i j && same_value a x b y)))
-
   module _ {k : Held} (t : given k ≡ coded b y) where
-    pub pair_apart : (i ≡ j → ⊥) → given false ≡ pair_of a x i b y j
-    unfolding pair_of tried
-    pair_apart n = let p = sound a x s in let q = sound b y t in rw (p.mark, p.code, q.mark, q.code, ne_eqb i j n)
-
     pub pair_told : i ≡ j → {r : Bool} → r ≡ same_held h k → given r ≡ pair_of a x i b y j
     unfolding pair_of tried
     pair_told n e =
@@ -208,15 +175,6 @@ walked_step p q l m = go (has_bad_mark p.encoding p.bytes) (has_bad_code p.encod
     go false false false true e = refl
     go false false false false true = refl
     go false false false false false = refl
-
-module _ (d : Description) (l : Lent) (e : Description) (m : Lent) where
-  pub first_record : is_bad d l ≡ true → refused 2 ≡ compare_records d l e m
-  unfolding compare_records tried
-  first_record h = rw h
-
-  pub second_record : is_bad d l ≡ false → is_bad e m ≡ true → refused 2 ≡ compare_records d l e m
-  unfolding compare_records tried
-  second_record h k = rw (h, k)
 
 -- two records that are not 2, where the pairs before entry k agree
 pub record Walked (d : Description) (l : Lent) (e : Description) (m : Lent) (k : ℕ) : Type 0 where

@@ -1,6 +1,6 @@
 -- Document 01, "Compare".
 -- Assumes nothing.
-use Rattle.std.specs.Prelude.{ℕ, Bool, true, false, cond, ◌&&◌, List, [], ◌∷◌, reverse, eqb, Result, Ok, Err}
+use Rattle.std.specs.Prelude.{ℕ, Bool, true, false, cond, ◌&&◌, List, [], ◌∷◌, reverse, eqb}
 use Rattle.std.specs.Float.Ieee.{eq, of_bits}
 use Rattle.std.specs.Float.{binary64}
 use Rattle.value.specs.Digits.{number}
@@ -8,8 +8,7 @@ use Rattle.value.specs.Slice.{same}
 use Rattle.fst.specs.declared.Encoding.{Encoding}
 use Rattle.fst.specs.declared.Encoding.TheVariants.{Event, Real, BitVector}
 use Rattle.fst.specs.declared.Description.{Description}
-use Rattle.fst.specs.declared.Refusal.{Refusal}
-use Rattle.fst.specs.Refusal.{refusal_number, Reply, refused, given, Test, ◌⇐◌, tried}
+use Rattle.fst.specs.Refusal.{Reply, given, Test, ◌⇐◌, tried}
 use Rattle.fst.specs.Record.{Lent, kept_in, is_bad}
 use Rattle.signal.specs.Decode.{Indexed, entries_in, has_bad_mark, has_bad_code, text_in}
 
@@ -48,8 +47,3 @@ walked (a ∷ l) (b ∷ m) =
 -- "2 for the first, then the second"
 unfoldable pub compare_records : Description → Lent → Description → Lent → Reply Bool
 compare_records d l e m = tried (2 ⇐ is_bad d l ∷ 2 ⇐ is_bad e m ∷ []) (walked (entries_in (kept_in d l)) (entries_in (kept_in e m)))
-
--- the answer, by number and value
-abbrev pub equal_of : Result Bool Refusal → Reply Bool
-equal_of (Ok b) = given b
-equal_of (Err r) = refused (refusal_number r)

@@ -1,14 +1,13 @@
 -- Inner: an entry tried, and a pair of entries tried and compared.
 -- Assumes nothing.
-use Rattle.std.specs.Prelude.{ℕ, Bool, false, true, ◌&&◌, List, [], ◌∷◌, reverse, eqb, Result, Ok, Err}
+use Rattle.std.specs.Prelude.{ℕ, Bool, false, true, ◌&&◌, List, [], ◌∷◌, reverse, eqb}
 use Rattle.std.specs.Float.Ieee.{eq, of_bits}
 use Rattle.std.specs.Float.{binary64}
 use Rattle.value.specs.Digits.{number}
 use Rattle.value.specs.Slice.{same}
 use Rattle.fst.specs.declared.Encoding.{Encoding}
 use Rattle.fst.specs.declared.Encoding.TheVariants.{Event, Real, BitVector}
-use Rattle.fst.specs.declared.Refusal.{Refusal}
-use Rattle.fst.specs.Refusal.{Reply, refused, given, ◌⇐◌, tried, refusal_number}
+use Rattle.fst.specs.Refusal.{Reply, given, ◌⇐◌, tried}
 use Rattle.signal.specs.Decode.{levels_in, has_bad_mark, has_bad_code, codes_at}
 use Rattle.equality.specs.Compare.{same_value, pair_tests}
 use Rattle.equality.specs.declared.Value.{Value}
@@ -29,10 +28,6 @@ abbrev pub held_in : Value → Held
 held_in value.Event = event
 held_in (value.Real n) = real n
 held_in (value.Levels p) = codes (codes_at p.width p.states p.bytes.now)
-
-abbrev pub held_of : Result Value Refusal → Reply Held
-held_of (Ok x) = given (held_in x)
-held_of (Err r) = refused (refusal_number r)
 
 -- that of an entry, or 9, or 10
 unfoldable pub coded : Encoding → List ℕ → Reply Held

@@ -6,11 +6,12 @@ ghost use Rattle.std.specs.Float.Ieee.{eq, of_bits};
 ghost use Rattle.std.specs.Float.{binary64};
 ghost use Rattle.value.specs.Digits.{number};
 ghost use Rattle.value.specs.Slice.{same};
+ghost use Rattle.fst.specs.Refusal.{told, told_by};
 ghost use Rattle.fst.specs.Record.{lent_in, is_bad};
 ghost use Rattle.signal.specs.Decode.{entry_at, codes_at};
 ghost use Rattle.signal.specs.Parts.{Whole};
-ghost use Rattle.equality.specs.Compare.{compare_records, equal_of};
-ghost use Rattle.equality.specs.Pairs.{held_in, held_of, coded, same_held, pair_of};
+ghost use Rattle.equality.specs.Compare.{compare_records};
+ghost use Rattle.equality.specs.Pairs.{held_in, coded, same_held, pair_of};
 
 use fst::record::{Slices, is_bad};
 use fst::{Description, Encoding, Refusal};
@@ -79,6 +80,7 @@ const SIGN: u64 = 9223372036854775808;
 const INFINITY: u64 = 9218868437227405312;
 
 // The bits of a real from its bytes, the lowest first.
+#[tactic(auto, using(crate::proofs::Comparing::le_number, value::proofs::Slices::part_all))]
 fn real_bits(value: &[u8]) -> u64
     requires { length value.now ≡ 8 }
     ensures { result ≡ number 256 (reverse value.now) }
@@ -86,27 +88,20 @@ fn real_bits(value: &[u8]) -> u64
     u64::from_le_bytes(read_block(value, 0))
 }
 
-// Float `==` by bits: a NaN differs from everything, the zeros agree.
+// Float `==` of two bit patterns: a NaN differs from everything. It is tried first, since `from_bits` takes none.
+#[tactic(auto, using(crate::proofs::Floats::first_nan, crate::proofs::Floats::second_nan, std::proofs::lemmas::Float::not_nan_f64_bits))]
 fn same_bits(a: u64, b: u64) -> bool
     ensures { result ≡ eq (of_bits binary64 a) (of_bits binary64 b) }
 {
-    if INFINITY < a % SIGN {
+    if INFINITY < a % SIGN || INFINITY < b % SIGN {
         return false;
     }
-    if INFINITY < b % SIGN {
-        return false;
-    }
-    if a == b {
-        return true;
-    }
-    if a % SIGN == 0 {
-        return b % SIGN == 0;
-    }
-    false
+    f64::from_bits(a) == f64::from_bits(b)
 }
 
 // Whether two slices of one length hold equal bytes. The loop runs to the end, so that it is compiled to wide instructions: the library's `==`
 // makes a call, which is a quarter of a comparison of 32 levels.
+#[tactic(auto, using(crate::proofs::Comparing::alike_union), unfolding(value::specs::Slice::same))]
 fn equal_bytes(a: &[u8], b: &[u8]) -> bool
     requires { length a.now ≡ length b.now }
     ensures { result ≡ same a.now b.now }
@@ -119,6 +114,7 @@ fn equal_bytes(a: &[u8], b: &[u8]) -> bool
 }
 
 // Whether levels have one text. Letters differ where codes do.
+#[tactic(auto, using(crate::proofs::Comparing::apart, crate::proofs::Comparing::alike, crate::proofs::Comparing::alike_at, crate::proofs::Comparing::alike_more, crate::proofs::Comparing::alike_all, signal::proofs::Decoding::codes_length))]
 fn same_levels(a: &Packed, b: &Packed) -> bool
     ensures { result ≡ same (codes_at a.now.width a.now.states a.now.bytes.now) (codes_at b.now.width b.now.states b.now.bytes.now) }
 {
@@ -138,8 +134,9 @@ fn same_levels(a: &Packed, b: &Packed) -> bool
 
 impl<'a> Indexed<'a> {
     // Its value, or 9, or 10.
+    #[tactic(auto, unfolding(crate::specs::Pairs::coded, signal::specs::Decode::has_bad_mark, signal::specs::Decode::levels_in, value::specs::Slice::any, fst::specs::Refusal::tried))]
     fn value(&self) -> Result<Value<'a>, Refusal>
-        ensures { held_of result ≡ coded self.now.encoding self.now.bytes.now }
+        ensures { told_by held_in result ≡ coded self.now.encoding self.now.bytes.now }
     {
         match self.encoding {
             Encoding::Event => Ok(Value::Event),
@@ -158,6 +155,7 @@ impl<'a> Indexed<'a> {
 }
 
 // Values of unlike kind never agree.
+#[tactic(auto, unfolding(crate::specs::Pairs::same_held))]
 fn same_value(a: &Value, b: &Value) -> bool
     ensures { result ≡ same_held (held_in a.now) (held_in b.now) }
 {
@@ -170,8 +168,9 @@ fn same_value(a: &Value, b: &Value) -> bool
 }
 
 // A pair of entries: both are tried, and only then compared.
+#[tactic(auto, unfolding(crate::specs::Pairs::pair_of, crate::specs::Pairs::coded, fst::specs::Refusal::tried))]
 fn compare_pair(a: &Indexed, b: &Indexed) -> Result<bool, Refusal>
-    ensures { equal_of result ≡ pair_of a.now.encoding a.now.bytes.now a.now.index b.now.encoding b.now.bytes.now b.now.index }
+    ensures { told result ≡ pair_of a.now.encoding a.now.bytes.now a.now.index b.now.encoding b.now.bytes.now b.now.index }
 {
     let x = a.value()?;
     let y = b.value()?;
@@ -179,10 +178,11 @@ fn compare_pair(a: &Indexed, b: &Indexed) -> Result<bool, Refusal>
 }
 
 // The entries of two records that are not 2, in pairs.
+#[tactic(auto, using(crate::proofs::Comparing::ended))]
 fn compare_entries(a: &Lent, b: &Lent) -> Result<bool, Refusal>
     requires a_sound { is_bad a.now.description (lent_in a.now.slices) ≡ false }
     requires b_sound { is_bad b.now.description (lent_in b.now.slices) ≡ false }
-    ensures { equal_of result ≡ compare_records a.now.description (lent_in a.now.slices) b.now.description (lent_in b.now.slices) }
+    ensures { told result ≡ compare_records a.now.description (lent_in a.now.slices) b.now.description (lent_in b.now.slices) }
 {
     let a_count = a.description.count;
     let b_count = b.description.count;
@@ -195,8 +195,9 @@ fn compare_entries(a: &Lent, b: &Lent) -> Result<bool, Refusal>
     Ok(a_count == b_count)
 }
 
+#[tactic(auto, unfolding(crate::specs::Compare::compare_records, fst::specs::Refusal::tried))]
 pub fn compare_records(a: &Lent, b: &Lent) -> Result<bool, Refusal>
-    ensures { equal_of result ≡ compare_records a.now.description (lent_in a.now.slices) b.now.description (lent_in b.now.slices) }
+    ensures { told result ≡ compare_records a.now.description (lent_in a.now.slices) b.now.description (lent_in b.now.slices) }
 {
     if is_bad(a.description, a.slices) || is_bad(b.description, b.slices) {
         return Err(Refusal::BadRecord);

@@ -3,7 +3,6 @@
 use Rattle.std.specs.Prelude.{ℕ, Bool, true, false, List, [], ◌∷◌, Result, Ok, Err}
 use Rattle.fst.specs.declared.Refusal.{Refusal}
 use Rattle.fst.specs.declared.Refusal.TheVariants as refusal
-use Rattle.fst.specs.declared.Description.{Description}
 
 abbrev pub refusal_number : Refusal → ℕ
 refusal_number refusal.WidthTooLarge = 1
@@ -56,7 +55,11 @@ abbrev pub outcome : {A : Type 0} → A → Reply A → Outcome A
 outcome old (refused n) = record { refused = n; left = old }
 outcome old (given new) = record { refused = 0; left = new }
 
--- the answer of a call that makes a record, by number and value
-abbrev pub made_of : Result Description Refusal → Reply Description
-made_of (Ok d) = given d
-made_of (Err r) = refused (refusal_number r)
+-- the answer of a call, by number and by what a function makes of the value
+abbrev pub told_by : {A B : Type 0} → (A → B) → Result A Refusal → Reply B
+told_by f (Ok v) = given (f v)
+told_by f (Err r) = refused (refusal_number r)
+
+-- by number and value
+abbrev pub told : {A : Type 0} → Result A Refusal → Reply A
+told r = told_by (λ v. v) r

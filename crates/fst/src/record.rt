@@ -1,6 +1,6 @@
 // Fresh records, and what a description asks of the slices that it is lent with.
 ghost use Rattle.std.specs.Prelude.{◌≡◌, ◌&&◌, not, true, false, ◌+◌, ◌*◌, ◌≤◌, leb, length};
-ghost use Rattle.fst.specs.Refusal.{made_of};
+ghost use Rattle.fst.specs.Refusal.{told};
 ghost use Rattle.fst.specs.Record.{maximum, max_width, size_of, width_stands, fits, is_bad_bytes, is_bad, lent_in, lent_mut, fresh, fresh_real};
 ghost use Rattle.fst.specs.Adding.{SizedVector};
 
@@ -46,7 +46,7 @@ impl SlicesMut<'_> {
 
 #[tactic(auto, unfolding(crate::specs::Record::fresh, crate::specs::Refusal::tried))]
 pub fn fresh(width: u32) -> Result<Description, Refusal>
-    ensures { made_of result ≡ fresh width }
+    ensures { told result ≡ fresh width }
 {
     let encoding = match width {
         0 => Encoding::Event,

@@ -61,4 +61,4 @@ by_text f a b p q e =
 
 -- both are refused alike, and where they are not, the signed number is the unsigned one or that less 2 ^ w
 pub signed_by_unsigned : (a : Asked) → number_of signed a ≡ signed_from (width_of a.description.encoding) (number_of unsigned a)
-signed_by_unsigned a = sym (signed_from_lem a.description a.bytes a.start a.entry)
+signed_by_unsigned a = signed_from_lem a.description a.bytes a.start a.entry

@@ -1,26 +1,22 @@
 -- The signed number and the decimal one, by the unsigned number of the same levels.
 -- Assumes nothing.
-use mathlib.Core.Path.{◌≡◌, refl, sym, ap, ◌∙◌, subst}
+use mathlib.Core.Path.{◌≡◌, refl, sym, ap, ◌∙◌}
 use mathlib.Core.Bool.{Bool, true, false, cond}
 use mathlib.Core.List.{List, [], ◌∷◌}
-use Prim.Native.Nat.{ℕ, zero, suc, ◌+◌, ◌-◌, ◌*◌, ◌/◌, ◌%◌, ◌^◌, ◌≤◌, ◌<◌}
-use native.Mathlib.Nat.{pow-suc, zero-mul, zero-add, one-mul, mul_comm, pow-le-pow_right, mod-lt, div-eq_of_lt, lt_of_lt_of_le}
+use Prim.Native.Nat.{ℕ, suc, ◌+◌, ◌-◌, ◌*◌, ◌/◌, ◌%◌, ◌^◌, ◌≤◌, ◌<◌}
+use native.Mathlib.Nat.{pow-suc, zero-mul, one-mul, mul_comm, pow-le-pow_right}
 use native.Mathlib.Omega.{arith}
 use borrow.Author.Tests.{lt-ltb, le-ltb, lt-leb, le-leb}
-use mir.Syntax.{w64}
-use mir.Val.{SFits, to_z, of_z}
-use mir.Facts.{to_z_pos, to_z-of_z}
 use lib.Bits.{bit_and, and_mask}
 use lib.Dec.{leb}
-use lib.IntN.{ℤ, pos, negsuc, sub_ℕ, ◌-ℤ◌}
+use lib.IntN.{pos, negsuc, sub_ℕ}
 use lib.ListN.{length, take, get_or}
-use lib.Pow.{pow_pos, pow_mono, split}
 use lib.Seq.{take_all, length-take-le}
 use Rattle.value.specs.Digits.{number, digits, Below}
 use Rattle.value.specs.Slice.{any}
 use Rattle.value.proofs.Digits.{pow_pow, number_lt, number_more, digits_length, digits_at}
 use Rattle.value.proofs.Slices.{any_at}
-use Rattle.value.proofs.Tests.{by_eq, by_le}
+use Rattle.value.proofs.Tests.{by_eq}
 use Rattle.value.proofs.Lists.{none_from, Clear, clear_none, clear_more, clear_all}
 use Rattle.fst.specs.Refusal.{refused, given, tried}
 use Rattle.numbers.specs.Number.{signed_of}
@@ -63,53 +59,6 @@ signed_unsigned (b ∷ levels) h l =
     sub_below n (b * 2 ^ k) (omega arith)
     ∙ ap negsuc (omega arith)
     ∙ sym (signed_neg (suc k) (b * 2 ^ k + n) (rw one (omega arith))))
-
--- ---- the code's signed number
-
-module _ (w n : ℕ) where
-  pub low_half : n / 2 ^ (w - 1) ≡ 0 → n < 2 ^ (w - 1)
-  low_half e =
-      let h = 2 ^ (w - 1) in
-      let s : n / h * h + n % h ≡ n = split n (w - 1) in
-      let z : n / h * h ≡ 0 = rw e (zero-mul h) in
-      omega (arith, mod-lt n (pow_pos (w - 1)))
-
-  pub high_half : (n / 2 ^ (w - 1) ≡ 0 → ⊥) → 2 ^ (w - 1) ≤ n
-  high_half e = by_le (2 ^ (w - 1)) n (λ h. h) (λ h. absurd (e (div-eq_of_lt h)))
-
-  module _ (some : 1 ≤ w) (few : w ≤ 64) where
-    half_fits : 2 ^ (w - 1) ≤ 2 ^ 63
-    half_fits = let h : w - 1 ≤ 63 = omega arith in pow_mono h
-
-    pub low_fits : n / 2 ^ (w - 1) ≡ 0 → n < 2 ^ 63
-    low_fits e = lt_of_lt_of_le (low_half e) half_fits
-
-    pub high_fits : (n / 2 ^ (w - 1) ≡ 0 → ⊥) → 2 ^ w - suc n < 2 ^ 63
-    high_fits e =
-        let k : suc (w - 1) ≡ w = omega arith in
-        let p : 2 ^ w ≡ 2 ^ (w - 1) * 2 = ap (λ (j : ℕ). 2 ^ j) (sym k) ∙ pow-suc 2 (w - 1) in
-        omega (arith, high_half e, half_fits, pow_pos (w - 1))
-
-    pub signed_fits : SFits w64 (signed_by w n)
-    signed_fits =
-        by_eq (n / 2 ^ (w - 1)) 0
-        (λ e. subst (SFits w64) (sym (signed_pos w n (low_half e))) (record { sfits = low_fits e }))
-        (λ e. subst (SFits w64) (sym (signed_neg w n (high_half e))) (record { sfits = high_fits e }))
-
--- -1 - m for an m that a signed number of 64 bits holds
-minus_one : (m : ℕ) → negsuc 0 -ℤ pos m ≡ negsuc m
-minus_one zero = refl
-minus_one (suc m) = ap (λ (k : ℕ). negsuc (suc k)) (zero-add m)
-
-module _ (m : ℕ) (h : m < 2 ^ 63) where
-  below_zero : negsuc 0 -ℤ to_z w64 m ≡ negsuc m
-  below_zero = ap (λ (z : ℤ). negsuc 0 -ℤ z) (to_z_pos w64 h) ∙ minus_one m
-
-  pub below_fits : SFits w64 (negsuc 0 -ℤ to_z w64 m)
-  below_fits = subst (SFits w64) (sym below_zero) (record { sfits = h })
-
-  pub below_read : to_z w64 (of_z w64 (negsuc 0 -ℤ to_z w64 m)) ≡ negsuc m
-  below_read = to_z-of_z below_fits ∙ below_zero
 
 -- ---- decimal
 

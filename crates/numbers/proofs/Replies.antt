@@ -1,12 +1,12 @@
 -- The replies of reading an entry as a number, step by step.
 -- Assumes nothing.
 use mathlib.Core.Path.{◌≡◌, refl, sym, ap, ap₂, ◌∙◌}
-use mathlib.Core.Bool.{Bool, true, false, cond, ◌||◌, true≢false}
+use mathlib.Core.Bool.{Bool, true, false, ◌||◌, true≢false}
 use mathlib.Core.List.{List, [], ◌∷◌, ◌++◌}
-use Prim.Native.Nat.{ℕ, suc, ◌/◌, ◌%◌, ◌^◌, ◌≤◌, ◌<◌}
+use Prim.Native.Nat.{ℕ, suc, ◌/◌, ◌^◌, ◌≤◌, ◌<◌}
 use native.Mathlib.Omega.{arith}
-use borrow.Author.Tests.{lt-ltb, le-ltb, ltb-false, lt-leb, eq-eqb, ne_eqb}
-use lib.Dec.{ltb, eqb}
+use borrow.Author.Tests.{ltb-false, lt-leb}
+use lib.Dec.{ltb}
 use lib.ListN.{length}
 use Rattle.value.specs.declared.States.{States}
 use Rattle.value.specs.Digits.{number}
@@ -18,58 +18,32 @@ use Rattle.fst.specs.declared.Encoding.{Encoding}
 use Rattle.fst.specs.declared.Encoding.TheVariants.{Event, Real, BitVector}
 use Rattle.fst.specs.declared.Description.{Description}
 use Rattle.fst.specs.declared.Refusal.{Refusal}
-use Rattle.fst.specs.declared.Refusal.TheVariants.{WrongWidth, NotBinary}
+use Rattle.fst.specs.declared.Refusal.TheVariants.{NotBinary}
 use Rattle.fst.specs.Refusal.{Reply, refused, given, Test, ◌⇐◌, tried, refusal_number}
 use Rattle.fst.specs.Record.{width_of, width_stands, has_no_text}
 use Rattle.fst.proofs.Adding.{width_known}
 use Rattle.fst.proofs.Rooms.{stands}
 use Rattle.fst.proofs.Refusals.{Passed, passes, Result, through, stopped, result, tried_append, tried_refused}
 use Rattle.signal.specs.Decode.{entry_at, set_in, level_part, levels_in, has_bad_mark, codes_at}
-use Rattle.signal.specs.Parts.{Unpacked, unpacked, marked}
+use Rattle.signal.specs.Parts.{Whole, Unpacked, marked}
 use Rattle.signal.specs.Read.{unreadable}
 use Rattle.signal.proofs.Reading.{HasEntry, marked_given, codes_are}
 use Rattle.numbers.specs.Number.{unsigned, signed, decimal, signed_of, digits_of, has_part_digit, is_wrong_width, has_other, has_high_digit, read_number}
-use Rattle.numbers.specs.Parts.{refused_levels, binary_of, binary_in, signed_by, signed_from, decimal_by, decimal_from, bits_of_levels}
-use Rattle.std.specs.Prelude.{Option, Some, None, IfSome}
+use Rattle.numbers.specs.Parts.{binary_of, binary_in, signed_by, signed_from, decimal_by, decimal_from}
 use Rattle.numbers.proofs.Forms.{signed_unsigned}
-use Rattle.numbers.proofs.Words.{Known, known_lt, known_bits}
+use Rattle.numbers.proofs.Words.{Known, known_lt}
 
 -- ---- levels
 
-module _ (levels : List ℕ) (r : Refusal) where
-  pub refused_bad : has_no_code levels ≡ true → refused 10 ≡ refused_levels levels r
-  unfolding tried
-  refused_bad e = rw e
-
-  pub refused_else : has_no_code levels ≡ false → refused (refusal_number r) ≡ refused_levels levels r
-  unfolding tried
-  refused_else e = rw e
-
-module _ (w : ℕ) (levels : List ℕ) where
-  pub binary_wide : 64 < w → refused_levels levels WrongWidth ≡ binary_of w levels
-  unfolding binary_of tried
-  binary_wide h = go (has_no_code levels)
-    where
-      go : (b : Bool) → tried (10 ⇐ b ∷ []) (refused 16) ≡ tried (10 ⇐ b ∷ 16 ⇐ ltb 64 w ∷ 17 ⇐ has_other levels ∷ []) (given (number 2 levels))
-      go true = refl
-      go false = rw (lt-ltb 64 w h)
-
-  module _ (h : w ≤ 64) where
-    pub binary_other : has_other levels ≡ true → refused_levels levels NotBinary ≡ binary_of w levels
-    unfolding binary_of tried
-    binary_other e = go (has_no_code levels)
-      where
-        go : (b : Bool) → tried (10 ⇐ b ∷ []) (refused 17) ≡ tried (10 ⇐ b ∷ 16 ⇐ ltb 64 w ∷ 17 ⇐ has_other levels ∷ []) (given (number 2 levels))
-        go true = refl
-        go false = rw (le-ltb 64 w h, e)
-
-    pub binary_known : {x : ℕ} → Known levels x → given x ≡ binary_of w levels
-    unfolding binary_of tried
-    binary_known k =
-        let c : has_no_code levels ≡ false = none_foreign levels (below_mono 2 9 levels (omega arith) (none_from 2 levels k.clear)) in
-        rw (c, le-ltb 64 w h, k.clear, k.is)
+-- 0 and 1 are codes
+pub binary_coded : (levels : List ℕ) → has_other levels ≡ false → has_no_code levels ≡ false
+binary_coded levels h = none_foreign levels (below_mono 2 9 levels (omega arith) (none_from 2 levels h))
 
 -- ---- an entry
+
+-- the width of an entry that is one of a bit vector
+pub wide : (w : ℕ) (M : States) (v : List ℕ) → Whole (BitVector w M) v → 1 ≤ w
+wide w M v h = (width_known M h.width).0
 
 module _ (e : Encoding) (v : List ℕ) where
   pub entry_else : has_bad_mark e v ≡ false → binary_of (width_of e) (levels_in e v) ≡ binary_in e v
@@ -77,14 +51,6 @@ module _ (e : Encoding) (v : List ℕ) where
   entry_else h = rw h
 
 module _ (w : ℕ) (M : States) (v : List ℕ) where
-  pub vector_bad : {n : ℕ} → refused n ≡ marked w M v → refused n ≡ binary_in (BitVector w M) v
-  unfolding tried
-  vector_bad {n} = go (has_bad_mark (BitVector w M) v)
-    where
-      go : (b : Bool) → refused n ≡ tried (9 ⇐ b ∷ []) (given (unpacked w M v)) → refused n ≡ tried (9 ⇐ b ∷ []) (binary_of w (levels_in (BitVector w M) v))
-      go true h = cc
-      go false h = cc
-
   pub vector_told : {u : Unpacked} → given u ≡ marked w M v → binary_of u.width (codes_at u.width u.set u.part) ≡ binary_in (BitVector w M) v
   vector_told h =
       let g = marked_given w M v h in
@@ -213,8 +179,8 @@ module _ (d : Description) (bytes : List ℕ) (start k : ℕ) where
       go (stopped n e) = refusal_is n (unsigned_on ∙ e) (signed_on ∙ tried_refused tests (number 2 levels) (given (signed_of levels)) e)
 
   -- "as two's complement signed"
-  pub signed_from_lem : signed_from w (read_number unsigned d bytes start k) ≡ read_number signed d bytes start k
-  signed_from_lem = go unsigned_is
+  pub signed_from_lem : read_number signed d bytes start k ≡ signed_from w (read_number unsigned d bytes start k)
+  signed_from_lem = sym (go unsigned_is)
     where
       go : Unsigned → signed_from w (read_number unsigned d bytes start k) ≡ read_number signed d bytes start k
       go (number_is n e t f) =
@@ -224,13 +190,14 @@ module _ (d : Description) (bytes : List ℕ) (start k : ℕ) where
       go (refusal_is n e f) = ap (signed_from w) e ∙ sym f
 
   -- "as packed decimal"
-  pub decimal_from_lem : decimal_from w (read_number unsigned d bytes start k) ≡ read_number decimal d bytes start k
+  pub decimal_from_lem : read_number decimal d bytes start k ≡ decimal_from w (read_number unsigned d bytes start k)
   unfolding tried
   decimal_from_lem =
-      ap (decimal_from w) (unsigned_on ∙ tried_append common (17 ⇐ has_other levels ∷ []) (given (number 2 levels)))
+      sym
+      (ap (decimal_from w) (unsigned_on ∙ tried_append common (17 ⇐ has_other levels ∷ []) (given (number 2 levels)))
       ∙ left_tried (decimal_from w) common (tried (17 ⇐ has_other levels ∷ []) (given (number 2 levels))) (refl, (refl, (refl, (refl, (refl, (refl, tt))))))
       ∙ ap (tried common) (behind (has_other levels))
-      ∙ sym decimal_on
+      ∙ sym decimal_on)
     where
       by_digits : decimal_by (w / 4) (number 2 levels) ≡ tried (18 ⇐ has_high_digit decimal levels ∷ []) (given (number 10 (digits_of levels)))
       by_digits = ap (λ (x : ℕ). decimal_by (x / 4) (number 2 levels)) (sym (levels_long d.encoding (entry_at d.encoding start bytes k)))
@@ -250,41 +217,7 @@ module _ (d : Description) (bytes : List ℕ) (start k : ℕ) where
       go (number_is m e t f) = let i : n ≡ m = given_inj (q ∙ e) in (t.some, t.few, rw i (rw t.long at (known_lt t.known)))
       go (refusal_is m e f) = let z : given n ≡ refused (suc m) = q ∙ e in cc
 
-  pub signed_told : {r : Reply ℕ} → r ≡ read_number unsigned d bytes start k → signed_from w r ≡ read_number signed d bytes start k
-  signed_told q = ap (signed_from w) q ∙ signed_from_lem
-
-  pub decimal_told : {r : Reply ℕ} → r ≡ read_number unsigned d bytes start k → decimal_from w r ≡ read_number decimal d bytes start k
-  decimal_told q = ap (decimal_from w) q ∙ decimal_from_lem
-
--- ---- 16 of a width that is no multiple of 4
-
-module _ (w : ℕ) (r : Reply ℕ) where
-  pub part_digit : (w % 4 ≡ 0 → ⊥) → refused 16 ≡ tried (16 ⇐ has_part_digit w ∷ []) r
-  unfolding tried
-  part_digit h = rw (ne_eqb (w % 4) 0 h)
-
-  pub whole_digits : w % 4 ≡ 0 → r ≡ tried (16 ⇐ has_part_digit w ∷ []) r
-  unfolding tried
-  whole_digits h = rw (eq-eqb (w % 4) 0 h)
-
-module _ (w : ℕ) where
-  pub part_else : {n : ℕ} → (n ≡ 17 → ⊥) → refused n ≡ decimal_from w (refused n)
-  part_else {n} h = ap (λ (b : Bool). cond b (tried (16 ⇐ has_part_digit w ∷ []) (refused n)) (refused n)) (sym (ne_eqb n 17 h))
-
-  pub whole_refused : {n : ℕ} → w % 4 ≡ 0 → refused n ≡ decimal_from w (refused n)
-  unfolding tried
-  whole_refused {n} h = rw (eq-eqb (w % 4) 0 h) (go (eqb n 17))
-    where
-      go : (b : Bool) → ◌≡◌ {A = Reply ℕ} (refused n) (cond b (refused n) (refused n))
-      go true = refl
-      go false = refl
-
+-- only 17 has its number
 pub not_other : (r : Refusal) → (r ≡ NotBinary → ⊥) → refusal_number r ≡ 17 → ⊥
 not_other NotBinary o h = o refl
 not_other r o h = absurd (omega arith)
-
--- ---- a number that is told where nothing is refused
-
-pub quick_told : (w : ℕ) (cs : List ℕ) → w ≤ 64 → {r : Reply ℕ} → binary_of w cs ≡ r → (o : Option ℕ) → o ≡ bits_of_levels cs → IfSome o (λ n. given n ≡ r)
-quick_told w cs h e None q = tt
-quick_told w cs h e (Some n) q = binary_known w cs h (known_bits cs (sym q)) ∙ e

@@ -7,7 +7,7 @@ use Prim.Native.Nat.{ℕ, zero, suc, ◌+◌, ◌-◌, ◌*◌, ◌/◌, ◌%◌
 use native.Mathlib.Nat.{le_refl, mod-lt, mod-eq_of_lt, div-add-mod', add_comm, add-zero, mul-zero, mul-suc, zero-add, zero-mul, suc-mul}
 use native.Mathlib.Omega.{arith}
 use borrow.Author.Tests.{lt-ltb}
-use lib.Bits.{bit_and, bit_or, or_shifted}
+use lib.Bits.{bit_and, bit_or, and_mask, or_shifted}
 use lib.Dec.{T, leb, ltb}
 use lib.ListN.{length, get_or, take, drop, replicate, length-drop}
 use lib.Pow.{pow_pos, high, ones_lt, ones_split, shl_exact}
@@ -125,22 +125,14 @@ module _ (L : ℕ) (computed : T (all_below (λ (d : ℕ). both (ltb 0 (rest L d
       ap (ltb 0) (in_lanes (kept {j = L} (2 ^ L - 2) (le_refl L) m (itself h)))
       ∙ any_rest (digits (2 ^ L) n x) (digits_below (2 ^ L) (pow_pos L) n x)
 
--- what a test for other levels tells
-module _ {a : ℕ} (ds : List ℕ) (e : ltb 0 a ≡ has_other ds) where
-  pub some_other : (a ≡ 0 → ⊥) → None ≡ bits_of_levels ds
-  some_other h = let p : 0 < a = omega arith in bits_other ds (sym e ∙ lt-ltb 0 a p)
-
-  pub none_other : a ≡ 0 → Below 2 ds
-  none_other h = none_from 2 ds (sym e ∙ ap (ltb 0) h)
-
 -- the digits of a word, for each set
-pub other_four : (x : ℕ) → x < 2 ^ 64 → ltb 0 (bit_and x 12297829382473034410) ≡ has_other (digits 4 32 x)
+pub other_four : (x : ℕ) → x < 2 ^ 64 → has_other (digits 4 32 x) ≡ ltb 0 (bit_and x 12297829382473034410)
 unfolding number
-other_four x h = any_other 2 tt 32 x h (omega arith)
+other_four x h = sym (any_other 2 tt 32 x h (omega arith))
 
-pub other_nine : (x : ℕ) → x < 2 ^ 64 → ltb 0 (bit_and x 17216961135462248174) ≡ has_other (digits 16 16 x)
+pub other_nine : (x : ℕ) → x < 2 ^ 64 → has_other (digits 16 16 x) ≡ ltb 0 (bit_and x 17216961135462248174)
 unfolding number
-other_nine x h = any_other 4 tt 16 x h (omega arith)
+other_nine x h = sym (any_other 4 tt 16 x h (omega arith))
 
 pub bits_two : (x : ℕ) → x < 2 ^ 64 → Some x ≡ bits_of_levels (digits 2 64 x)
 bits_two x h =
@@ -159,15 +151,14 @@ word_base Nine = refl
 
 -- n levels that a word holds
 module _ (n : ℕ) where
-  pub first_size : (S : States) → n * bits_of S ≤ 64 → len_of n S ≤ 8
-  first_size Two h = omega arith
-  first_size Four h = omega arith
-  first_size Nine h = omega arith
-
   pub first_some : (S : States) → 1 ≤ n → 1 ≤ n * bits_of S
   first_some Two h = omega arith
   first_some Four h = omega arith
   first_some Nine h = omega arith
+
+-- those below a place
+pub low_bits : (x n : ℕ) → bit_and x (2 ^ n - 1) ≡ x % 2 ^ n
+low_bits = and_mask
 
 -- the bits of n levels of a number, the bits above them left out, are those of a word
 pub first_bits : (S : States) (n x : ℕ) → n ≤ per_word S → bits_of_levels (digits (2 ^ bits_of S) (per_word S) (x % 2 ^ (n * bits_of S))) ≡ bits_of_levels (digits (2 ^ bits_of S) n x)
@@ -204,9 +195,9 @@ first_told S levels {i} h e f g =
     ∙ sym g
 
 -- levels that are no more than one word holds
-pub one_word : {w : ℕ} {S : States} {levels : List ℕ} → Few w S levels → w * bits_of S ≤ 64 → {b : Option ℕ}
-    → b ≡ bits_of_levels (digits (2 ^ bits_of S) (per_word S) (number 256 levels % 2 ^ (w * bits_of S))) → b ≡ bits_of_levels (codes_at w S levels)
-one_word {w} {S} {levels} h r e = e ∙ first_bits S w (number 256 levels) (go S r)
+pub one_word : (w : ℕ) (S : States) (levels : List ℕ) → w * bits_of S ≤ 64
+    → bits_of_levels (codes_at w S levels) ≡ bits_of_levels (digits (2 ^ bits_of S) (per_word S) (number 256 levels % 2 ^ (w * bits_of S)))
+one_word w S levels r = sym (first_bits S w (number 256 levels) (go S r))
   where
     go : (S : States) → w * bits_of S ≤ 64 → w ≤ per_word S
     go Two r = omega arith
@@ -217,12 +208,6 @@ per_some : (S : States) → 0 < per_word S
 per_some Two = omega arith
 per_some Four = omega arith
 per_some Nine = omega arith
-
--- n levels of a set are n times its bits, and a word's fill it
-pub word_room : (S : States) (n : ℕ) → n ≤ per_word S → n * bits_of S ≤ 64
-word_room Two n h = omega arith
-word_room Four n h = omega arith
-word_room Nine n h = omega arith
 
 pub per_small : (S : States) → per_word S ≤ 64
 per_small Two = omega arith

@@ -1,12 +1,11 @@
 -- Document 02, E1: an entry of a bit vector read as a number.
 -- Assumes nothing.
-use Rattle.std.specs.Prelude.{ℕ, ◌*◌, ◌^◌, ◌/◌, ◌%◌, Bool, true, false, ◌&&◌, ◌||◌, not, List, [], ◌∷◌, ◌++◌, eqb, leb, ltb, ℤ, pos, length, Result, Ok, Err}
+use Rattle.std.specs.Prelude.{ℕ, ◌*◌, ◌^◌, ◌/◌, ◌%◌, Bool, true, false, ◌&&◌, ◌||◌, not, List, [], ◌∷◌, ◌++◌, eqb, leb, ltb, ℤ, pos, length}
 use Rattle.std.proofs.Math.IntN.{sub_ℕ}
 use Rattle.value.specs.Digits.{number, digits}
 use Rattle.value.specs.Slice.{any}
 use Rattle.fst.specs.declared.Description.{Description}
-use Rattle.fst.specs.declared.Refusal.{Refusal}
-use Rattle.fst.specs.Refusal.{Reply, refused, given, ◌⇐◌, tried, refusal_number}
+use Rattle.fst.specs.Refusal.{Reply, given, ◌⇐◌, tried}
 use Rattle.fst.specs.Record.{width_of}
 use Rattle.signal.specs.Decode.{entry_at, levels_in}
 use Rattle.signal.specs.Read.{unreadable}
@@ -72,8 +71,3 @@ read_number f d bytes start k =
     (unreadable d bytes start k
     ++ (16 ⇐ is_wrong_width f (width_of d.encoding) ∷ 17 ⇐ has_other levels ∷ 18 ⇐ has_high_digit f levels ∷ []))
     (given (value_of f levels))
-
--- the answer, by number and value
-abbrev pub told : {A : Type 0} → Result A Refusal → Reply A
-told (Ok v) = given v
-told (Err r) = refused (refusal_number r)

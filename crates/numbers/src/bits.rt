@@ -11,6 +11,7 @@ use wavemem::short::squeeze;
 use wavemem::word;
 
 // So many bits 1.
+#[tactic(auto, using(crate::proofs::Words::ones_are))]
 pub fn ones(count: u32) -> u64
     requires { (1 ≤ count) × (count ≤ 64) }
     ensures { result ≡ 2 ^ count - 1 }
@@ -52,6 +53,7 @@ fn squeeze_nine(x: u64) -> u64
 }
 
 // The levels of a word as bits.
+#[tactic(auto, using(crate::proofs::Words::other_four, crate::proofs::Words::other_nine, crate::proofs::Words::bits_two, value::proofs::Lists::none_from), unfolding(crate::specs::Parts::bits_of_levels))]
 fn bits_of_word(states: States, x: u64) -> Option<u64>
     ensures { result ≡ bits_of_levels (digits (2 ^ bits_of states) (64 / bits_of states) x) }
 {
@@ -73,6 +75,7 @@ fn bits_of_word(states: States, x: u64) -> Option<u64>
 }
 
 // The number of at most eight bytes; eight, and the two of eight wires of Four, are one load.
+#[tactic(auto, using(value::proofs::Slices::part_all))]
 fn number_of(bytes: &[u8]) -> u64
     requires { length bytes.now ≤ 8 }
     ensures { result ≡ number 256 bytes.now }
@@ -85,6 +88,7 @@ fn number_of(bytes: &[u8]) -> u64
 }
 
 // The first levels, as many as one word holds at most. Bits above them are none of theirs.
+#[tactic(auto, using(crate::proofs::Words::low_bits, crate::proofs::Words::first_some))]
 fn first_word(states: States, count: u32, levels: &[u8]) -> u64
     requires { (1 ≤ count) × (count * bits_of states ≤ 64) × (len_of count states ≤ length levels.now) }
     ensures { result ≡ number 256 (take (len_of count states) levels.now) % 2 ^ (count * bits_of states) }
@@ -112,6 +116,7 @@ fn bits_of(states: States, width: u32, levels: &[u8]) -> Option<u64>
 }
 
 // `bits_of`, in one step where one word holds the levels.
+#[tactic(auto, using(crate::proofs::Words::one_word, crate::proofs::Words::low_bits, value::proofs::Levels::len_room, crate::proofs::Words::first_some))]
 #[inline(always)]
 pub fn bits_in(states: States, width: u32, levels: &[u8]) -> Option<u64>
     requires { Few width states levels.now }

@@ -1,9 +1,9 @@
 // An entry read as a number: the unsigned one first, and by that the two other forms.
 ghost use Rattle.std.specs.Prelude.{◌≡◌, ◌<◌, ◌≤◌, ◌^◌, negsuc};
-ghost use Rattle.fst.specs.Refusal.{refused, given, refusal_number};
+ghost use Rattle.fst.specs.Refusal.{refused, given, refusal_number, told};
 ghost use Rattle.signal.specs.Decode.{codes_at};
 ghost use Rattle.signal.specs.Parts.{Levels};
-ghost use Rattle.numbers.specs.Number.{unsigned, signed, decimal, read_number, told};
+ghost use Rattle.numbers.specs.Number.{unsigned, signed, decimal, read_number};
 ghost use Rattle.numbers.specs.Parts.{refused_levels, binary_of, signed_by, decimal_by};
 
 use crate::bits::{bits_in, ones};
@@ -15,6 +15,7 @@ use value::States;
 // ---- unsigned
 
 // A refusal that 10 comes before. It is lent no struct, which would be stored for it before it is known whether it is called.
+#[tactic(auto, unfolding(fst::specs::Refusal::tried))]
 #[cold]
 #[inline(never)]
 fn refused_levels(width: u32, states: States, bytes: &[u8], refusal: Refusal) -> Refusal
@@ -34,6 +35,7 @@ fn refused_levels(width: u32, states: States, bytes: &[u8], refusal: Refusal) ->
 }
 
 // The number of levels, or 10, 16 or 17. Levels that are all 0 and 1 have no bad code.
+#[tactic(auto, using(crate::proofs::Replies::binary_coded), unfolding(crate::specs::Parts::binary_of, crate::specs::Parts::bits_of_levels, fst::specs::Refusal::tried))]
 #[inline(always)]
 fn binary_of(levels: &Packed) -> Result<u64, Refusal>
     requires { 1 ≤ levels.now.width }
@@ -54,6 +56,7 @@ fn binary_of(levels: &Packed) -> Result<u64, Refusal>
 }
 
 // An unsigned number, or a refusal.
+#[tactic(auto, using(crate::proofs::Replies::wide), unfolding(crate::specs::Number::read_number, signal::specs::Parts::vector_in, fst::specs::Refusal::tried))]
 #[inline(always)]
 pub fn read_unsigned(lent: &Record, entry: u32) -> Result<u64, Refusal>
     ensures { told result ≡ read_number unsigned lent.now.description lent.now.bytes.now lent.now.byte_start entry }
@@ -84,6 +87,7 @@ fn signed_of(width: u32, number: u64) -> i64
     below_zero(ones(width) - number)
 }
 
+#[tactic(auto, using(crate::proofs::Replies::signed_from_lem, crate::proofs::Replies::sized))]
 pub fn read_signed(lent: &Record, entry: u32) -> Result<i64, Refusal>
     ensures { told result ≡ read_number signed lent.now.description lent.now.bytes.now lent.now.byte_start entry }
 {
@@ -94,6 +98,7 @@ pub fn read_signed(lent: &Record, entry: u32) -> Result<i64, Refusal>
 // ---- packed decimal
 
 // The number of so many digits of four bits each, or 18.
+#[tactic(auto, using(crate::proofs::Forms::digit_at, crate::proofs::Forms::digit_high, crate::proofs::Forms::read_none, crate::proofs::Forms::read_fits, crate::proofs::Forms::read_more, crate::proofs::Forms::read_all))]
 fn decimal_of(count: u32, number: u64) -> Result<u64, Refusal>
     requires { count ≤ 16 }
     ensures { told result ≡ decimal_by count number }
@@ -110,6 +115,7 @@ fn decimal_of(count: u32, number: u64) -> Result<u64, Refusal>
 }
 
 // 17 comes behind a width that is no multiple of 4, and every other refusal before it.
+#[tactic(auto, using(crate::proofs::Replies::decimal_from_lem, crate::proofs::Replies::sized, crate::proofs::Replies::not_other), unfolding(fst::specs::Refusal::tried))]
 pub fn read_decimal(lent: &Record, entry: u32) -> Result<u64, Refusal>
     ensures { told result ≡ read_number decimal lent.now.description lent.now.bytes.now lent.now.byte_start entry }
 {

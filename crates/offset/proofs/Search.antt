@@ -15,7 +15,7 @@ use Rattle.value.specs.Level.{place_in}
 use Rattle.value.proofs.Tests.{or_left, or_right, by_le}
 use Rattle.std.specs.Prelude.{Some, None}
 use Rattle.offset.specs.Offset.{falls, greatest, run_of, head_of}
-use Rattle.offset.specs.Search.{Reached, Last}
+use Rattle.offset.specs.Search.{Last}
 
 -- ---- a list that doesn't fall
 
@@ -69,9 +69,6 @@ pub record Bracket (needle : ℕ) (l : List ℕ) (place size : ℕ) : Type 0 whe
   pub reached : get_or l place 0 ≤ needle
   pub above : (k : ℕ) → place + size ≤ k → k < length l → needle < get_or l k 0
 
-pub bracket_start : {needle : ℕ} {l : List ℕ} → Reached needle l → Bracket needle l 0 (length l)
-bracket_start r = record { some = r.some; within = omega arith; reached = r.first; above = λ k h i. absurd (omega arith) }
-
 module _ {needle : ℕ} {l : List ℕ} {place size : ℕ} (b : Bracket needle l place size) where
   pub bracket_half : falls l ≡ false → (half : ℕ) → 0 < half → half + half ≤ size → (r : ℕ) → r ≡ cond (leb (get_or l (place + half) 0) needle) 1 0
       → Bracket needle l (place + half * r) (size - half)
@@ -99,10 +96,6 @@ module _ {needle : ℕ} {l : List ℕ} {place size : ℕ} (b : Bracket needle l 
             reached = b.reached;
             above = λ k h i. omega (arith, leb-false _ needle q, rising l f (place + half) k (omega arith) i);
           })
-
-  pub bracket_one : size ≤ 1 → Last needle l place
-  bracket_one h =
-      record { within = omega (arith, b.some, b.within); reached = b.reached; above = λ k i. b.above k (omega (arith, b.some)) }
 
 -- the bit above the 32 of a difference
 pub borrowed : (i x : ℕ) → i < 4294967296 → x < 4294967296 → (x + 4294967296 - i) / 4294967296 ≡ cond (leb i x) 1 0

@@ -1,10 +1,9 @@
 -- Document 01, "Look up (get_offset)", with document 02's E2.
 -- Assumes nothing.
-use Rattle.std.specs.Prelude.{ℕ, suc, ◌+◌, max, Bool, false, cond, ◌||◌, List, [], ◌∷◌, eqb, leb, ltb, length, drop, Option, Some, None, Result, Ok, Err}
+use Rattle.std.specs.Prelude.{ℕ, suc, ◌+◌, max, Bool, false, cond, ◌||◌, List, [], ◌∷◌, eqb, leb, ltb, length, drop, Option, Some, None}
 use Rattle.value.specs.Level.{place_in}
-use Rattle.fst.specs.Refusal.{Reply, refused, given, ◌⇐◌, tried, refusal_number}
+use Rattle.fst.specs.Refusal.{Reply, given, ◌⇐◌, tried}
 use Rattle.fst.specs.Record.{maximum}
-use Rattle.fst.specs.declared.Refusal.{Refusal}
 use Rattle.offset.specs.declared.DataOffset.{DataOffset}
 
 -- "11: an index falls"
@@ -45,8 +44,3 @@ place sought (i ∷ l) = cond (ltb sought i) None (Some (place_of sought (i ∷ 
 -- "2: list above the maximum. 11: an index falls"
 unfoldable pub look_up : List ℕ → ℕ → Reply (Option DataOffset)
 look_up indices sought = tried (2 ⇐ ltb maximum (length indices) ∷ 11 ⇐ falls indices ∷ []) (given (place sought indices))
-
--- the answer, by number and values
-abbrev pub offset_of : Result (Option DataOffset) Refusal → Reply (Option DataOffset)
-offset_of (Ok p) = given p
-offset_of (Err r) = refused (refusal_number r)

@@ -3,8 +3,9 @@
 
 ghost use Rattle.std.specs.Prelude.{◌≡◌, false, cond, ◌≤◌, ◌<◌, leb, length, get_or, drop};
 ghost use Rattle.value.specs.Level.{place_in};
+ghost use Rattle.fst.specs.Refusal.{told};
 ghost use Rattle.fst.specs.Record.{maximum};
-ghost use Rattle.offset.specs.Offset.{falls, run_of, head_of, place_of, look_up, offset_of};
+ghost use Rattle.offset.specs.Offset.{falls, run_of, head_of, place_of, look_up};
 ghost use Rattle.offset.specs.Search.{Reached, Last};
 
 use fst::Refusal;
@@ -21,6 +22,7 @@ pub struct DataOffset {
 
 // Whether an index is below the one before it. Every pair is compared, since a scan that can end early is not vectorised; by its places, since a
 // walk over the list beside its tail, or over its windows, keeps one index from pair to pair and takes an eighth longer.
+#[tactic(auto, using(crate::proofs::Search::falls_more, crate::proofs::Search::falls_all))]
 pub fn falls(indices: &[u32]) -> bool
     ensures { result ≡ falls indices.now }
 {
@@ -62,6 +64,7 @@ fn binary_search(indices: &[u32], needle: u32) -> usize
 }
 
 // The first place of the index at a place. Most runs are short; a long one is searched, since a walk back takes as long as the run.
+#[tactic(auto, using(crate::proofs::Search::rising, crate::proofs::Search::start_is, crate::proofs::Search::start_first, crate::proofs::Search::start_behind))]
 fn find_start(indices: &[u32], place: usize) -> usize
     requires rises { falls indices.now ≡ false }
     requires place_in_bounds { place < length indices.now }
@@ -78,6 +81,7 @@ fn find_start(indices: &[u32], place: usize) -> usize
 }
 
 // The number of entries from `start` on that carry the index.
+#[tactic(auto, using(crate::proofs::Search::head_is, crate::proofs::Search::run_more, crate::proofs::Search::run_none))]
 fn run_length(indices: &[u32], start: usize, index: u32) -> usize
     requires { start ≤ length indices.now }
     ensures { result ≡ run_of index (drop start indices.now) }
@@ -92,6 +96,7 @@ fn run_length(indices: &[u32], start: usize, index: u32) -> usize
 }
 
 // The entries that carry the greatest index not above the needle, of which there is one.
+#[tactic(auto, using(crate::proofs::Search::place_first, crate::proofs::Search::run_within, crate::proofs::Search::last_greatest, std::proofs::lemmas::Grind::common_steps), unfolding(crate::specs::Offset::place_of))]
 pub fn find_offset_from_time_table_idx(indices: &[u32], needle: u32) -> DataOffset
     requires reached { Reached needle indices.now }
     requires indices_len_bound { length indices.now ≤ maximum }
@@ -110,8 +115,9 @@ pub fn find_offset_from_time_table_idx(indices: &[u32], needle: u32) -> DataOffs
 }
 
 // Look up: `None` for an empty list and for one whose first index is above the sought one.
+#[tactic(auto, using(crate::proofs::Search::head_is, crate::proofs::Search::head_none), unfolding(crate::specs::Offset::look_up, crate::specs::Offset::place, fst::specs::Refusal::tried))]
 pub fn get_offset(indices: &[u32], time_table_idx: u32) -> Result<Option<DataOffset>, Refusal>
-    ensures { offset_of result ≡ look_up indices.now time_table_idx }
+    ensures { told result ≡ look_up indices.now time_table_idx }
 {
     if indices.len() > MAXIMUM as usize {
         return Err(Refusal::BadRecord);

@@ -1,14 +1,14 @@
 -- Laws of what quartering finds, whatever the list.
 -- Assumes nothing.
 use mathlib.Core.Path.{◌≡◌, refl, sym, ap, ◌∙◌}
-use mathlib.Core.Bool.{Bool, true, false, cond, ◌&&◌}
+use mathlib.Core.Bool.{Bool, true, false, cond}
 use mathlib.Core.List.{List, [], ◌∷◌}
 use Prim.Native.Nat.{ℕ, zero, suc, ◌+◌, ◌-◌, ◌*◌, ◌/◌, ◌≤◌, ◌<◌, min}
 use native.Mathlib.Nat.{not-suc-le-zero, mul-le-mul_right, add-zero}
 use native.Mathlib.Omega.{arith}
-use borrow.Author.Tests.{leb-false, le-leb, lt-leb, le-ltb, lt-ltb, ltb-true, eq-eqb, ne_eqb}
-use lib.Dec.{eqb, leb, ltb}
-use lib.ListN.{length, get_or, take, drop, length-take, length-drop}
+use borrow.Author.Tests.{leb-false, le-leb, lt-leb, le-ltb, lt-ltb, eq-eqb, ne_eqb}
+use lib.Dec.{eqb, leb}
+use lib.ListN.{length, get_or, take, drop, length-drop}
 use lib.Seq.{take_all}
 use Rattle.value.specs.Slice.{part}
 use Rattle.value.proofs.Slices.{part_length, part_at}
@@ -173,21 +173,6 @@ module _ {n i : ℕ} {l : List ℕ} {end : ℕ} (b : Sought n i l end) where
   pub sought_here : n < end → (get_or l (end - n - 1) 0 ≡ i → ⊥) → n ≡ reach_of end 1 i l end
   sought_here h e = sym (reach_here (b.left - 1) n i l end h e) ∙ ap (λ (k : ℕ). reach_of k n i l end) (one_left h) ∙ b.same
 
-reach_within : (k n i : ℕ) (l : List ℕ) (end : ℕ) → 1 ≤ n → n ≤ 8 * end → (1 ≤ reach_of k n i l end) × (reach_of k n i l end ≤ 8 * end)
-unfolding reach_of
-reach_within zero n i l end a h = (a, h)
-reach_within (suc k) n i l end a h =
-    go (ltb n end) refl (eqb (get_or l (end - (n + 1)) 0) i) (λ less. reach_within k (n * 8) i l end (omega arith) (omega (arith, less)))
-  where
-    go : (b : Bool) → ltb n end ≡ b → (c : Bool) → (n < end → (1 ≤ reach_of k (n * 8) i l end) × (reach_of k (n * 8) i l end ≤ 8 * end))
-        → (1 ≤ cond (b && c) (reach_of k (n * 8) i l end) n) × (cond (b && c) (reach_of k (n * 8) i l end) n ≤ 8 * end)
-    go true e true f = f (ltb-true n end e)
-    go true e false f = (a, h)
-    go false e c f = (a, h)
-
-pub reach_bounds : (i : ℕ) (l : List ℕ) (end : ℕ) → 1 ≤ end → (1 ≤ reach_of end 1 i l end) × (reach_of end 1 i l end ≤ 8 * end)
-reach_bounds i l end h = reach_within end 1 i l end (omega arith) (omega arith)
-
 -- ---- the definitions by cases
 
 pub start_zero : (i : ℕ) (l : List ℕ) (end : ℕ) → i ≡ 0 → 0 ≡ start_of i l end
@@ -214,19 +199,6 @@ window p n l =
     ap (λ (m : ℕ). take m (drop p l)) all)
     (λ h.
     take_all (min (length l) (p + n) - p) (drop p l) (omega (arith, length-drop p l)) ∙ sym (take_all n (drop p l) (omega (arith, length-drop p l))))
-
-part_within : (p n : ℕ) (l : List ℕ) → length (part p n l) ≤ n
-unfolding part
-part_within p n l = omega (arith, length-take n (drop p l))
-
-pub start_within : (i : ℕ) (l : List ℕ) (end : ℕ) → 1 ≤ end → end ≤ length l → start_of i l end ≤ end + 8 * end
-start_within i l end some h = by_le i 0 (λ none_less. omega (arith, start_zero i l end (omega arith))) (λ k. there k)
-  where
-    there : 0 < i → start_of i l end ≤ end + 8 * end
-    there k =
-        let n = reach_of end 1 i l end in
-        let p = part (end - n) n l in
-        omega (arith, start_some i l end k, rank_within (i - 1) p, part_within (end - n) n l, (reach_bounds i l end some).1)
 
 -- where it is the last index alone
 pub start_alone : (i : ℕ) (l : List ℕ) (end : ℕ) → 0 < i → 1 ≤ end → end ≤ length l → 1 ≡ reach_of end 1 i l end → get_or l (end - 1) 0 ≡ i

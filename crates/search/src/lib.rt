@@ -2,8 +2,8 @@
 #![tactic(auto)]
 
 ghost use Rattle.std.specs.Prelude.{◌≡◌, ◌≤◌, ◌<◌, ◌-◌, leb, length, get_or, count_by};
+ghost use Rattle.fst.specs.Refusal.{told};
 ghost use Rattle.fst.specs.Record.{maximum};
-ghost use Rattle.offset.specs.Offset.{offset_of};
 ghost use Rattle.search.specs.Quartering.{not_above, ends, rank, reach_of, start_of, search};
 
 use fst::Refusal;
@@ -22,6 +22,7 @@ fn count(indices: &[u32], needle: u32) -> u32
 }
 
 // How many of the first three quarters end in an index that is not above the needle.
+#[tactic(auto, using(crate::proofs::Quartering::passed_by, crate::proofs::Quartering::not_above_within))]
 fn passed(indices: &[u32], needle: u32) -> usize
     requires { 16 < length indices.now }
     ensures { result ≡ not_above needle (ends indices.now) }
@@ -34,6 +35,7 @@ fn passed(indices: &[u32], needle: u32) -> usize
 }
 
 // The number of indices that are not above the needle, by quartering: of two halvings the second would wait for the first.
+#[tactic(auto, using(crate::proofs::Quartering::rank_turn, crate::proofs::Quartering::rank_within, crate::proofs::Quartering::rank_short, crate::proofs::Quartering::not_above_count), unfolding(value::specs::Slice::part))]
 fn rank(indices: &[u32], needle: u32) -> usize
     ensures { result ≡ rank needle indices.now }
 {
@@ -50,6 +52,7 @@ fn rank(indices: &[u32], needle: u32) -> usize
 }
 
 // In how many indices the run is looked for that ends at a place. Most runs are short, and found near.
+#[tactic(auto, using(crate::proofs::Quartering::sought_first, crate::proofs::Quartering::sought_all, crate::proofs::Quartering::sought_more, crate::proofs::Quartering::sought_here))]
 fn find_reach(indices: &[u32], end: usize, index: u32) -> usize
     requires end_in_bounds { end ≤ length indices.now }
     requires indices_len_bound { length indices.now ≤ maximum }
@@ -63,6 +66,7 @@ fn find_reach(indices: &[u32], end: usize, index: u32) -> usize
 }
 
 // Where the run of the index in front of an end begins.
+#[tactic(auto, using(crate::proofs::Quartering::start_zero, crate::proofs::Quartering::start_some, crate::proofs::Quartering::start_alone, crate::proofs::Quartering::rank_within, crate::proofs::Quartering::window))]
 fn find_start(indices: &[u32], end: usize, index: u32) -> usize
     requires le_end { 1 ≤ end }
     requires end_in_bounds { end ≤ length indices.now }
@@ -83,8 +87,9 @@ fn find_start(indices: &[u32], end: usize, index: u32) -> usize
 }
 
 // Search: Look up's answer if no index falls, and some answer if one does.
+#[tactic(auto, using(crate::proofs::Quartering::rank_within, crate::proofs::Quartering::run_none, crate::proofs::Quartering::run_at), unfolding(crate::specs::Quartering::search, fst::specs::Refusal::tried))]
 pub fn search(indices: &[u32], time_table_idx: u32) -> Result<Option<DataOffset>, Refusal>
-    ensures { offset_of result ≡ search indices.now time_table_idx }
+    ensures { told result ≡ search indices.now time_table_idx }
 {
     if indices.len() > MAXIMUM as usize {
         return Err(Refusal::BadRecord);

@@ -65,14 +65,6 @@ module _ (S : States) (n : ℕ) (h : n * bits_of S ≤ 8) where
       go Four = omega arith
       go Nine = omega arith
 
-  pub first_one : (n ≡ 0 → ⊥) → 1 ≡ len_of n S
-  first_one e = let p : 0 < n = omega arith in go S p h
-    where
-      go : (S : States) → 0 < n → n * bits_of S ≤ 8 → 1 ≡ len_of n S
-      go Two p h = omega arith
-      go Four p h = omega arith
-      go Nine p h = omega arith
-
 pub number_one : (v : List ℕ) → 0 < length v → get_or v 0 0 ≡ number 256 (take 1 v)
 unfolding number
 number_one [] h = absurd (omega arith)
@@ -195,13 +187,6 @@ module _ {w : ℕ} {S : States} {levels : List ℕ} {i k j : ℕ} {first : List 
     (d : k ≡ j) (e : first ≡ overlay out 0 (text_of (digits (2 ^ bits_of S) i (number 256 (take j levels))))) where
   full : take (length levels - k) (drop k levels) ≡ drop k levels
   full = take_all (length levels - k) (drop k levels) (rw length-drop (omega arith))
-
-  pub text_room : i + per_byte S * length (take (length levels - k) (drop k levels)) ≤ length first
-  text_room =
-      let T = text_of (digits (2 ^ bits_of S) i (number 256 (take j levels))) in
-      let t : length T ≡ i = text_length (2 ^ bits_of S) i (number 256 (take j levels)) in
-      let g : length first ≡ length out = ap length e ∙ overlay_length out T 0 (omega (arith, t, h.rest)) in
-      rw (full, length-drop k levels, g) (omega (arith, h.rest))
 
   pub text_whole : Below 256 levels → {last : List ℕ}
       → last ≡ overlay first i (text_of (digits (2 ^ bits_of S) (per_byte S * length (take (length levels - k) (drop k levels))) (number 256 (take (length levels - k) (drop k levels)))))

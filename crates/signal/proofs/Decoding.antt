@@ -1,52 +1,38 @@
 -- An entry of a bit vector decoded step by step: its own set, the bytes of its levels, its codes.
 -- Assumes nothing.
 use mathlib.Core.Path.{◌≡◌, refl, sym, ap, ◌∙◌}
-use mathlib.Core.Bool.{true, false}
+use mathlib.Core.Bool.{false, cond}
 use mathlib.Core.List.{List, [], ◌∷◌, ◌++◌, map-append}
-use Rattle.std.specs.Prelude.{Ok, Err}
 use Prim.Native.Nat.{ℕ, zero, suc, ◌+◌, ◌-◌, ◌*◌, ◌/◌, ◌^◌, ◌≤◌, ◌<◌}
 use native.Mathlib.Nat.{mul-le-mul_right, suc-mul}
 use native.Mathlib.Numerals.{add-one}
 use native.Mathlib.Omega.{arith}
 use lib.ListN.{length, take, get_or, set, length-map, length-take}
 use lib.Seq.{take-suc}
-use borrow.Author.Tests.{lt-ltb, le-ltb, le-leb, lt-leb}
+use lib.Dec.{eqb}
+use borrow.Author.Tests.{ne_eqb}
 use Rattle.value.specs.declared.States.{States}
 use Rattle.value.specs.declared.States.TheVariants.{Two, Four, Nine}
 use Rattle.value.specs.Digits.{number, Below}
-use Rattle.value.specs.Slice.{any, overlay}
-use Rattle.value.specs.Level.{mark_of, bits_of, set_at, letter_of, is_no_code, has_no_code, text_of}
+use Rattle.value.specs.Slice.{overlay}
+use Rattle.value.specs.Level.{mark_of, bits_of, set_at, letter_of, has_no_code, text_of}
 use Rattle.value.specs.Answer.{level_at, LevelIn}
 use Rattle.value.proofs.Digits.{digits_length, digits_at, digits_below}
 use Rattle.value.proofs.Levels.{set_mark, len_room, none_foreign}
-use Rattle.value.proofs.Tests.{or_both}
-use Rattle.value.proofs.Slices.{any_at, any_snoc, overlay_store}
-use Rattle.fst.specs.declared.Refusal.TheVariants.{BadMark}
+use Rattle.value.proofs.Slices.{overlay_store}
 use Rattle.signal.specs.Decode.{mark_in, codes_at}
-use Rattle.signal.specs.Parts.{own_states, Levels}
+use Rattle.signal.specs.Parts.{Levels}
 
 -- the own mark by the mark of the largest set
 pub mark_by : (M : States) (v : List ℕ) (m k : ℕ) → m ≡ mark_of M → k ≡ mark_in (set_at m) v → k ≡ mark_in M v
 mark_by M v m k d e = e ∙ ap (λ (N : States). mark_in N v) (ap set_at d ∙ set_mark M)
 
-module _ (M : States) (v : List ℕ) (m k : ℕ) (d : m ≡ mark_of M) (e : k ≡ mark_in (set_at m) v) where
-  pub own_bad : m < k → Err BadMark ≡ own_states M v
-  unfolding own_states
-  own_bad h = rw (lt-ltb (mark_of M) (mark_in M v) (rw (← d, ← mark_by M v m k d e) h))
-
-  pub own_good : (S : States) → k ≤ m → S ≡ set_at k → Ok S ≡ own_states M v
-  unfolding own_states
-  own_good S h f = let q = mark_by M v m k d e in rw (le-ltb (mark_of M) (mark_in M v) (rw (← d, ← q) h), f, q)
-
-pub mark_none : (m : ℕ) (v : List ℕ) → m ≡ 0 → 0 ≡ mark_in (set_at m) v
+-- by the mark of the largest set
+pub mark_at : (m : ℕ) (v : List ℕ) → mark_in (set_at m) v ≡ cond (eqb m 0) 0 (get_or v 0 0 / 64)
 unfolding mark_in
-mark_none m v e = rw e
-
-pub mark_some : (m : ℕ) (v : List ℕ) → (m ≡ 0 → ⊥) → get_or v 0 0 / 64 ≡ mark_in (set_at m) v
-unfolding mark_in
-mark_some zero v n = absurd (n refl)
-mark_some (suc zero) v n = refl
-mark_some (suc (suc m)) v n = refl
+mark_at zero v = refl
+mark_at (suc zero) v = refl
+mark_at (suc (suc m)) v = rw (ne_eqb (suc (suc m)) 0 (λ e. absurd (omega arith)))
 
 module _ {w : ℕ} {S : States} {levels : List ℕ} (h : Levels w S levels) (i : ℕ) (k : i < w) where
   -- the level of character i lies within the bytes
@@ -86,22 +72,9 @@ module _ (w : ℕ) (S : States) (levels : List ℕ) where
 
 -- ---- a loop over the codes
 
-pub none_yet : (cs : List ℕ) → has_no_code (take 0 cs) ≡ false
-unfolding any
-none_yet cs = refl
-
 module _ (cs : List ℕ) (i : ℕ) (h : i < length cs) where
   pub taken_more : take (i + 1) cs ≡ take i cs ++ (get_or cs i 0 ∷ [])
   taken_more = rw (add-one, take-suc cs i 0)
-
-  pub bad_at : (c : ℕ) → c ≡ get_or cs i 0 → 9 ≤ c → true ≡ has_no_code cs
-  bad_at c e b = sym (any_at is_no_code cs i 0 h (le-leb 9 (get_or cs i 0) (rw (← e) b)))
-
-  pub none_more : (c : ℕ) → c ≡ get_or cs i 0 → c < 9 → has_no_code (take i cs) ≡ false → has_no_code (take (i + 1) cs) ≡ false
-  none_more c e b n =
-      rw taken_more
-      (any_snoc is_no_code (take i cs) (get_or cs i 0)
-      ∙ or_both (has_no_code (take i cs)) (is_no_code (get_or cs i 0)) n (lt-leb 9 (get_or cs i 0) (rw (← e) b)))
 
   -- one more letter stored behind those that stand there
   pub text_more : (out : List ℕ) (at c : ℕ) → c ≡ letter_of (get_or cs i 0) → at + i < length out

@@ -1,7 +1,7 @@
 -- The entries of a record by their number, a test over them, and a walk over them.
 -- Assumes nothing.
 use mathlib.Core.Path.{◌≡◌, refl, sym, ap, ◌∙◌}
-use mathlib.Core.Bool.{Bool, true, false}
+use mathlib.Core.Bool.{Bool, false}
 use mathlib.Core.List.{List, [], ◌∷◌}
 use Prim.Native.Nat.{ℕ, zero, suc, ◌+◌, ◌≤◌, ◌<◌}
 use native.Mathlib.Nat.{zero-add, add-zero}
@@ -11,10 +11,10 @@ use borrow.Author.Tests.{le-leb}
 use lib.ListN.{length, get_or, drop, drop_of_length-le}
 use lib.Seq.{drop-cons}
 use Rattle.value.specs.Slice.{part, any}
-use Rattle.value.proofs.Slices.{part_at, any_at, any_none}
+use Rattle.value.proofs.Slices.{part_at, any_none}
 use Rattle.value.proofs.Lists.{any_each}
 use Rattle.fst.specs.declared.Description.{Description}
-use Rattle.fst.specs.Record.{Kept, Lent, maximum, kept_in, fits_bytes, is_bad_bytes}
+use Rattle.fst.specs.Record.{Kept, Lent, kept_in, fits_bytes, is_bad_bytes}
 use Rattle.fst.proofs.Records.{Standing, indices_used}
 use Rattle.signal.specs.Decode.{Indexed, entry_at, indexed_by, entries_from, entries_in}
 use Rattle.signal.proofs.Reading.{HasEntry, entry_within}
@@ -46,9 +46,6 @@ pub entries_none : (r : Kept) (test : Indexed → Bool) → ((k : ℕ) → k < l
 entries_none r test f =
     any_each test (entries_in r) (indexed r 0) (λ k h. let p : k < length r.indices = rw (entries_count r) at h in ap test (entry_is r k (indexed r 0) p) ∙ f k p)
 
-pub entries_one : (r : Kept) (test : Indexed → Bool) (k : ℕ) → k < length r.indices → test (indexed r k) ≡ true → any test (entries_in r) ≡ true
-entries_one r test k h e = any_at test (entries_in r) k (indexed r 0) (rw (entries_count r) h) (ap test (entry_is r k (indexed r 0) h) ∙ e)
-
 pub entries_each : (r : Kept) (test : Indexed → Bool) → any test (entries_in r) ≡ false → (k : ℕ) → k < length r.indices → test (indexed r k) ≡ false
 entries_each r test e k h = sym (ap test (entry_is r k (indexed r 0) h)) ∙ any_none test (entries_in r) e k (indexed r 0) (rw (entries_count r) h)
 
@@ -79,9 +76,6 @@ module _ {d : Description} {l : Lent} {k : ℕ} (h : HasIndexed d l k) where
 
   pub has_index : l.index_start + k < length l.indices
   has_index = omega (arith, h.below, h.stands.room.indices)
-
-  pub has_few : k + 1 ≤ maximum
-  has_few = omega (arith, h.below, h.stands.room.count)
 
   pub rest_more : rest d l k ≡ entry_number d l k ∷ rest d l (k + 1)
   unfolding rest kept_in entries_from

@@ -9,28 +9,25 @@ use Prim.Native.Nat.{ℕ, suc, ◌+◌, ◌-◌, ◌*◌, ◌≤◌, ◌<◌}
 use native.Mathlib.Nat.{mul-le-mul_right, suc-mul}
 use native.Mathlib.Omega.{arith}
 use lib.ListN.{length, drop, length-drop}
-use borrow.Author.Tests.{ltb-false, lt-ltb, le-ltb, le-leb, lt-leb, leb-false}
+use borrow.Author.Tests.{ltb-false, lt-leb, leb-false}
 use Rattle.value.specs.declared.States.{States}
-use Rattle.value.specs.declared.States.TheVariants.{Two}
-use Rattle.value.specs.Slice.{part, overlay}
-use Rattle.value.specs.Level.{mark_of, set_at, len_of, has_no_code, text_of}
+use Rattle.value.specs.Slice.{part}
+use Rattle.value.specs.Level.{mark_of, set_at, len_of}
 use Rattle.value.proofs.Levels.{mark_set, mark_small}
 use Rattle.value.proofs.Slices.{part_length, part_part}
 use Rattle.fst.specs.declared.Encoding.{Encoding}
 use Rattle.fst.specs.declared.Encoding.TheVariants.{Event, Real, BitVector}
 use Rattle.fst.specs.declared.Description.{Description}
-use Rattle.fst.specs.Refusal.{Reply, refused, given, Test, ◌⇐◌, tried, refusal_number, outcome}
+use Rattle.fst.specs.Refusal.{Reply, refused, given, ◌⇐◌, tried}
 use Rattle.layout.specs.Entry.{entry_size}
 use Rattle.fst.specs.Record.{size_of, has_no_text, used_size, is_bad_bytes}
 use Rattle.layout.proofs.Sizes.{size_pos}
 use Rattle.layout.proofs.EntryParts.{len_fits}
 use Rattle.fst.proofs.Adding.{width_known}
 use Rattle.fst.proofs.Rooms.{stands}
-use Rattle.signal.specs.declared.Kind.{Kind}
-use Rattle.signal.specs.Decode.{entry_at, mark_in, set_in, level_part, levels_in, has_bad_mark, has_bad_code, text_in, codes_at}
-use Rattle.fst.specs.declared.Refusal.{Refusal}
+use Rattle.signal.specs.Decode.{entry_at, mark_in, set_in, level_part, levels_in, has_bad_mark, has_bad_code, codes_at}
 use Rattle.fst.specs.declared.Refusal.TheVariants.{BadMark}
-use Rattle.signal.specs.Read.{Entry, kind_of, entry_in, read_entry, text_left, read_text}
+use Rattle.signal.specs.Read.{read_entry, read_text}
 use Rattle.signal.specs.Parts.{own_states, Levels, Whole, Inside, Unpacked, unpacked, marked, coded, vector_in, answer_in, text_stored}
 
 -- ---- one entry of a bit vector
@@ -56,14 +53,6 @@ pub record Sound (w : ℕ) (M : States) (v : List ℕ) (u : Unpacked) : Type 0 w
 -- ---- the own set
 
 module _ (w : ℕ) (M : States) (v : List ℕ) where
-  pub bad_own : {r : Refusal} → own_states M v ≡ Err r → (has_bad_mark (BitVector w M) v ≡ true) × (r ≡ BadMark)
-  unfolding own_states has_bad_mark
-  bad_own {r} h = go (ltb (mark_of M) (mark_in M v)) h
-    where
-      go : (b : Bool) → cond b (Err BadMark) (Ok (set_at (mark_in M v))) ≡ Err r → (b ≡ true) × (r ≡ BadMark)
-      go true h = (refl, cc)
-      go false h = cc
-
   pub own_set : {S : States} → own_states M v ≡ Ok S → (has_bad_mark (BitVector w M) v ≡ false) × (set_in (BitVector w M) v ≡ S)
   unfolding own_states has_bad_mark set_in
   own_set {S} h = go (ltb (mark_of M) (mark_in M v)) h
@@ -77,14 +66,6 @@ module _ (w : ℕ) (M : States) (v : List ℕ) where
   set_own h e = rw (h, e)
 
   -- ---- the levels, or 9, and or 10
-
-  pub marked_bad : {r : Refusal} → own_states M v ≡ Err r → refused (refusal_number r) ≡ marked w M v
-  unfolding tried
-  marked_bad h = let b = bad_own h in rw (b.0, b.1)
-
-  pub marked_own : {S : States} → own_states M v ≡ Ok S → {u : Unpacked} → u ≡ unpacked w M v → given u ≡ marked w M v
-  unfolding tried
-  marked_own h e = rw (e, (own_set h).0)
 
   pub marked_given : {u : Unpacked} → given u ≡ marked w M v → (has_bad_mark (BitVector w M) v ≡ false) × (u ≡ unpacked w M v)
   unfolding tried
@@ -105,15 +86,6 @@ module _ (w : ℕ) (M : States) (v : List ℕ) where
   pub codes_are : {u : Unpacked} → u ≡ unpacked w M v → codes_at u.width u.set u.part ≡ levels_in (BitVector w M) v
   unfolding levels_in
   codes_are e = rw e
-
-  module _ {u : Unpacked} (e : given u ≡ marked w M v) where
-    pub coded_bad : has_no_code (codes_at u.width u.set u.part) ≡ true → refused 10 ≡ coded w M v
-    unfolding tried
-    coded_bad h = let g = marked_given e in rw (g.0, sym (ap has_no_code (codes_are g.1)) ∙ h)
-
-    pub coded_good : has_no_code (codes_at u.width u.set u.part) ≡ false → given u ≡ coded w M v
-    unfolding tried
-    coded_good h = let g = marked_given e in rw (g.0, sym (ap has_no_code (codes_are g.1)) ∙ h, g.1)
 
   -- an entry that is neither 9 nor 10
   pub coded_given : {u : Unpacked} → given u ≡ coded w M v → Sound w M v u
@@ -149,19 +121,6 @@ module _ {w : ℕ} {M : States} {v : List ℕ} (h : Whole (BitVector w M) v) whe
 
 -- ---- Read
 
-pub answer_refused : {e : Encoding} {w : ℕ} {M : States} (v : List ℕ) {n : ℕ} → e ≡ BitVector w M → refused n ≡ marked w M v → refused n ≡ answer_in e v
-unfolding answer_in tried
-answer_refused {e} {w} {M} v {n} q = rw q (go (has_bad_mark (BitVector w M) v))
-  where
-    go : (b : Bool) → refused n ≡ tried (9 ⇐ b ∷ []) (given (unpacked w M v)) → refused n ≡ tried (9 ⇐ b ∷ []) (given (entry_in (BitVector w M) v))
-    go true e = cc
-    go false e = cc
-
-pub answer_given : {e : Encoding} {w : ℕ} {M : States} (v : List ℕ) {k : Kind} {u : Unpacked} → e ≡ BitVector w M → k ≡ kind_of e → given u ≡ marked w M v
-    → given (record { kind = k; set = u.set; part = u.part }) ≡ answer_in e v
-unfolding answer_in tried
-answer_given {e} {w} {M} v q k h = let g = marked_given w M v h in rw (k, q, g.0, g.1)
-
 -- an entry within a record's used part
 pub entry_within : (d : Description) (bytes : List ℕ) (start k : ℕ) → k < d.count
     → entry_at d.encoding 0 (part start (used_size d) bytes) k ≡ entry_at d.encoding start bytes k
@@ -170,26 +129,6 @@ entry_within d bytes start k h =
     let z = size_of d.encoding in
     let a : k * z + z ≤ used_size d = subst (λ (n : ℕ). n ≤ used_size d) (suc-mul k z) (mul-le-mul_right z h) in
     part_part bytes start (used_size d) (0 + k * z) z (omega arith) ∙ ap (λ (n : ℕ). part n z bytes) (omega arith)
-
--- the answer once 2 and 8 are tried
-pub answer_plain : {e : Encoding} {v : List ℕ} {k : Kind} → ((w : ℕ) (M : States) → e ≡ BitVector w M → ⊥) → k ≡ kind_of e
-    → given (record { kind = k; set = Two; part = v }) ≡ answer_in e v
-unfolding answer_in tried has_bad_mark set_in level_part
-answer_plain {e} {v} o k = rw k (go e o)
-  where
-    go : (e : Encoding) → ((w : ℕ) (M : States) → e ≡ BitVector w M → ⊥) → given (record { kind = kind_of e; set = Two; part = v }) ≡ answer_in e v
-    go Event o = refl
-    go Real o = refl
-    go (BitVector w M) o = absurd (o w M refl)
-
-module _ (d : Description) (bytes : List ℕ) (start k : ℕ) where
-  pub read_bad : is_bad_bytes d start bytes ≡ true → read_entry d bytes start k ≡ refused 2
-  unfolding read_entry tried
-  read_bad h = rw h
-
-  pub read_past : is_bad_bytes d start bytes ≡ false → d.count ≤ k → read_entry d bytes start k ≡ refused 8
-  unfolding read_entry tried
-  read_past h p = rw (h, le-leb d.count k p)
 
 -- a record whose bytes are not 2, and that has an entry k
 pub record HasEntry (d : Description) (bytes : List ℕ) (start k : ℕ) : Type 0 where
@@ -230,24 +169,6 @@ pub record Found (d : Description) (bytes : List ℕ) (start k : ℕ) (e : Encod
   pub part : v ≡ entry_at d.encoding start bytes k
 
 module _ (d : Description) (bytes : List ℕ) (start k : ℕ) where
-  pub vector_bad : is_bad_bytes d start bytes ≡ true → refused 2 ≡ vector_in d bytes start k
-  unfolding vector_in tried
-  vector_bad h = rw h
-
-  module _ (h : is_bad_bytes d start bytes ≡ false) where
-    pub vector_none : ((w : ℕ) (M : States) → d.encoding ≡ BitVector w M → ⊥) → refused 3 ≡ vector_in d bytes start k
-    unfolding vector_in tried
-    vector_none o = rw (h, no_text d.encoding o)
-
-    pub vector_past : {w : ℕ} {M : States} → d.encoding ≡ BitVector w M → d.count ≤ k → refused 8 ≡ vector_in d bytes start k
-    unfolding vector_in tried has_no_text
-    vector_past e p = rw (h, e, le-leb d.count k p)
-
-  pub vector_found : HasEntry d bytes start k → {w : ℕ} {M : States} → d.encoding ≡ BitVector w M → {v : List ℕ} → v ≡ entry_at d.encoding start bytes k
-      → given (BitVector w M, v) ≡ vector_in d bytes start k
-  unfolding vector_in tried has_no_text
-  vector_found h e q = rw (q, h.sound, e, lt-leb d.count k h.below)
-
   pub vector_given : {e : Encoding} {v : List ℕ} → ◌≡◌ {A = Reply (Encoding × List ℕ)} (given (e, v)) (vector_in d bytes start k) → Found d bytes start k e v
   unfolding vector_in tried
   vector_given {e} {v} = go (is_bad_bytes d start bytes) refl (has_no_text d.encoding) (leb d.count k) refl
@@ -261,52 +182,7 @@ module _ (d : Description) (bytes : List ℕ) (start k : ℕ) where
           let i : ◌≡◌ {A = Encoding × List ℕ} (e, v) (d.encoding, entry_at d.encoding start bytes k) = cc in
           record { has = record { sound = p; below = leb-false _ _ r }; encoding = sym (ap (λ (x : Encoding × List ℕ). x.0) i); part = ap (λ (x : Encoding × List ℕ). x.1) i }
 
-  -- what is tried after 2, 3 and 8
-  pub vector_refused : {A : Type 0} {n : ℕ} → refused n ≡ vector_in d bytes start k → (tests : List Test) (r : Reply A)
-      → refused n ≡ tried (2 ⇐ is_bad_bytes d start bytes ∷ 3 ⇐ has_no_text d.encoding ∷ 8 ⇐ leb d.count k ∷ tests) r
-  unfolding vector_in tried
-  vector_refused {A} {n} h tests r = go (is_bad_bytes d start bytes) (has_no_text d.encoding) (leb d.count k) h
-    where
-      go : (a b c : Bool) → ◌≡◌ {A = Reply (Encoding × List ℕ)} (refused n) (tried (2 ⇐ a ∷ 3 ⇐ b ∷ 8 ⇐ c ∷ []) (given (d.encoding, entry_at d.encoding start bytes k)))
-          → refused n ≡ tried (2 ⇐ a ∷ 3 ⇐ b ∷ 8 ⇐ c ∷ tests) r
-      go true b c h = cc
-      go false true c h = cc
-      go false false true h = cc
-      go false false false h = cc
-
-  pub entry_refused : {w : ℕ} {M : States} → d.encoding ≡ BitVector w M → {n : ℕ} → refused n ≡ vector_in d bytes start k → refused n ≡ read_entry d bytes start k
-  unfolding read_entry tried has_no_text
-  entry_refused q h = vector_refused h _ _ ∙ passed _ (has_no_text d.encoding) (rw q) _ _
-    where
-      passed : (a b : Bool) → b ≡ false → (tests : List Test) (r : Reply Entry) → tried (2 ⇐ a ∷ 3 ⇐ b ∷ tests) r ≡ tried (2 ⇐ a ∷ tests) r
-      passed true b e tests r = refl
-      passed false b e tests r = rw e
-
-  pub text_refused : (out : List ℕ) {n : ℕ} → refused n ≡ vector_in d bytes start k → text_left n out ≡ read_text d bytes start k out
-  unfolding read_text
-  text_refused out h = ap (outcome out) (vector_refused h _ _)
-
 pub text_on : {d : Description} {bytes : List ℕ} {start k : ℕ} → HasEntry d bytes start k → {w : ℕ} {M : States} → d.encoding ≡ BitVector w M
     → {v : List ℕ} → v ≡ entry_at d.encoding start bytes k → (out : List ℕ) → text_stored w M v out ≡ read_text d bytes start k out
 unfolding read_text tried has_no_text text_stored
 text_on {d} {k} h e q out = rw (q, h.sound, e, lt-leb d.count k h.below)
-
--- text once the entry is found
-module _ (w : ℕ) (M : States) (v out : List ℕ) where
-  pub stored_refused : {n : ℕ} → refused n ≡ coded w M v → text_left n out ≡ text_stored w M v out
-  unfolding text_stored tried
-  stored_refused {n} = go (has_bad_mark (BitVector w M) v) (has_bad_code (BitVector w M) v)
-    where
-      go : (b c : Bool) → refused n ≡ tried (9 ⇐ b ∷ 10 ⇐ c ∷ []) (given (unpacked w M v)) → text_left n out ≡ outcome out (tried (9 ⇐ b ∷ 10 ⇐ c ∷ 7 ⇐ ltb (length out) w ∷ []) (given (overlay out 0 (text_in (BitVector w M) v))))
-      go true c e = let i : n ≡ 9 = cc in rw i
-      go false true e = let i : n ≡ 10 = cc in rw i
-      go false false e = cc
-
-  module _ {u : Unpacked} (h : given u ≡ coded w M v) where
-    pub stored_short : length out < u.width → text_left 7 out ≡ text_stored w M v out
-    unfolding text_stored tried
-    stored_short l = let s = coded_given w M v h in rw (s.mark, s.code, lt-ltb (length out) w (rw s.is at l))
-
-    pub stored_all : u.width ≤ length out → {r : List ℕ} → r ≡ overlay out 0 (text_of (codes_at u.width u.set u.part)) → text_left 0 r ≡ text_stored w M v out
-    unfolding text_stored tried
-    stored_all l q = let s = coded_given w M v h in rw (s.mark, s.code, le-ltb (length out) w (rw s.is at l), q, codes_are w M v s.is)

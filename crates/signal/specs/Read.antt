@@ -1,17 +1,16 @@
 -- Document 01, "Read an entry" and "Text of an entry".
 -- Assumes nothing.
-use Rattle.std.specs.Prelude.{ℕ, List, [], ◌∷◌, ◌++◌, leb, ltb, length, Result, Ok, Err}
+use Rattle.std.specs.Prelude.{ℕ, List, [], ◌∷◌, ◌++◌, leb, ltb, length}
 use Rattle.value.specs.declared.States.{States}
 use Rattle.value.specs.Slice.{overlay}
 use Rattle.fst.specs.declared.Encoding.{Encoding}
 use Rattle.fst.specs.declared.Encoding.TheVariants.{Event, Real, BitVector}
 use Rattle.fst.specs.declared.Description.{Description}
-use Rattle.fst.specs.declared.Refusal.{Refusal}
-use Rattle.fst.specs.Refusal.{Reply, refused, given, Test, ◌⇐◌, tried, Outcome, outcome, refusal_number}
+use Rattle.fst.specs.Refusal.{Reply, refused, given, Test, ◌⇐◌, tried, Outcome, outcome}
 use Rattle.fst.specs.Record.{width_of, has_no_text, is_bad_bytes}
 use Rattle.signal.specs.declared.Kind.{Kind}
 use Rattle.signal.specs.declared.Kind.TheVariants as kind
-use Rattle.signal.specs.declared.Entry as told
+use Rattle.signal.specs.declared.Entry as answer
 use Rattle.signal.specs.Decode.{entry_at, set_in, level_part, has_bad_mark, has_bad_code, text_in}
 
 -- "The answer is the kind, own set, and that part of the lent bytes which holds the levels"
@@ -43,10 +42,9 @@ abbrev pub part_of : Reply Entry → List ℕ
 part_of (refused n) = []
 part_of (given e) = e.part
 
--- the answer, by number and values
-abbrev pub reply_of : Result told.Entry Refusal → Reply Entry
-reply_of (Ok e) = given (record { kind = e.kind; set = e.states; part = e.part.now })
-reply_of (Err r) = refused (refusal_number r)
+-- the answer by its values
+abbrev pub is_entry : answer.Entry → Entry
+is_entry e = record { kind = e.kind; set = e.states; part = e.part.now }
 
 -- what Text leaves, by its number and the text slice as it is then
 abbrev pub text_left : ℕ → List ℕ → Outcome (List ℕ)

@@ -19,6 +19,7 @@ pub struct Packed<'a> {
 
 impl<'a> Packed<'a> {
     // The code of character i.
+    #[tactic(auto, using(crate::proofs::Decoding::level_in, crate::proofs::Decoding::level_code))]
     pub fn code_at(&self, i: u32) -> u8
         requires { i < self.now.width }
         ensures { result ≡ get_or (codes_at self.now.width self.now.states self.now.bytes.now) i 0 }
@@ -43,6 +44,7 @@ impl<'a> Packed<'a> {
 }
 
 // More than 0 for a byte of two codes of which one is 9 to 15. It has no jumps, so that a fold over it is compiled to wide instructions.
+#[tactic(auto, using(crate::proofs::CodesOfBytes::bad_byte))]
 pub fn bad_bits(byte: u8) -> u8
     ensures { ltb 0 result ≡ is_bad_byte byte }
 {
@@ -50,6 +52,7 @@ pub fn bad_bits(byte: u8) -> u8
 }
 
 // Whether a code of bytes that are full is 9 to 15.
+#[tactic(auto, using(crate::proofs::CodesOfBytes::bad_more), unfolding(value::specs::Slice::any))]
 pub fn has_bad_byte(levels: &[u8]) -> bool
     ensures { result ≡ any is_bad_byte levels.now }
 {
@@ -61,6 +64,7 @@ pub fn has_bad_byte(levels: &[u8]) -> bool
 }
 
 // Whether the code of a first byte that has but one is 9 to 15.
+#[tactic(auto, using(crate::proofs::CodesOfBytes::bad_none, crate::proofs::CodesOfBytes::bad_one))]
 fn has_bad_first(first: &[u8]) -> bool
     requires { length first.now ≤ 1 }
     ensures { result ≡ has_no_code (digits 16 (length first.now) (number 256 first.now)) }
@@ -72,6 +76,7 @@ fn has_bad_first(first: &[u8]) -> bool
 }
 
 // Whether a code is 9 to 15, as only four bits can be.
+#[tactic(auto, using(crate::proofs::Decoding::few_bits))]
 fn has_bad_code(width: u32, states: States, levels: &[u8]) -> bool
     requires { Levels width states levels.now }
     ensures { result ≡ has_no_code (codes_at width states levels.now) }
@@ -84,6 +89,7 @@ fn has_bad_code(width: u32, states: States, levels: &[u8]) -> bool
 }
 
 // Stores the characters of the lowest levels of a byte from a place on.
+#[tactic(auto, using(value::proofs::Slices::overlay_nil, value::proofs::Digits::digits_length, std::proofs::lemmas::Grind::common_steps))]
 fn write_levels(states: States, byte: u8, count: u32, out: &mut [u8], at: usize)
     requires { (count * bits_of states ≤ 8) × (at + count ≤ length out.old) }
     ensures { out.new ≡ overlay out.old at (text_of (digits (2 ^ bits_of states) count byte)) }
@@ -96,6 +102,7 @@ fn write_levels(states: States, byte: u8, count: u32, out: &mut [u8], at: usize)
 }
 
 // Stores the characters of a first byte that is not full. Returns how many bytes have been read.
+#[tactic(auto, using(crate::proofs::CodesOfBytes::number_one, value::proofs::Slices::overlay_nil), unfolding(value::specs::Digits::digits))]
 fn write_first(states: States, count: u32, levels: &[u8], out: &mut [u8]) -> usize
     requires { (count * bits_of states ≤ 8) × (len_of count states ≤ length levels.now) × (count ≤ length out.old) }
     ensures value { result ≡ len_of count states }
@@ -121,6 +128,7 @@ fn write_byte(states: States, byte: u8, out: &mut [u8], at: usize)
 }
 
 // Stores the characters of full bytes from a place on.
+#[tactic(auto, using(crate::proofs::CodesOfBytes::stored_none))]
 fn write_bytes(states: States, levels: &[u8], out: &mut [u8], at: usize)
     requires { at + 8 / bits_of states * length levels.now ≤ length out.old }
     ensures { out.new ≡ overlay out.old at (text_of (digits (2 ^ bits_of states) (8 / bits_of states * length levels.now) (number 256 levels.now))) }

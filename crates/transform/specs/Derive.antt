@@ -7,7 +7,7 @@ use Rattle.value.specs.declared.States.{States}
 use Rattle.value.specs.declared.States.TheVariants.{Two}
 use Rattle.fst.specs.Change.{lacks_room}
 use Rattle.fst.specs.Record.{Kept, Lent, largest_in, width_of, lent, described}
-use Rattle.fst.specs.Refusal.{Reply, Test, ◌⇐◌, given, made_of, refused, tried}
+use Rattle.fst.specs.Refusal.{Reply, Test, ◌⇐◌, given, refused, told, tried}
 use Rattle.fst.specs.declared.Description.{Description}
 use Rattle.fst.specs.declared.Encoding.TheVariants.{Event}
 use Rattle.fst.specs.declared.Refusal.{Refusal}
@@ -129,7 +129,7 @@ derived_of d s = derived_from d s.inputs.now s.bytes.now s.indices.now
 
 -- an answer and the output slices as they are then
 abbrev pub left_by_derive : Result Description Refusal → List ℕ → List ℕ → Derived
-left_by_derive made bytes indices = record { answer = made_of made; bytes = bytes; indices = indices }
+left_by_derive made bytes indices = record { answer = told made; bytes = bytes; indices = indices }
 
 unfoldable pub derive : DerivedBitVecSignal → Inputs → List ℕ → List ℕ → List ℕ → List ℕ → Derived
 derive d inputs bytes indices out_bytes out_indices =

@@ -1,13 +1,12 @@
 -- Inner: the tests of Derive before its room: what they ask, and what they leave known.
 -- Assumes nothing.
-use Rattle.std.specs.Prelude.{◌<◌, ◌≤◌, ℕ, Bool, false, List, [], ◌∷◌, length, map, ◌≡◌, Result, Ok, Err}
+use Rattle.std.specs.Prelude.{◌<◌, ◌≤◌, ℕ, Bool, false, List, [], ◌∷◌, length, map, ◌≡◌}
 use Rattle.value.specs.Slice.{any}
 use Rattle.value.specs.declared.States.{States}
 use Rattle.fst.specs.Record.{Kept, is_bad_bytes, width_of}
-use Rattle.fst.specs.Refusal.{Reply, Test, ◌⇐◌, given, refusal_number, refused}
+use Rattle.fst.specs.Refusal.{Test, ◌⇐◌}
 use Rattle.fst.specs.declared.Description.{Description}
 use Rattle.fst.specs.declared.Encoding.TheVariants.{BitVector}
-use Rattle.fst.specs.declared.Refusal.{Refusal}
 use Rattle.runs.specs.All.{All}
 use Rattle.signal.specs.Decode.{Indexed, entries_in, entry_at, has_bad_code, has_bad_mark}
 use Rattle.signal.specs.Parts.{Whole}
@@ -94,8 +93,3 @@ first_tests d inputs bytes indices =
     ∷ 9 ⇐ any mark_is_bad ks
     ∷ 10 ⇐ any (code_is_bad ks) (pieces_of d)
     ∷ []
-
--- a verdict as a reply
-abbrev pub verdict_reply : Result Unit Refusal → Reply Unit
-verdict_reply (Ok _) = given tt
-verdict_reply (Err r) = refused (refusal_number r)

@@ -4,13 +4,13 @@ ghost use Rattle.value.specs.Slice.{any};
 ghost use Rattle.value.specs.Level.{bits_of, has_no_code};
 ghost use Rattle.value.specs.declared.States.{States};
 ghost use Rattle.signal.specs.Parts.{Levels};
-ghost use Rattle.fst.specs.Refusal.{given, tried};
+ghost use Rattle.fst.specs.Refusal.{given, told, tried};
 ghost use Rattle.signal.specs.Decode.{entries_in, entry_at, levels_in, codes_at};
 ghost use Rattle.derivation.specs.Piece.{end_of, extract_of, pieces_of};
 ghost use Rattle.steps.specs.Inputs.{input_kept};
 ghost use Rattle.steps.specs.Refusals.{its_record, its_records, kept_with};
 ghost use Rattle.transform.specs.Derive.{is_unfit, is_beyond, pick_is_bad, picked_of, code_is_bad};
-ghost use Rattle.transform.specs.Refusals.{Named, ReadableInput, ReadableOf, RecordPick, SourcePick, first_tests, is_uncoded, verdict_reply};
+ghost use Rattle.transform.specs.Refusals.{Named, ReadableInput, ReadableOf, RecordPick, SourcePick, first_tests, is_uncoded};
 
 use derivation::{DerivedBitVecSignal, Extract};
 use fst::{Description, Encoding, Refusal};
@@ -168,7 +168,7 @@ fn any_bad_code(derivation: &DerivedBitVecSignal, sources: &Sources) -> bool
 // The first number before 7 that refuses a derivation of these inputs.
 #[tactic(auto, using(crate::proofs::RefusalsInOrder::first_bad, crate::proofs::RefusalsInOrder::first_unfit, crate::proofs::RefusalsInOrder::first_falls, crate::proofs::RefusalsInOrder::first_mark, crate::proofs::RefusalsInOrder::first_code, crate::proofs::RefusalsInOrder::first_none))]
 pub fn first_refusal(derivation: &DerivedBitVecSignal, sources: &Sources) -> Result<(), Refusal>
-    ensures { verdict_reply result ≡ tried (first_tests derivation.now sources.now.inputs.now sources.now.bytes.now sources.now.indices.now) (given tt) }
+    ensures { told result ≡ tried (first_tests derivation.now sources.now.inputs.now sources.now.bytes.now sources.now.indices.now) (given tt) }
 {
     if sources.any_bad() {
         return Err(Refusal::BadRecord);

@@ -1,8 +1,7 @@
 // The exported operations. None asks anything of its arguments but that the slices are lent as C and Rust lend them.
 ghost use Rattle.std.specs.Prelude.{◌≡◌};
-ghost use Rattle.fst.specs.Refusal.{number_of};
+ghost use Rattle.fst.specs.Refusal.{number_of, told};
 ghost use Rattle.signal.specs.Read.{text_left};
-ghost use Rattle.equality.specs.Compare.{equal_of};
 ghost use Rattle.fst.specs.Record.{lent, lent_in, fresh, fresh_real};
 ghost use Rattle.offset.specs.Offset.{look_up};
 ghost use Rattle.numbers.specs.Number.{unsigned, signed, decimal};
@@ -182,7 +181,7 @@ fn compare(
     b: FlatDescription,
     b_slices: Slices<'_>,
 ) -> Result<bool, Refusal>
-    ensures { equal_of result ≡ flat_compare a (lent_in a_slices.entry) b (lent_in b_slices.entry) }
+    ensures { told result ≡ flat_compare a (lent_in a_slices.entry) b (lent_in b_slices.entry) }
 {
     let first = Lent {
         description: Description::try_from(a)?,

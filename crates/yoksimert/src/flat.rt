@@ -1,9 +1,6 @@
 // Numbers into descriptions and answers into numbers.
 ghost use Rattle.std.specs.Prelude.{◌≡◌};
-ghost use Rattle.fst.specs.Refusal.{made_of};
-ghost use Rattle.equality.specs.Compare.{equal_of};
-ghost use Rattle.numbers.specs.Number.{told};
-ghost use Rattle.offset.specs.Offset.{offset_of};
+ghost use Rattle.fst.specs.Refusal.{told};
 ghost use Rattle.yoksimert.specs.Flat.{decoded, encoded, no_description, no_entry, flat_made, flat_equal, flat_number, flat_signed, nowhere, placed, flat_offset};
 
 use crate::{FlatDescription, FlatEntry, FlatEqual, FlatMade, FlatNumber, FlatOffset, FlatSigned};
@@ -72,7 +69,7 @@ fn no_description() -> FlatDescription
 // ---- answers
 
 impl From<Result<Description, Refusal>> for FlatMade {
-    ghost from_gives = { λ made f. f ≡ flat_made (made_of made) };
+    ghost from_gives = { λ made f. f ≡ flat_made (told made) };
 
     fn from(made: Result<Description, Refusal>) -> FlatMade {
         match made {
@@ -105,7 +102,7 @@ impl From<Refusal> for FlatEntry {
 }
 
 impl From<Result<bool, Refusal>> for FlatEqual {
-    ghost from_gives = { λ answer f. f ≡ flat_equal (equal_of answer) };
+    ghost from_gives = { λ answer f. f ≡ flat_equal (told answer) };
 
     fn from(answer: Result<bool, Refusal>) -> FlatEqual {
         match answer {
@@ -177,7 +174,7 @@ impl From<DataOffset> for FlatOffset {
 }
 
 impl From<Result<Option<DataOffset>, Refusal>> for FlatOffset {
-    ghost from_gives = { λ answer f. f ≡ flat_offset (offset_of answer) };
+    ghost from_gives = { λ answer f. f ≡ flat_offset (told answer) };
 
     fn from(answer: Result<Option<DataOffset>, Refusal>) -> FlatOffset {
         match answer {

@@ -6,9 +6,10 @@ use native.Mathlib.Omega.{arith}
 use Rattle.std.proofs.lemmas.Result.{err_from_is_err_and}
 use Rattle.fst.proofs.Records.{standing}
 use Rattle.signal.proofs.Entries.{rest}
+use Rattle.fst.specs.Refusal.{told}
 use Rattle.fst.specs.Record.{lent_in}
-use Rattle.equality.specs.Compare.{walked, compare_records, equal_of}
-use Rattle.equality.proofs.Comparing.{follow, walk_starts, step, ended}
+use Rattle.equality.specs.Compare.{walked, compare_records}
+use Rattle.equality.proofs.Comparing.{follow, walk_starts, step}
 use Rattle.equality.proofs.compare_entries.Goals.{After-compare_pair}
 use Rattle.equality.proofs.compare_entries.Goals as goal
 
@@ -17,7 +18,7 @@ paired : (c : After-compare_pair)
     → let a = c.args.a.now in
     let b = c.args.b.now in
     compare_records a.description (lent_in a.slices) b.description (lent_in b.slices)
-    ≡ follow (equal_of c.compare_pair.result) (walked (rest a.description (lent_in a.slices) (c.loop-k.k + 1)) (rest b.description (lent_in b.slices) (c.loop-k.k + 1)))
+    ≡ follow (told c.compare_pair.result) (walked (rest a.description (lent_in a.slices) (c.loop-k.k + 1)) (rest b.description (lent_in b.slices) (c.loop-k.k + 1)))
 paired c =
     let x = c.entry.ensures in
     let y = c.entry-in-loop-k.ensures in
@@ -44,6 +45,3 @@ unfolding follow
 loop-k-preserved c =
     let w = paired (goal.at.loop-k-preserved c).After-compare_pair in
     record { first = standing c.requires.a_sound; second = standing c.requires.b_sound; left = rw (c.in_ok-agree.was, c.if-not-agree.false) at w }
-
-pub returns : goal.returns
-returns c = ended c.loop-k.invariant (omega arith)

@@ -10,7 +10,6 @@ use Rattle.value.specs.Digits.{number, digits}
 use Rattle.value.specs.Slice.{part}
 use Rattle.value.specs.Level.{bits_of}
 use Rattle.value.proofs.Digits.{below_all}
-use Rattle.value.proofs.Levels.{bits_pos}
 use Rattle.numbers.specs.Parts.{bits_of_levels}
 use Rattle.numbers.proofs.Words.{per_word, Begun, More, codes_so_far, bits_known, bits_other, known_bits, other_bits, word_holds, first_begun, first_told, more, left_begun, word_none, word_more, word_left, word_end, word_is, Known, known_more, other_begun, other_more, all_begun}
 use Rattle.numbers.proofs.bits.bits_of.Goals.{After-bits-per_word, After-bits_of_word, After-bytes_required-k, After-word}
@@ -31,9 +30,6 @@ told : (c : After-bits_of_word) → 64 / c.bits-per_word.result ≡ per_word c.a
 told c e =
     let a = c.args in
     first_told a.states a.levels.now (word_holds a.states e (a.width - 1)).1 c.bytes_required-k.ensures c.first_word.ensures c.bits_of_word.ensures
-
-pub nonzero_div-per_word : goal.nonzero_div-per_word
-nonzero_div-per_word c = rw c.bits-per_word.ensures (bits_pos c.args.states)
 
 pub returns-in_err-working : goal.returns-in_err-working
 returns-in_err-working c =

@@ -4,20 +4,14 @@ use mathlib.Core.Path.{◌≡◌, refl, sym, ap, ◌∙◌}
 use Prim.Native.Nat.{◌-◌, ◌%◌, ◌≤◌}
 use native.Mathlib.Omega.{arith}
 use lib.ListN.{length, drop, length-drop}
-use lib.Seq.{take_all, length-take-le}
+use lib.Seq.{take_all}
 use Rattle.value.specs.declared.States.TheVariants.{Nine}
 use Rattle.value.specs.Slice.{any}
 use Rattle.value.proofs.Digits.{below_all}
 use Rattle.signal.specs.Parts.{Levels, is_bad_byte}
-use Rattle.signal.proofs.Decoding.{few_bits}
 use Rattle.signal.proofs.CodesOfBytes.{nine_bits, bad_whole}
 use Rattle.signal.proofs.packed.has_bad_code.Goals.{Else-bits-lt4}
 use Rattle.signal.proofs.packed.has_bad_code.Goals as goal
-
-pub returns-then-bits-lt4 : goal.returns-then-bits-lt4
-returns-then-bits-lt4 c =
-    let a = c.args in
-    few_bits a.width a.states a.levels.now (rw c.bits.ensures at c.if-bits-lt4.true)
 
 -- the set is Nine
 nine : (c : Else-bits-lt4) → c.args.states ≡ Nine
@@ -28,25 +22,11 @@ within c =
     let h : Levels c.args.width Nine c.args.levels.now = rw (nine c) at c.requires in
     omega (arith, h.long)
 
-pub slice_bounds-has_bad_first-end : goal.slice_bounds-has_bad_first-end
-slice_bounds-has_bad_first-end c = sym (length-take-le _ _ (within (goal.at.slice_bounds-has_bad_first-end c).Else-bits-lt4))
-
-pub has_bad_first-requires : goal.has_bad_first-requires
-has_bad_first-requires c =
-    let l = length-take-le (c.args.width % 2) c.args.levels.now (within (goal.at.has_bad_first-requires c).Else-bits-lt4) in
-    omega arith
-
 pub returns-then-has_bad_first : goal.returns-then-has_bad_first
 returns-then-has_bad_first c =
     c.if-has_bad_first.true
     ∙ bad_whole (nine (goal.at.returns-then-has_bad_first c).Else-bits-lt4) c.requires (below_all 256 c.args.levels.now (λ i. omega (arith, c.type_inv.levels i)))
     (sym c.if-has_bad_first.true ∙ c.has_bad_first.ensures) refl
-
-pub slice_bounds-has_bad_byte-count : goal.slice_bounds-has_bad_byte-count
-slice_bounds-has_bad_byte-count c = within (goal.at.slice_bounds-has_bad_byte-count c).Else-bits-lt4
-
-pub slice_bounds-has_bad_byte-start : goal.slice_bounds-has_bad_byte-start
-slice_bounds-has_bad_byte-start c = within (goal.at.slice_bounds-has_bad_byte-start c).Else-bits-lt4
 
 pub returns-else-has_bad_first : goal.returns-else-has_bad_first
 returns-else-has_bad_first c =

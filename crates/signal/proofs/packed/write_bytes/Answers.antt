@@ -4,30 +4,14 @@ use Prim.Native.Nat.{◌+◌, ◌≤◌}
 use native.Mathlib.Omega.{arith}
 use lib.ListN.{length}
 use Rattle.value.proofs.Digits.{below_all}
-use Rattle.signal.proofs.CodesOfBytes.{per_byte, stored_none, stored_room, stored_on, stored_end}
+use Rattle.signal.proofs.CodesOfBytes.{per_byte, stored_room, stored_on}
 use Rattle.signal.proofs.packed.write_bytes.Goals.{In-loop-byte}
 use Rattle.signal.proofs.packed.write_bytes.Goals as goal
 
-pub loop-byte-init : goal.loop-byte-init
-loop-byte-init c = stored_none
-
 room : (c : In-loop-byte) → c.loop-byte.i + per_byte c.args.states ≤ length c.args.out.now
 room c = stored_room c.requires c.loop-byte.invariant c.loop-byte-test.true
-
-pub write_byte-requires : goal.write_byte-requires
-write_byte-requires c = omega (arith, room (goal.at.write_byte-requires c).In-loop-byte, c.loop-byte.invariant.long)
-
-pub overflow_add-i : goal.overflow_add-i
-overflow_add-i c =
-    omega (arith, room (goal.at.overflow_add-i c).In-loop-byte, c.bits_in_a_byte-per_byte.ensures)
 
 pub loop-byte-preserved : goal.loop-byte-preserved
 loop-byte-preserved c =
     stored_on c.requires c.loop-byte.invariant c.loop-byte-test.true
     (below_all 256 c.args.levels.now (λ i. omega (arith, c.type_inv.levels i))) c.bits_in_a_byte-per_byte.ensures c.write_byte.ensures
-
-pub shape_of-out : goal.shape_of-out
-shape_of-out c = c.loop-byte.invariant.long
-
-pub returns : goal.returns
-returns c = stored_end c.loop-byte.invariant c.loop-byte-test.false

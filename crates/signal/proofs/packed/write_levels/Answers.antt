@@ -1,38 +1,23 @@
 -- `signal::packed::write_levels` meets its contract: as many characters stand there as turns were taken.
 -- Assumes nothing.
-use mathlib.Core.Path.{◌≡◌, refl, sym, ap, ◌∙◌}
+use mathlib.Core.Path.{◌≡◌, sym, ap, ◌∙◌}
 use mathlib.Core.List.{List}
 use Prim.Native.Nat.{ℕ, ◌+◌, ◌-◌, ◌*◌, ◌/◌, ◌^◌, ◌<◌}
 use native.Mathlib.Omega.{arith}
 use lib.Bits.{bit_and}
 use lib.ListN.{get_or, set, length-set}
-use lib.Seq.{take_all}
 use Rattle.value.specs.Digits.{digits}
-use Rattle.value.specs.Level.{bits_of, text_of, letter_of}
-use Rattle.value.specs.Slice.{overlay}
+use Rattle.value.specs.Level.{bits_of, letter_of}
 use Rattle.value.proofs.Digits.{digits_length, digits_at}
-use Rattle.value.proofs.Slices.{overlay_nil}
 use Rattle.signal.proofs.Decoding.{text_more}
 use Rattle.signal.proofs.CodesOfBytes.{shift_small, level_shifted}
 use Rattle.signal.proofs.packed.write_levels.Goals.{In-loop-i}
 use Rattle.signal.proofs.packed.write_levels.Goals as goal
 
-pub loop-i-init : goal.loop-i-init
-loop-i-init c = (sym (overlay_nil _ _), refl)
-
 -- the bits behind the level lie in its byte
 small : (c : In-loop-i) → (c.args.count - 1 - c.loop-i.i) * c.bits-bits.result < 8
 small c =
     shift_small c.args.states c.args.count c.loop-i.i _ c.bits-bits.ensures c.loop-i-test.true c.requires.0
-
-pub overflow_mul-level : goal.overflow_mul-level
-overflow_mul-level c = omega (arith, small (goal.at.overflow_mul-level c).In-loop-i)
-
-pub overflow_cast-level : goal.overflow_cast-level
-overflow_cast-level c = omega (arith, small (goal.at.overflow_cast-level c).In-loop-i)
-
-pub overflow_shr-level : goal.overflow_shr-level
-overflow_shr-level c = small (goal.at.overflow_shr-level c).In-loop-i
 
 pub loop-i-preserved : goal.loop-i-preserved
 loop-i-preserved c =
@@ -47,12 +32,3 @@ loop-i-preserved c =
           ∙ text_more cs i (rw digits_length c.loop-i-test.true) a.out.now a.at c.num_to_bit_char.result (c.num_to_bit_char.ensures ∙ ap letter_of d) (omega arith),
       rw length-set c.loop-i.invariant.1,
     )
-
-pub shape_of-out : goal.shape_of-out
-shape_of-out c = c.loop-i.invariant.1
-
-pub returns : goal.returns
-returns c =
-    let a = c.args in
-    let t = take_all c.loop-i.i (digits (2 ^ bits_of a.states) a.count a.byte) (rw digits_length c.loop-i-test.false) in
-    c.loop-i.invariant.0 ∙ ap (λ (cs : List ℕ). overlay a.out.now a.at (text_of cs)) t

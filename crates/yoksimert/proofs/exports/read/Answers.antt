@@ -4,7 +4,8 @@ use mathlib.Core.Path.{sym, ap, ◌∙◌}
 use Prim.Native.Nat.{◌+◌, ◌*◌, ◌≤◌}
 use native.Mathlib.Omega.{arith}
 use lib.ListN.{length}
-use Rattle.signal.specs.Read.{reply_of}
+use Rattle.fst.specs.Refusal.{told_by}
+use Rattle.signal.specs.Read.{is_entry}
 use Rattle.yoksimert.proofs.Places.{placed}
 use Rattle.yoksimert.proofs.exports.read.Goals.{In_ok-answer}
 use Rattle.yoksimert.proofs.exports.read.Goals as goal
@@ -15,7 +16,7 @@ at : (c : In_ok-answer) → (let a = c.args in
     (a.byte_start + (a.entry * z + z) ≤ length a.bytes.now) × (length c.in_ok-answer.answer.part.now ≤ z))
 at c =
     let a = c.args in
-    let p = placed _ a.bytes.now a.byte_start a.entry _ (sym c.read_entry.ensures ∙ ap reply_of c.in_ok-answer.was) in
+    let p = placed _ a.bytes.now a.byte_start a.entry _ (sym c.read_entry.ensures ∙ ap (told_by is_entry) c.in_ok-answer.was) in
     rw c.size-size.ensures (p.inside, p.short)
 
 pub overflow_mul-end : goal.overflow_mul-end
