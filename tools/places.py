@@ -113,7 +113,7 @@ def main():
         place = f"{crate}/{name}"
         points[1] += [(crate, f"{place}:{at}: {what}") for at, what in options(lines)]
         for at, line in enumerate(lines):
-            if re.match(r" *(while|loop)\b", line) or re.match(r" *for \w+ in \w+\.\.", line):
+            if re.match(r" *(while|loop)\b", line) or re.match(r" *for \w+ in \(?\w+\.\.", line):
                 points[3].append((crate, f"{place}:{at + 1}: {line.strip()}"))
             if re.match(r" *(pub )?\w+: &?(mut )?\[\w+; \w+\],?$", line) or re.match(r" *let mut \w+ = \[.*; \w+\];", line):
                 points[6].append((crate, f"{place}:{at + 1}: {line.strip()}"))

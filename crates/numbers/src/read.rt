@@ -123,11 +123,8 @@ pub fn read_decimal(lent: &Record, entry: u32) -> Result<u64, Refusal>
     let answer = read_unsigned(lent, entry);
     if width % 4 != 0 {
         return match answer {
-            Ok(_) => Err(Refusal::WrongWidth),
-            Err(refusal) => match refusal {
-                Refusal::NotBinary => Err(Refusal::WrongWidth),
-                _ => Err(refusal),
-            },
+            Ok(_) | Err(Refusal::NotBinary) => Err(Refusal::WrongWidth),
+            Err(refusal) => Err(refusal),
         };
     }
     let number = answer?;

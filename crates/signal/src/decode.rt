@@ -48,7 +48,7 @@ pub fn states_in(most: u32, entry: &[u8]) -> States
 }
 
 #[tactic(auto, using(value::proofs::Levels::set_mark), unfolding(crate::specs::Parts::own_states))]
-fn own_states(max_states: States, entry: &[u8]) -> Result<States, Refusal>
+pub fn own_states(max_states: States, entry: &[u8]) -> Result<States, Refusal>
     requires { 0 < length entry.now }
     ensures { result ≡ own_states max_states entry.now }
 {

@@ -109,18 +109,20 @@ pub extern "C" fn yoksimert_concat_right_full(
 // ---- Derive
 
 // Numbers that are no description are taken for a record that is refused with 2.
-fn input_of(flat: FlatInput) -> Input
-    ensures { result ≡ input_of flat }
-{
-    let no_width = Encoding::BitVector {
-        width: 0,
-        max_states: States::Two,
-    };
-    let description = Description::try_from(flat.description);
-    Input {
-        description: description.unwrap_or(Description::new(no_width, 0)),
-        byte_start: flat.byte_start,
-        index_start: flat.index_start,
+impl From<FlatInput> for Input {
+    ghost from_gives = { λ flat i. i ≡ input_of flat };
+
+    fn from(flat: FlatInput) -> Input {
+        let no_width = Encoding::BitVector {
+            width: 0,
+            max_states: States::Two,
+        };
+        let description = Description::try_from(flat.description);
+        Input {
+            description: description.unwrap_or(Description::new(no_width, 0)),
+            byte_start: flat.byte_start,
+            index_start: flat.index_start,
+        }
     }
 }
 
@@ -132,7 +134,7 @@ fn inputs_of(flat: FlatInputs) -> Inputs
         slots: flat.inputs.map(
             |input: FlatInput| -> Input
                 ensures { result ≡ input_of input }
-            { input_of(input) },
+            { Input::from(input) },
         ),
     }
 }

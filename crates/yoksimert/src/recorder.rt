@@ -41,7 +41,7 @@ pub extern "C" fn yoksimert_recorder_fresh(recorder: &mut FlatDescription, width
 // Fresh: the empty record of reals. The answer is 0.
 #[unsafe(no_mangle)]
 pub extern "C" fn yoksimert_recorder_fresh_real(recorder: &mut FlatDescription) -> u32
-    ensures { (result ≡ 0) × (recorder.new ≡ encoded fresh_real) }
+    ensures { ◌≡◌ {A = Outcome FlatDescription} (record { refused = result; left = recorder.new }) (record { refused = 0; left = encoded fresh_real }) }
 {
     *recorder = FlatDescription::from(fresh_real());
     0
