@@ -21,6 +21,7 @@ use value::States;
 
 // Stores the steps that are kept, a stride apart, and their indices. Returns how many there are. At the stride 0 each takes the place of
 // the one before: they are only counted.
+#[tactic(auto, using(crate::proofs::Given::few_inputs, crate::proofs::Given::narrow))]
 fn write_steps(
     derivation: &DerivedBitVecSignal,
     sources: &Sources,
@@ -91,6 +92,7 @@ fn steps_fit(
 }
 
 // Derive where no number before 7 refuses. Nothing is stored before it is known that all fits.
+#[tactic(auto, using(crate::proofs::ByRoom::no_room, crate::proofs::ByRoom::roomy, crate::proofs::Given::largest_is))]
 fn derive_all(
     derivation: &DerivedBitVecSignal,
     sources: &Sources,

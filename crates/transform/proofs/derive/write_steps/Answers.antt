@@ -16,7 +16,7 @@ use Rattle.steps.specs.Inputs.{kept_all}
 use Rattle.steps.specs.Stepping.{at_start, soonest}
 use Rattle.transform.specs.Picking.{Pickable, picked_now}
 use Rattle.transform.proofs.Deriving.{Ready, Yielded, appendable_on, fewer, pickable_on, reaches, writable_on, writing_done, writing_on, writing_start}
-use Rattle.transform.proofs.Given.{few_inputs, narrow}
+use Rattle.transform.proofs.Given.{narrow}
 use Rattle.transform.proofs.PieceTests.{Fit, fit}
 use Rattle.transform.proofs.derive.write_steps.Goals.{After-advance, After-pieces-pieces, After-step_states-states, In-Some}
 use Rattle.transform.proofs.derive.write_steps.Goals as goal
@@ -32,9 +32,6 @@ ready p =
       walkable = p.requires.0;
       some = omega (arith, f.pieces, length-map (take d.piece_count d.bits) extract_of, ap length p.pieces-pieces.ensures.value, p.pieces-pieces.ensures.long);
     }
-
-pub whole_as_front-cursors : goal.whole_as_front-cursors
-whole_as_front-cursors c = (few_inputs c.requires.0, omega arith)
 
 pub loop-index-init : goal.loop-index-init
 loop-index-init c =
@@ -77,9 +74,6 @@ pub step_states-states-requires : goal.step_states-states-requires
 step_states-states-requires c =
     let at = goal.at.step_states-states-requires c in
     (pickable at.After-advance (ready at.After-pieces-pieces) (next at.In-Some)).shown
-
-pub slice_bounds-text-end : goal.slice_bounds-text-end
-slice_bounds-text-end c = rw (c.write_pieces.auto.text, c.loop-index.invariant.1) (narrow c.requires.0)
 
 pub slice_bounds-value-end : goal.slice_bounds-value-end
 slice_bounds-value-end c =
