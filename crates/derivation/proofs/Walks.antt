@@ -1,7 +1,7 @@
 -- What std's walks over names and pieces find, in the words of the definitions.
 -- Assumes nothing.
-use mathlib.Core.Path.{◌≡◌, refl, sym, ap}
-use mathlib.Core.Bool.{Bool, true, false, cond, not, ◌||◌}
+use mathlib.Core.Path.{◌≡◌, refl, sym}
+use mathlib.Core.Bool.{Bool, true, false, cond, not}
 use mathlib.Core.List.{List, [], ◌∷◌, map}
 use Prim.Native.Nat.{ℕ, suc, ◌+◌, ◌-◌, ◌<◌}
 use native.Mathlib.Omega.{arith}
@@ -13,9 +13,9 @@ use denote.Laws.{Is}
 use denote.Struct.Declared.{row}
 use mir.Val.{Val}
 use Rattle.std.specs.Prelude.{Some, None, position}
-use Rattle.std.specs.List.{list_any, sum_by, position_or_len, copy_within}
+use Rattle.std.specs.List.{sum_by, position_or_len, copy_within}
 use Rattle.std.proofs.lemmas.List.Recursion.{is_sum_by}
-use Rattle.value.specs.Slice.{any, sum, overlay}
+use Rattle.value.specs.Slice.{sum, overlay}
 use Rattle.value.specs.Level.{place_in}
 use Rattle.derivation.specs.declared.DerivedBitVecSignal.{DerivedBitVecSignal}
 use Rattle.derivation.specs.Piece.{Sized, extract_of, piece_width}
@@ -30,12 +30,7 @@ sized d vs p =
       bits = p.1.1.1.1.1.1.0.1.0.1;
     }
 
--- a test of all, and the width of all
-pub any_listed : {A : Type 0} (test : A → Bool) (l : List A) → list_any test l ≡ any test l
-unfolding any
-any_listed test [] = refl
-any_listed test (x ∷ l) = ap (λ (b : Bool). test x || b) (any_listed test l)
-
+-- the width of all
 pub width_extracts : (l : List ℕ) → sum_by (λ n. (extract_of n).width) l ≡ sum (map piece_width (map extract_of l))
 unfolding sum
 width_extracts l = sym (is_sum_by (λ (k : List ℕ). sum (map piece_width (map extract_of k))) (λ n. (extract_of n).width) refl (λ n k. refl) l)

@@ -93,7 +93,7 @@ impl DerivedBitVecSignal {
     }
 
     // Number 14 of Add a piece.
-    #[tactic(auto, using(crate::proofs::Walks::any_listed, crate::proofs::Walks::width_extracts), unfolding(crate::specs::Piece::is_bad_derivation))]
+    #[tactic(auto, using(value::proofs::Lists::any_listed, crate::proofs::Walks::width_extracts), unfolding(crate::specs::Piece::is_bad_derivation))]
     pub fn is_bad(&self) -> bool
         ensures { result ≡ is_bad_derivation self.now }
     {

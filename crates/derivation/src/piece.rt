@@ -8,6 +8,7 @@ use fst::record::MAX_WIDTH;
 impl From<u64> for Extract {
     ghost from_gives = { λ number extract. extract ≡ extract_of number };
 
+    #[tactic(auto, using(std::proofs::lemmas::Nat::and_mask), unfolding(crate::specs::Piece::extract_of))]
     fn from(number: u64) -> Extract {
         Extract {
             signal: (number >> 48) as u16,

@@ -22,17 +22,12 @@ use Rattle.std.proofs.lemmas.Iterator.{YieldsList-from_slice}
 use Rattle.std.proofs.lemmas.Iterator.Adapters.{serves_from_places}
 use Rattle.std.proofs.lemmas.Iterator.Search.{any_from_yields_List}
 use Rattle.value.specs.Slice.{any, part}
-use Rattle.value.proofs.Lists.{any_map}
+use Rattle.value.proofs.Lists.{any_listed, any_map}
 use Rattle.value.proofs.Slices.{any_none}
 use Rattle.value.proofs.Tests.{or_both}
 use Rattle.runs.specs.All.{All}
 use Rattle.fst.specs.Record.{Kept}
 use Rattle.signal.specs.Decode.{Indexed, entries_from, entries_in, indexed_by}
-
-pub any_is : {A : Type 0} (test : A → Bool) (l : List A) → list_any test l ≡ any test l
-unfolding any
-any_is test [] = refl
-any_is test (x ∷ l) = ap (λ (b : Bool). test x || b) (any_is test l)
 
 -- of a test that holds of no element, at a place
 pub none_here : {A : Type 0} (test : A → Bool) (l : List A) → any test l ≡ false → (x : A) (k : ℕ) → k < length l → x ≡ get_or l k x → test x ≡ false
@@ -43,7 +38,7 @@ pub any_image : {A B F : Type 0} {g : Mut F (Bor A × Unit {0}) Bool} (test : B 
     → (xs : List (Bor A)) × (o : Option (Bor A)) × (j : F) × YieldsThen fronts s xs o u × FoldsTo (λ p x q. Called g p (x, tt) false q) f xs j × MatchOption o (r ≡ false) (λ x. (r ≡ true) × ((k : F) × Called g j (x, tt) true k))
     → iter_rest s ≡ l → ((x : Bor A) (b : Bool) (q : F) → Called g f (x, tt) b q → (q ≡ f) × (b ≡ test (h x.now))) → r ≡ any test (map h l)
 any_image test h l s u f r ran rest told =
-    any_from_yields_List (λ x. test (h x)) u f r ran (YieldsList-from_slice l rest) told ∙ any_is (λ x. test (h x)) l ∙ sym (any_map test h l)
+    any_from_yields_List (λ x. test (h x)) u f r ran (YieldsList-from_slice l rest) told ∙ any_listed (λ x. test (h x)) l ∙ sym (any_map test h l)
 
 -- a closure that may be asked where a test doesn't hold, of elements of which it holds of none
 pub asked_of_none : {A F : Type 0} {R : F → Bor A → F → Type 0} {Q : F → Bor A → Type 0} (test : A → Bool) (l : List A) (s : Iter A) (f : F) → any test l ≡ false

@@ -1,23 +1,19 @@
--- An input that is not refused with 2, its marks, and a test over the inputs in their slots.
+-- An input that is not refused with 2, and a test over the inputs in their slots.
 -- Assumes nothing.
 use Prim.Native.Nat.{◌+◌, ◌<◌, ◌≤◌, suc, zero, ℕ}
 use borrow.Author.Tests.{le-leb, ne_eqb}
-use lib.Dec.{eqb, ltb}
+use lib.Dec.{eqb}
 use lib.ListN.{get_or, length, length-map}
-use mathlib.Core.Bool.{false, not, true, true≢false}
+use mathlib.Core.Bool.{false, not, true}
 use mathlib.Core.List.{List, [], ◌∷◌, map}
-use mathlib.Core.Path.{◌∙◌, ◌≡◌, ap, refl, sym}
+use mathlib.Core.Path.{◌∙◌, ◌≡◌, ap, refl}
 use native.Mathlib.Omega.{arith}
 use Rattle.std.proofs.lemmas.List.{get_or-map}
-use Rattle.value.specs.Level.{mark_of}
 use Rattle.value.specs.Slice.{part}
-use Rattle.value.specs.declared.States.{States}
-use Rattle.fst.specs.Record.{Kept, Lent, fits_bytes, has_no_text, is_bad_bytes, maximum, used_size, empty}
+use Rattle.fst.specs.Record.{Kept, Lent, fits_bytes, is_bad_bytes, maximum, used_size, empty}
 use Rattle.fst.specs.declared.Description.{Description}
-use Rattle.fst.specs.declared.Encoding.{Encoding}
-use Rattle.fst.specs.declared.Encoding.TheVariants.{BitVector, Event, Real}
+use Rattle.fst.specs.declared.Encoding.TheVariants.{Event}
 use Rattle.fst.proofs.Records.{Standing, bytes_used, standing}
-use Rattle.signal.specs.Decode.{has_bad_mark, mark_in}
 use Rattle.steps.specs.Inputs.{input_kept, is_bad_input, is_late, lent_to}
 use Rattle.steps.specs.declared.Input.{Input}
 
@@ -46,19 +42,6 @@ late_first (suc i ∷ l) h = rw (ne_eqb (suc i) 0 (λ z. omega arith))
 pub late_none : (l : List ℕ) → length l ≡ 0 → true ≡ is_late l
 late_none [] h = refl
 late_none (x ∷ l) h = absurd (omega arith)
-
--- ---- marks
-
-pub no_mark : (e : Encoding) (v : List ℕ) → has_no_text e ≡ true → has_bad_mark e v ≡ false
-unfolding has_no_text has_bad_mark
-no_mark Event v h = refl
-no_mark Real v h = refl
-no_mark (BitVector w M) v h = absurd (true≢false (sym h))
-
-module _ {e : Encoding} {w : ℕ} {M : States} {u v : List ℕ} {m k : ℕ} (q : e ≡ BitVector w M) (x : m ≡ mark_of M) (y : k ≡ mark_in M u) (z : u ≡ v) where
-  pub mark_told : ltb m k ≡ has_bad_mark e v
-  unfolding has_bad_mark
-  mark_told = rw (q, ← z, x, y)
 
 -- ---- the record of an input
 

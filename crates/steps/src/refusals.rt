@@ -36,6 +36,7 @@ impl Input {
 }
 
 // Whether the mark of an entry is 3 or above the largest set's.
+#[tactic(auto, using(signal::proofs::Reading::inside, signal::proofs::Reading::some, signal::proofs::Reading::whole), unfolding(signal::specs::Decode::has_bad_mark))]
 fn has_bad_mark(description: Description, used: &[u8], k: u32) -> bool
     requires { (is_bad_bytes description 0 used.now ≡ false) × (k < description.count) }
     ensures { result ≡ has_bad_mark description.encoding (entry_at description.encoding 0 used.now k) }
@@ -52,6 +53,7 @@ fn has_bad_mark(description: Description, used: &[u8], k: u32) -> bool
     most < own_mark(most, record.entry_at(k))
 }
 
+#[tactic(auto, using(std::proofs::lemmas::Iterator::serves_from_Range))]
 fn any_bad_mark(description: Description, used: &[u8]) -> bool
     requires { is_bad_bytes description 0 used.now ≡ false }
     ensures { (indices : List ℕ) → length indices ≡ description.count → result ≡ mark_is_bad (kept_with description used.now indices) }

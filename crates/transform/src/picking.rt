@@ -84,6 +84,7 @@ fn write_piece(extract: Extract, cursor: &Cursor, bytes: &[u8], text: &mut [u8],
 }
 
 // Stores the characters of all pieces.
+#[tactic(auto, using(crate::proofs::Picked::pieces_done))]
 pub fn write_pieces(pieces: &[u64], cursors: &[Cursor], bytes: &[u8], text: &mut [u8])
     requires { Pickable cursors.now bytes.now pieces.now (length text.old) }
     ensures { text.new ≡ overlay text.old 0 (text_of (picked_now bytes.now cursors.now (map extract_of pieces.now))) }

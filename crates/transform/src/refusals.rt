@@ -132,6 +132,7 @@ fn is_coded_badly(extract: Extract, sources: &Sources) -> bool
 }
 
 // Whether every code of an input is below 9. Where it is wider than `widest`, the answer is no.
+#[tactic(auto, using(crate::proofs::InputCodes::input_narrow, steps::proofs::InputTests::bytes_reach))]
 fn is_coded(sources: &Sources, widest: u32, input: &Input) -> bool
     requires { ReadableInput sources.now input.now }
     ensures { result ≡ true → is_uncoded (its_record sources.now input.now) ≡ false }

@@ -1,6 +1,6 @@
--- A test over a list: where it holds of no element, and of none of the first.
+-- A test over a list: where it holds of no element, and of none of the first. What a closure makes of each element of an array.
 -- Assumes nothing.
-use mathlib.Core.Path.{◌≡◌, refl, ap, ◌∙◌}
+use mathlib.Core.Path.{◌≡◌, refl, sym, ap, ◌∙◌}
 use mathlib.Core.Bool.{Bool, false, ◌||◌}
 use mathlib.Core.List.{List, [], ◌∷◌, map}
 use Prim.Native.Nat.{ℕ, zero, suc, ◌+◌, ◌≤◌, ◌<◌}
@@ -8,8 +8,13 @@ use native.Mathlib.Numerals.{add-one}
 use native.Mathlib.Omega.{arith}
 use borrow.Author.Tests.{leb-false, lt-leb}
 use lib.Dec.{leb}
-use lib.ListN.{length, take, get_or}
+use lib.ListN.{length, length-map, take, get_or}
 use lib.Seq.{take-suc, take_all}
+use denote.Param.Members.{Mut}
+use Rattle.std.specs.Array.{IsMapOf}
+use Rattle.std.specs.Fn.{Called}
+use Rattle.std.specs.List.{list_any}
+use Rattle.std.proofs.lemmas.List.{same_lists, get_or-map}
 use Rattle.value.specs.Digits.{Below}
 use Rattle.value.specs.Slice.{any}
 use Rattle.value.proofs.Slices.{any_snoc}
@@ -19,6 +24,12 @@ pub any_map : {A B : Type 0} (test : B → Bool) (f : A → B) (l : List A) → 
 unfolding any
 any_map test f [] = refl
 any_map test f (x ∷ l) = ap (λ (b : Bool). test (f x) || b) (any_map test f l)
+
+-- as std tests a list
+pub any_listed : {A : Type 0} (test : A → Bool) (l : List A) → list_any test l ≡ any test l
+unfolding any
+any_listed test [] = refl
+any_listed test (x ∷ l) = ap (λ (b : Bool). test x || b) (any_listed test l)
 
 -- a test that holds of no element
 pub any_each : {A : Type 0} (test : A → Bool) (l : List A) (d : A) → ((i : ℕ) → i < length l → test (get_or l i d) ≡ false) → any test l ≡ false
@@ -42,6 +53,16 @@ pub at_any : {A : Type 0} (l : List A) (i : ℕ) (d e : A) → i < length l → 
 at_any [] i d e h = absurd (omega arith)
 at_any (x ∷ l) zero d e h = refl
 at_any (x ∷ l) (suc i) d e h = at_any l i d e (omega arith)
+
+-- what an array's `map` gives by a closure that gives f of each element
+pub mapped : {A B F : Type 0} {g : Mut F (A × Unit {0}) B} {p : F} {n : ℕ} (f : A → B) (l : List A) (r : List B) → IsMapOf g p l r n → length l ≡ n
+    → ((x : A) (y : B) (q s : F) → Called g q (x, tt) y s → y ≡ f x) → r ≡ map f l
+mapped f [] [] m e told = refl
+mapped f [] (y ∷ r) m e told = let n = m.long in absurd (omega arith)
+mapped f (x ∷ l) r m e told =
+    same_lists r (map f (x ∷ l)) (m.long ∙ sym e ∙ sym (length-map (x ∷ l) f))
+    (λ k d h. let below : k < length (x ∷ l) = rw (e, ← m.long) h in
+    told _ _ _ _ (m.at k x d (rw m.long at h)).2 ∙ sym (get_or-map f (x ∷ l) k x d below))
 
 -- a test that holds of none of the first i elements
 pub record Clear {A : Type 0} (test : A → Bool) (l : List A) (i : ℕ) : Type 0 where

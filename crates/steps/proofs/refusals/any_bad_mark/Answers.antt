@@ -6,16 +6,13 @@ use mathlib.Core.Bool.{Bool}
 use mathlib.Core.Path.{◌∙◌, refl}
 use native.Mathlib.Omega.{arith}
 use Rattle.std.proofs.Common.{rules}
-use Rattle.std.proofs.lemmas.Iterator.{YieldsList-from_range, serves_from_Range}
+use Rattle.std.proofs.lemmas.Iterator.{YieldsList-from_range}
 use Rattle.std.proofs.lemmas.Iterator.Search.{any_from_yields_List}
 use Rattle.signal.specs.Decode.{entry_at, has_bad_mark}
 use Rattle.steps.specs.Inputs.{entry_is_bad}
 use Rattle.steps.specs.Refusals.{kept_with}
 use Rattle.steps.proofs.Anys.{any_entry}
 use Rattle.steps.proofs.refusals.any_bad_mark.Goals as goal
-
-pub any-requires-clause-callable : goal.any-requires-clause-callable
-any-requires-clause-callable c = serves_from_Range (λ x q r. search rules) (λ x l h. let s = c.requires in search rules)
 
 pub returns : goal.returns
 returns c indices l =

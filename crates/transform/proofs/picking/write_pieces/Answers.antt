@@ -9,7 +9,7 @@ use Rattle.steps.specs.Stepping.{cursor, levels_now}
 use Rattle.steps.proofs.InputTests.{no_input}
 use Rattle.transform.specs.Derive.{picked_of}
 use Rattle.transform.specs.Picking.{Picks}
-use Rattle.transform.proofs.Picked.{piece_picks, pieces_done, pieces_more, room_more, signal_in}
+use Rattle.transform.proofs.Picked.{piece_picks, pieces_more, room_more, signal_in}
 use Rattle.transform.proofs.picking.write_pieces.Goals as goal
 
 pub bounds-cursors-extract : goal.bounds-cursors-extract
@@ -31,6 +31,3 @@ loop-piece-preserved c =
           (c.write_piece.ensures ∙ ap (λ (k : Cursor). overlay c.loop-piece.text c.loop-piece.at (text_of (picked_of e (levels_now c.args.bytes.now k)))) c.index-cursors-extract.is)
           ∙ c.loop-piece.invariant.1,
     )
-
-pub returns : goal.returns
-returns c = sym (pieces_done c.args.bytes.now c.args.cursors.now c.args.pieces.now c.loop-piece.at c.loop-piece.piece-index c.loop-piece.text c.loop-piece-test.false) ∙ c.loop-piece.invariant.1

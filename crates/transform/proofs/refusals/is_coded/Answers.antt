@@ -4,16 +4,9 @@ use mathlib.Core.Bool.{Bool, false, not, true, true≢false}
 use mathlib.Core.Path.{◌∙◌, ◌≡◌, refl, sym}
 use native.Mathlib.Omega.{arith}
 use Rattle.fst.specs.Record.{kept_in}
-use Rattle.fst.proofs.Records.{standing}
 use Rattle.steps.specs.Refusals.{its_record}
-use Rattle.transform.proofs.InputCodes.{input_narrow, picking, picks_said, whole_coded, whole_of}
+use Rattle.transform.proofs.InputCodes.{picking, picks_said, whole_coded, whole_of}
 use Rattle.transform.proofs.refusals.is_coded.Goals as goal
-
-pub overflow_cast-whole : goal.overflow_cast-whole
-overflow_cast-whole c = omega (arith, input_narrow c.requires, c.width-width.ensures)
-
-pub used_bytes-requires : goal.used_bytes-requires
-used_bytes-requires c = (standing c.requires.stands).room.bytes
 
 pub any_bad_pick-requires : goal.any_bad_pick-requires
 any_bad_pick-requires c = picking c.requires c.used_bytes.ensures (whole_of c.width-width.result) (omega (arith, c.width-width.ensures))

@@ -1,4 +1,4 @@
--- `transform::derive::write_steps` meets its contract: the steps passed are stored, and with those to come they make the derived list.
+-- `transform::derive::Task::write_steps` meets its contract: the steps passed are stored, and with those to come they make the derived list.
 -- Assumes nothing.
 use Prim.Native.Nat.{ℕ, ◌≤◌}
 use lib.ListN.{length, length-map, length-replicate, take}
@@ -16,53 +16,50 @@ use Rattle.steps.specs.Inputs.{kept_all}
 use Rattle.steps.specs.Stepping.{at_start, soonest}
 use Rattle.transform.specs.Picking.{Pickable, picked_now}
 use Rattle.transform.proofs.Deriving.{Ready, Yielded, appendable_on, fewer, pickable_on, reaches, writable_on, writing_done, writing_on, writing_start}
-use Rattle.transform.proofs.Given.{few_inputs, narrow}
+use Rattle.transform.proofs.Given.{narrow}
 use Rattle.transform.proofs.PieceTests.{Fit, fit}
-use Rattle.transform.proofs.derive.write_steps.Goals.{After-advance, After-pieces-pieces, After-step_states-states, In-Some}
-use Rattle.transform.proofs.derive.write_steps.Goals as goal
+use Rattle.transform.proofs.derive.Task.write_steps.Goals.{After-advance, After-pieces-pieces, After-step_states-states, In-Some}
+use Rattle.transform.proofs.derive.Task.write_steps.Goals as goal
 
 -- what is known all along
 ready : (p : After-pieces-pieces)
-    → Ready p.args.derivation.now p.args.sources.now.inputs.now p.args.sources.now.bytes.now p.args.sources.now.indices.now p.args.max_states
+    → Ready p.args.self.now.derivation.now p.args.self.now.sources.now.inputs.now p.args.self.now.sources.now.bytes.now p.args.self.now.sources.now.indices.now p.args.max_states
 ready p =
-    let d = p.args.derivation.now in
-    let s = p.args.sources.now in
+    let d = p.args.self.now.derivation.now in
+    let s = p.args.self.now.sources.now in
     let f : Fit d s.inputs.now.count (kept_all s.bytes.now s.indices.now s.inputs.now) = fit d s.inputs.now.count _ p.requires.0.derivable.fit in
     record {
       walkable = p.requires.0;
       some = omega (arith, f.pieces, length-map (take d.piece_count d.bits) extract_of, ap length p.pieces-pieces.ensures.value, p.pieces-pieces.ensures.long);
     }
 
-pub whole_as_front-cursors : goal.whole_as_front-cursors
-whole_as_front-cursors c = (few_inputs c.requires.0, omega arith)
-
 pub loop-index-init : goal.loop-index-init
 loop-index-init c =
-    let n = c.args.sources.now.inputs.now.count in
+    let n = c.args.self.now.sources.now.inputs.now.count in
     (writing_start (ready (goal.at.loop-index-init c).After-pieces-pieces) (ap (take n) c.at_start-slots.ensures ∙ take-map at_start n _), length-replicate {A = ℕ} 4096 0)
 
 pub next_index-requires : goal.next_index-requires
 next_index-requires c = reaches (ready (goal.at.next_index-requires c).After-pieces-pieces) c.loop-index.invariant.0.derives
 
 -- a step is at hand
-next : (k : In-Some) → soonest k.args.sources.now.indices.now k.loop-index.cursors ≡ Some k.in-Some.index
+next : (k : In-Some) → soonest k.args.self.now.sources.now.indices.now k.loop-index.cursors ≡ Some k.in-Some.index
 next k = sym k.next_index.ensures ∙ k.in-Some.is
 
 -- the inputs have moved on
-pickable : (a : After-advance) → Ready a.args.derivation.now a.args.sources.now.inputs.now a.args.sources.now.bytes.now a.args.sources.now.indices.now a.args.max_states
-    → soonest a.args.sources.now.indices.now a.loop-index.cursors ≡ Some a.in-Some.index
-    → Pickable a.advance.new.cursors a.args.sources.now.bytes.now a.pieces-pieces.result.now (length a.loop-index.text)
+pickable : (a : After-advance) → Ready a.args.self.now.derivation.now a.args.self.now.sources.now.inputs.now a.args.self.now.sources.now.bytes.now a.args.self.now.sources.now.indices.now a.args.max_states
+    → soonest a.args.self.now.sources.now.indices.now a.loop-index.cursors ≡ Some a.in-Some.index
+    → Pickable a.advance.new.cursors a.args.self.now.sources.now.bytes.now a.pieces-pieces.result.now (length a.loop-index.text)
 pickable a r n = pickable_on r a.loop-index.invariant.0 n a.advance.ensures a.pieces-pieces.ensures.value (rw a.loop-index.invariant.1 (narrow r.walkable))
 
 -- its characters and its set are known
 yields : (t : After-step_states-states)
-    → Yielded t.advance.new.cursors t.args.sources.now.bytes.now (take t.args.derivation.now.piece_count t.args.derivation.now.bits) t.loop-index.text t.step_states-states.result t.write_pieces.new.text
+    → Yielded t.advance.new.cursors t.args.self.now.sources.now.bytes.now (take t.args.self.now.derivation.now.piece_count t.args.self.now.derivation.now.bits) t.loop-index.text t.step_states-states.result t.write_pieces.new.text
 yields t =
     record {
       set = t.step_states-states.ensures;
       stored =
           t.write_pieces.ensures
-          ∙ ap (λ (ps : List ℕ). overlay t.loop-index.text 0 (text_of (picked_now t.args.sources.now.bytes.now t.advance.new.cursors (map extract_of ps)))) t.pieces-pieces.ensures.value;
+          ∙ ap (λ (ps : List ℕ). overlay t.loop-index.text 0 (text_of (picked_now t.args.self.now.sources.now.bytes.now t.advance.new.cursors (map extract_of ps)))) t.pieces-pieces.ensures.value;
     }
 
 pub advance-requires : goal.advance-requires
@@ -78,12 +75,9 @@ step_states-states-requires c =
     let at = goal.at.step_states-states-requires c in
     (pickable at.After-advance (ready at.After-pieces-pieces) (next at.In-Some)).shown
 
-pub slice_bounds-text-end : goal.slice_bounds-text-end
-slice_bounds-text-end c = rw (c.write_pieces.auto.text, c.loop-index.invariant.1) (narrow c.requires.0)
-
 pub slice_bounds-value-end : goal.slice_bounds-value-end
 slice_bounds-value-end c =
-    let l : c.args.derivation.now.width ≤ length c.write_pieces.new.text = rw (c.write_pieces.auto.text, c.loop-index.invariant.1) (narrow c.requires.0) in
+    let l : c.args.self.now.derivation.now.width ≤ length c.write_pieces.new.text = rw (c.write_pieces.auto.text, c.loop-index.invariant.1) (narrow c.requires.0) in
     sym (length-take-le _ _ l)
 
 pub new-entry-requires : goal.new-entry-requires
