@@ -46,7 +46,7 @@ use Rattle.steps.proofs.InputTests.{no_input, used_stands}
 use Rattle.steps.proofs.Standing.{all_none}
 use Rattle.steps.proofs.Levels.{levels_length}
 use Rattle.transform.specs.Derive.{code_is_bad, is_beyond, pick_is_bad, picked_of}
-use Rattle.transform.specs.Refusals.{ReadableInput, ReadableOf, RecordPick, SourcePick, entry_is_uncoded, is_uncoded}
+use Rattle.transform.specs.Refusals.{ReadableInput, Readable, RecordPick, SourcePick, entry_is_uncoded, is_uncoded}
 use Rattle.transform.proofs.PieceTests.{Fit, beyond_by_width, code_by_entries, fit, named, pick_code, pick_count, pick_none}
 
 -- ---- one byte
@@ -224,7 +224,7 @@ module _ {e : Extract} {s : Sources} (p : SourcePick e s) where
 -- ---- all inputs
 
 -- a derivation of inputs that none of 2, 14 and 9 refuses
-module _ (d : DerivedBitVecSignal) (s : Sources) (r : ReadableOf d s) where
+module _ (d : DerivedBitVecSignal) (s : Sources) (r : Readable d s.inputs.now s.bytes.now s.indices.now) where
   abbrev ks : List Kept
   ks = its_records s
 

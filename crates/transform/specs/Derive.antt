@@ -19,7 +19,7 @@ use Rattle.derivation.specs.declared.Extract.{Extract}
 use Rattle.steps.specs.Inputs.{encoding_of, indices_fall, inputs_of, is_bad_input, is_no_bit_vector, kept_all, mark_is_bad, starts_late}
 use Rattle.steps.specs.Steps.{Moment, Shown, kept_steps}
 use Rattle.steps.specs.declared.Inputs.{Inputs}
-use Rattle.steps.specs.declared.Sources.{Sources}
+use Rattle.transform.specs.declared.Task.{Task}
 
 -- ---- what a step yields
 
@@ -124,8 +124,8 @@ derived_by out (given k) =
 abbrev pub derived_from : DerivedBitVecSignal → Inputs → List ℕ → List ℕ → List Step
 derived_from d inputs bytes indices = derived_list (pieces_of d) (kept_all bytes indices inputs)
 
-abbrev pub derived_of : DerivedBitVecSignal → Sources → List Step
-derived_of d s = derived_from d s.inputs.now s.bytes.now s.indices.now
+abbrev pub derived_of : Task → List Step
+derived_of t = let s = t.sources.now in derived_from t.derivation.now s.inputs.now s.bytes.now s.indices.now
 
 -- an answer and the output slices as they are then
 abbrev pub left_by_derive : Result Description Refusal → List ℕ → List ℕ → Derived

@@ -15,9 +15,9 @@ use Rattle.steps.specs.Cursor.{Cursor}
 use Rattle.steps.specs.Stepping.{Showing, levels_now, set_now, width_now}
 use Rattle.steps.specs.declared.Input.{Input}
 use Rattle.steps.specs.declared.Inputs.{Inputs}
-use Rattle.steps.specs.declared.Sources.{Sources}
 use Rattle.transform.specs.Derive.{largest_among, picked_of}
 use Rattle.transform.specs.Refusals.{Derivable}
+use Rattle.transform.specs.declared.Task.{Task}
 
 abbrev pub largest_now : List ℕ → List Cursor → States
 largest_now bytes cs = join_all (map (set_now bytes) cs)
@@ -63,8 +63,8 @@ pub record Walkable (d : DerivedBitVecSignal) (inputs : Inputs) (bytes indices :
   pub derivable : Derivable d inputs bytes indices
   pub largest : M ≡ largest_among (kept_all bytes indices inputs)
 
-abbrev pub WalkableOf : DerivedBitVecSignal → Sources → States → Type 0
-WalkableOf d s M = Walkable d s.inputs.now s.bytes.now s.indices.now M
+abbrev pub WalkableOf : Task → States → Type 0
+WalkableOf t M = let s = t.sources.now in Walkable t.derivation.now s.inputs.now s.bytes.now s.indices.now M
 
 -- the largest of the inputs' largest sets
 abbrev pub largest_over : List Input → States

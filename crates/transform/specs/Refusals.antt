@@ -19,6 +19,7 @@ use Rattle.steps.specs.declared.Input.{Input}
 use Rattle.steps.specs.declared.Inputs.{Inputs}
 use Rattle.steps.specs.declared.Sources.{Sources}
 use Rattle.transform.specs.Derive.{code_is_bad, is_beyond, is_unfit}
+use Rattle.transform.specs.declared.Task.{Task}
 
 -- ---- one piece
 
@@ -76,11 +77,11 @@ pub record Derivable (d : DerivedBitVecSignal) (inputs : Inputs) (bytes indices 
   pub marked : any mark_is_bad (kept_all bytes indices inputs) ≡ false
   pub coded : any (code_is_bad (kept_all bytes indices inputs)) (pieces_of d) ≡ false
 
-abbrev pub ReadableOf : DerivedBitVecSignal → Sources → Type 0
-ReadableOf d s = Readable d s.inputs.now s.bytes.now s.indices.now
+abbrev pub ReadableOf : Task → Type 0
+ReadableOf t = let s = t.sources.now in Readable t.derivation.now s.inputs.now s.bytes.now s.indices.now
 
-abbrev pub DerivableOf : DerivedBitVecSignal → Sources → Type 0
-DerivableOf d s = Derivable d s.inputs.now s.bytes.now s.indices.now
+abbrev pub DerivableOf : Task → Type 0
+DerivableOf t = let s = t.sources.now in Derivable t.derivation.now s.inputs.now s.bytes.now s.indices.now
 
 -- the numbers of Derive before 7
 unfoldable pub first_tests : DerivedBitVecSignal → Inputs → List ℕ → List ℕ → List Test

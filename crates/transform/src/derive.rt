@@ -7,8 +7,8 @@ ghost use Rattle.transform.specs.Derive.{derived_of, left_by_derive, derive};
 ghost use Rattle.transform.specs.Picking.{WalkableOf, largest_over};
 ghost use Rattle.transform.specs.Refusals.{DerivableOf};
 
+use crate::Task;
 use crate::picking::{step_states, write_pieces};
-use crate::refusals::first_refusal;
 use derivation::DerivedBitVecSignal;
 use fst::{Description, Encoding, Refusal};
 use layout::entry::entry_size;
@@ -18,13 +18,6 @@ use steps::step::{advance, at_start, next_index};
 use steps::store::{append_step, put_index};
 use steps::{Input, Sources};
 use value::States;
-
-// A derivation and the inputs that it is made of.
-#[derive(Clone, Copy)]
-struct Task<'a> {
-    derivation: &'a DerivedBitVecSignal,
-    sources: &'a Sources<'a>,
-}
 
 // The largest of the inputs' largest sets.
 fn largest_states(inputs: &[Input]) -> States
@@ -47,8 +40,8 @@ impl Task<'_> {
         out_bytes: &mut [u8],
         out_indices: &mut [u32],
     ) -> u32
-        requires { WalkableOf self.now.derivation.now self.now.sources.now max_states × Roomy (length (derived_of self.now.derivation.now self.now.sources.now)) (entry_size self.now.derivation.now.width max_states) stride out_bytes.old }
-        ensures { Wrote self.now.derivation.now.width max_states stride (derived_of self.now.derivation.now self.now.sources.now) out_bytes.old out_indices.old result out_bytes.new out_indices.new }
+        requires { WalkableOf self.now max_states × Roomy (length (derived_of self.now)) (entry_size self.now.derivation.now.width max_states) stride out_bytes.old }
+        ensures { Wrote self.now.derivation.now.width max_states stride (derived_of self.now) out_bytes.old out_indices.old result out_bytes.new out_indices.new }
     {
         let derivation = self.derivation;
         let sources = self.sources;
@@ -76,8 +69,8 @@ impl Task<'_> {
     // Whether the steps that are kept have room in slices of these lengths. They are counted where the inputs' entries together have none.
     #[tactic(auto, using(crate::proofs::Given::few_used, crate::proofs::Given::narrow, crate::proofs::Given::stand, layout::proofs::Sizes::size_small, steps::proofs::Totals::total_small))]
     fn steps_fit(&self, max_states: States, out_bytes: usize, out_indices: usize) -> bool
-        requires { WalkableOf self.now.derivation.now self.now.sources.now max_states }
-        ensures { result ≡ room_for (length (derived_of self.now.derivation.now self.now.sources.now)) (entry_size self.now.derivation.now.width max_states) out_bytes out_indices }
+        requires { WalkableOf self.now max_states }
+        ensures { result ≡ room_for (length (derived_of self.now)) (entry_size self.now.derivation.now.width max_states) out_bytes out_indices }
     {
         let size = entry_size(max_states, self.derivation.width);
         if has_room(
@@ -101,7 +94,7 @@ impl Task<'_> {
         out_bytes: &mut [u8],
         out_indices: &mut [u32],
     ) -> Result<Description, Refusal>
-        requires { DerivableOf self.now.derivation.now self.now.sources.now }
+        requires { DerivableOf self.now }
         ensures { left_by_derive result out_bytes.new out_indices.new ≡ derive self.now.derivation.now self.now.sources.now.inputs.now self.now.sources.now.bytes.now self.now.sources.now.indices.now out_bytes.old out_indices.old }
     {
         let max_states = largest_states(self.sources.inputs.used());
@@ -126,10 +119,10 @@ pub fn derive(
 ) -> Result<Description, Refusal>
     ensures { left_by_derive result out_bytes.new out_indices.new ≡ derive derivation.now sources.now.inputs.now sources.now.bytes.now sources.now.indices.now out_bytes.old out_indices.old }
 {
-    first_refusal(derivation, sources)?;
-    Task {
+    let task = Task {
         derivation,
         sources,
-    }
-    .derive_all(out_bytes, out_indices)
+    };
+    task.first_refusal()?;
+    task.derive_all(out_bytes, out_indices)
 }

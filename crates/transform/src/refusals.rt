@@ -12,7 +12,8 @@ ghost use Rattle.steps.specs.Refusals.{its_record, its_records, kept_with};
 ghost use Rattle.transform.specs.Derive.{is_unfit, is_beyond, pick_is_bad, picked_of, code_is_bad};
 ghost use Rattle.transform.specs.Refusals.{Named, ReadableInput, ReadableOf, RecordPick, SourcePick, first_tests, is_uncoded};
 
-use derivation::{DerivedBitVecSignal, Extract};
+use crate::Task;
+use derivation::Extract;
 use fst::{Description, Encoding, Refusal};
 use signal::decode::Vector;
 use signal::packed::{Packed, has_bad_byte};
@@ -35,26 +36,6 @@ fn any_beyond(pieces: &[u64], inputs: &[Input]) -> bool
     pieces
         .iter()
         .any(|piece| is_beyond(Extract::from(*piece), inputs))
-}
-
-// Number 14, of inputs that are not 2.
-#[tactic(auto, using(crate::proofs::PieceTests::pieces_named, crate::proofs::PieceTests::unfit_by_beyond, derivation::proofs::Pieces::sound), unfolding(crate::specs::Derive::is_unfit))]
-fn is_unfit(derivation: &DerivedBitVecSignal, sources: &Sources) -> bool
-    ensures { result ≡ is_unfit derivation.now sources.now.inputs.now.count (its_records sources.now) }
-{
-    if derivation.is_bad() {
-        return true;
-    }
-    if derivation.piece_count == 0 {
-        return true;
-    }
-    if sources.inputs.count != derivation.input_count {
-        return true;
-    }
-    if sources.any_without_text() {
-        return true;
-    }
-    any_beyond(derivation.pieces(), sources.inputs.used())
 }
 
 // Whether a code of the picked levels is 9 to 15.
@@ -149,45 +130,68 @@ fn is_coded(sources: &Sources, widest: u32, input: &Input) -> bool
     !any_bad_pick(whole, input.description, input.used_bytes(sources.bytes))
 }
 
-// Number 10, of inputs that are not refused before, piece by piece. One look at each input spares one for each piece, but where an input is
-// so wide that trying its pieces is faster.
-fn any_bad_code(derivation: &DerivedBitVecSignal, sources: &Sources) -> bool
-    requires { ReadableOf derivation.now sources.now }
-    ensures { result ≡ any (code_is_bad (its_records sources.now)) (pieces_of derivation.now) }
-{
-    let widest = 64 * derivation.piece_count;
-    let inputs = sources.inputs.used();
-    if inputs.iter().all(|input| is_coded(sources, widest, input)) {
-        return false;
+impl Task<'_> {
+    // Number 14, of inputs that are not 2.
+    #[tactic(auto, using(crate::proofs::PieceTests::pieces_named, crate::proofs::PieceTests::unfit_by_beyond, derivation::proofs::Pieces::sound), unfolding(crate::specs::Derive::is_unfit))]
+    fn is_unfit(&self) -> bool
+        ensures { result ≡ is_unfit self.now.derivation.now self.now.sources.now.inputs.now.count (its_records self.now.sources.now) }
+    {
+        if self.derivation.is_bad() {
+            return true;
+        }
+        if self.derivation.piece_count == 0 {
+            return true;
+        }
+        if self.sources.inputs.count != self.derivation.input_count {
+            return true;
+        }
+        if self.sources.any_without_text() {
+            return true;
+        }
+        any_beyond(self.derivation.pieces(), self.sources.inputs.used())
     }
-    let pieces = derivation.pieces();
-    pieces
-        .iter()
-        .any(|piece| is_coded_badly(Extract::from(*piece), sources))
-}
 
-// The first number before 7 that refuses a derivation of these inputs.
-#[tactic(auto, using(crate::proofs::RefusalsInOrder::first_bad, crate::proofs::RefusalsInOrder::first_unfit, crate::proofs::RefusalsInOrder::first_falls, crate::proofs::RefusalsInOrder::first_mark, crate::proofs::RefusalsInOrder::first_code, crate::proofs::RefusalsInOrder::first_none))]
-pub fn first_refusal(derivation: &DerivedBitVecSignal, sources: &Sources) -> Result<(), Refusal>
-    ensures { told result ≡ tried (first_tests derivation.now sources.now.inputs.now sources.now.bytes.now sources.now.indices.now) (given tt) }
-{
-    if sources.any_bad() {
-        return Err(Refusal::BadRecord);
+    // Number 10, of inputs that are not refused before, piece by piece. One look at each input spares one for each piece, but where an input is
+    // so wide that trying its pieces is faster.
+    fn any_bad_code(&self) -> bool
+        requires { ReadableOf self.now }
+        ensures { result ≡ any (code_is_bad (its_records self.now.sources.now)) (pieces_of self.now.derivation.now) }
+    {
+        let widest = 64 * self.derivation.piece_count;
+        let inputs = self.sources.inputs.used();
+        if inputs
+            .iter()
+            .all(|input| is_coded(self.sources, widest, input))
+        {
+            return false;
+        }
+        let pieces = self.derivation.pieces();
+        pieces.iter().any(|piece| is_coded_badly(Extract::from(*piece), self.sources))
     }
-    if is_unfit(derivation, sources) {
-        return Err(Refusal::BadDerivation);
+
+    // The first number before 7 that refuses a derivation of these inputs.
+    #[tactic(auto, using(crate::proofs::RefusalsInOrder::first_bad, crate::proofs::RefusalsInOrder::first_unfit, crate::proofs::RefusalsInOrder::first_falls, crate::proofs::RefusalsInOrder::first_mark, crate::proofs::RefusalsInOrder::first_code, crate::proofs::RefusalsInOrder::first_none))]
+    pub fn first_refusal(&self) -> Result<(), Refusal>
+        ensures { told result ≡ tried (first_tests self.now.derivation.now self.now.sources.now.inputs.now self.now.sources.now.bytes.now self.now.sources.now.indices.now) (given tt) }
+    {
+        if self.sources.any_bad() {
+            return Err(Refusal::BadRecord);
+        }
+        if self.is_unfit() {
+            return Err(Refusal::BadDerivation);
+        }
+        if self.sources.any_late() {
+            return Err(Refusal::LateInput);
+        }
+        if self.sources.any_falling() {
+            return Err(Refusal::IndexFalls);
+        }
+        if self.sources.any_marked_badly() {
+            return Err(Refusal::BadMark);
+        }
+        if self.any_bad_code() {
+            return Err(Refusal::BadCode);
+        }
+        Ok(())
     }
-    if sources.any_late() {
-        return Err(Refusal::LateInput);
-    }
-    if sources.any_falling() {
-        return Err(Refusal::IndexFalls);
-    }
-    if sources.any_marked_badly() {
-        return Err(Refusal::BadMark);
-    }
-    if any_bad_code(derivation, sources) {
-        return Err(Refusal::BadCode);
-    }
-    Ok(())
 }

@@ -1,4 +1,4 @@
--- `transform::derive::Task::write_steps` meets its contract: the steps passed are stored, and with those to come they make the derived list.
+-- `transform::Task::write_steps` meets its contract: the steps passed are stored, and with those to come they make the derived list.
 -- Assumes nothing.
 use Prim.Native.Nat.{ℕ, ◌≤◌}
 use lib.ListN.{length, length-map, length-replicate, take}
@@ -18,8 +18,8 @@ use Rattle.transform.specs.Picking.{Pickable, picked_now}
 use Rattle.transform.proofs.Deriving.{Ready, Yielded, appendable_on, fewer, pickable_on, reaches, writable_on, writing_done, writing_on, writing_start}
 use Rattle.transform.proofs.Given.{narrow}
 use Rattle.transform.proofs.PieceTests.{Fit, fit}
-use Rattle.transform.proofs.derive.Task.write_steps.Goals.{After-advance, After-pieces-pieces, After-step_states-states, In-Some}
-use Rattle.transform.proofs.derive.Task.write_steps.Goals as goal
+use Rattle.transform.proofs.Task.write_steps.Goals.{After-advance, After-pieces-pieces, After-step_states-states, In-Some}
+use Rattle.transform.proofs.Task.write_steps.Goals as goal
 
 -- what is known all along
 ready : (p : After-pieces-pieces)

@@ -1,4 +1,4 @@
--- `transform::derive::Task::steps_fit` meets its contract.
+-- `transform::Task::steps_fit` meets its contract.
 -- Assumes nothing.
 use mathlib.Core.Path.{◌∙◌, ap}
 use Rattle.derivation.specs.Piece.{pieces_of}
@@ -6,7 +6,7 @@ use Rattle.steps.specs.Room.{total_over}
 use Rattle.steps.proofs.Totals.{fits_counted, fits_together, steps_bound}
 use Rattle.transform.specs.Derive.{same_step, yielded}
 use Rattle.transform.proofs.Given.{stand}
-use Rattle.transform.proofs.derive.Task.steps_fit.Goals as goal
+use Rattle.transform.proofs.Task.steps_fit.Goals as goal
 
 pub returns-then-has_room : goal.returns-then-has_room
 returns-then-has_room c =
