@@ -1,20 +1,18 @@
-// The calls of stored answers on records: each function reads what goes in from a line, makes the call, and writes what comes out on the rest
-// of the line, where it has to stand already.
+// The calls of stored answers on records: each function reads what goes in from a line, makes the call, and compares what comes out with the
+// rest of the line.
 #![tactic(auto)]
 
 use equality::Lent;
 use fst::record::Slices;
 use fst::{Description, Encoding, Refusal, verdict_number};
-use lines::{Elements, Line, Otherwise};
+use lines::{Line, Otherwise, agreed};
 use offset::DataOffset;
 use signal::read::Record;
 use signal::{Entry, Kind};
-use std::fmt;
-use std::fmt::Write;
 use value::States;
 
-// A line with a longer list counts as one that can't be read.
-const BYTES: usize = 16384;
+// More than the lists of a line that is replayed have.
+const BYTES: usize = 65536;
 
 const INDICES: usize = 4096;
 
@@ -36,45 +34,51 @@ impl Room {
 
 // ---- descriptions
 
-pub fn description(line: &mut Line) -> Result<Description, Otherwise> {
+pub fn description(line: &mut Line) -> Description {
     let kind = line.field();
-    let width = line.number()?;
-    let mark: u8 = line.number()?;
-    let max_states = States::try_from(mark).map_err(|_| Otherwise)?;
-    let count = line.number()?;
+    let width = line.number_32();
+    let max_states = match line.number() {
+        0 => States::Two,
+        1 => States::Four,
+        _ => States::Nine,
+    };
+    let count = line.number_32();
     let encoding = match kind {
         [b'e'] => Encoding::Event,
         [b'r'] => Encoding::Real,
-        [b'b'] => Encoding::BitVector { width, max_states },
-        _ => return Err(Otherwise),
+        _ => Encoding::BitVector { width, max_states },
     };
-    Ok(Description::new(encoding, count))
+    Description::new(encoding, count)
 }
 
-fn letter_of(kind: Kind) -> char {
+fn letter_of(kind: Kind) -> u8 {
     match kind {
-        Kind::Event => 'e',
-        Kind::Real => 'r',
-        Kind::BitVector => 'b',
+        Kind::Event => b'e',
+        Kind::Real => b'r',
+        Kind::BitVector => b'b',
     }
 }
 
-fn write_outcome(line: &mut Line, number: u8, description: Description) -> fmt::Result {
+fn expect_outcome(line: &mut Line, number: u8, description: Description) -> Result<(), Otherwise> {
     let encoding = description.encoding;
-    let letter = letter_of(Kind::from(encoding));
-    let width = encoding.width();
     let set = encoding.largest().mark();
-    let count = description.count;
-    write!(line, "= {number} {letter} {width} {set} {count}")
+    line.expect(b"=")?;
+    line.expect_numbers(&[u64::from(number)])?;
+    line.expect(&[letter_of(Kind::from(encoding))])?;
+    line.expect_numbers(&[
+        u64::from(encoding.width()),
+        u64::from(set),
+        u64::from(description.count),
+    ])
 }
 
 // After a refusal the description is that of an empty event.
-pub fn write_made(line: &mut Line, made: Result<Description, Refusal>) -> fmt::Result {
+pub fn expect_made(line: &mut Line, made: Result<Description, Refusal>) -> Result<(), Otherwise> {
     match made {
-        Ok(description) => write_outcome(line, 0, description),
+        Ok(description) => expect_outcome(line, 0, description),
         Err(refusal) => {
             let nothing = Description::new(Encoding::Event, 0);
-            write_outcome(line, refusal.number(), nothing)
+            expect_outcome(line, refusal.number(), nothing)
         }
     }
 }
@@ -82,74 +86,69 @@ pub fn write_made(line: &mut Line, made: Result<Description, Refusal>) -> fmt::R
 // ---- operations on a record
 
 pub fn fresh(line: &mut Line) -> Result<(), Otherwise> {
-    let made = fst::record::fresh(line.number()?);
-    write_made(line, made)?;
-    Ok(())
+    let made = fst::record::fresh(line.number_32());
+    expect_made(line, made)
 }
 
 pub fn add(line: &mut Line) -> Result<(), Otherwise> {
     let mut room = Room::new();
     let mut value = [0; BYTES];
-    let record = description(line)?;
+    let record = description(line);
     let bytes = line.list(&mut room.bytes)?;
-    let byte_start = line.number()?;
+    let byte_start = line.place();
     let indices = line.list(&mut room.indices)?;
-    let index_start = line.number()?;
-    let index = line.number()?;
+    let index_start = line.place();
+    let index = line.number_32();
     let added = match line.field() {
-        [b't'] => {
+        [b'r'] => {
+            let bits = line.number();
+            record.add_real(bytes, byte_start, indices, index_start, index, bits)
+        }
+        _ => {
             let value = line.list(&mut value)?;
             record.add_change(bytes, byte_start, indices, index_start, index, value)
         }
-        [b'r'] => {
-            let bits = line.number()?;
-            record.add_real(bytes, byte_start, indices, index_start, index, bits)
-        }
-        _ => return Err(Otherwise),
     };
-    write_outcome(line, verdict_number(added.verdict), added.next)?;
-    write!(line, " {} {}", Elements(bytes), Elements(indices))?;
-    Ok(())
+    expect_outcome(line, verdict_number(added.verdict), added.next)?;
+    line.expect_list(bytes)?;
+    line.expect_list(indices)
 }
 
 // ---- operations on an entry
 
 fn record<'a>(line: &mut Line, bytes: &'a mut [u8]) -> Result<Record<'a>, Otherwise> {
     Ok(Record {
-        description: description(line)?,
+        description: description(line),
         bytes: line.list(bytes)?,
-        byte_start: line.number()?,
+        byte_start: line.place(),
     })
 }
 
 pub fn read(line: &mut Line) -> Result<(), Otherwise> {
     let mut bytes = [0; BYTES];
     let record = record(line, &mut bytes)?;
-    let entry = line.number()?;
-    match record.read_entry(entry) {
-        Ok(Entry { kind, states, .. }) => {
-            let letter = letter_of(kind);
-            let set = states.mark();
-            write!(line, "= 0 {letter} {set}")?;
-        }
-        Err(refusal) => {
-            let number = refusal.number();
-            write!(line, "= {number} e 0")?;
-        }
-    }
-    write!(line, " {}", Elements(record.entry_part(entry)))?;
-    Ok(())
+    let entry = line.number_32();
+    let (number, kind, states) = match record.read_entry(entry) {
+        Ok(Entry { kind, states, .. }) => (0, kind, states),
+        Err(refusal) => (refusal.number(), Kind::Event, States::Two),
+    };
+    line.expect(b"=")?;
+    line.expect_numbers(&[u64::from(number)])?;
+    line.expect(&[letter_of(kind)])?;
+    line.expect_numbers(&[u64::from(states.mark())])?;
+    line.expect_list(record.entry_part(entry))
 }
 
 pub fn text(line: &mut Line) -> Result<(), Otherwise> {
     let mut bytes = [0; BYTES];
     let mut out = [0; BYTES];
     let record = record(line, &mut bytes)?;
-    let entry = line.number()?;
+    let entry = line.number_32();
     let out = line.list(&mut out)?;
     let number = verdict_number(record.read_text(entry, out));
-    write!(line, "= {number} {}", Elements(out))?;
-    Ok(())
+    line.expect(b"=")?;
+    line.expect_numbers(&[u64::from(number)])?;
+    line.expect_list(out)
 }
 
 // A call that reads an entry as a number without a sign.
@@ -161,14 +160,12 @@ fn number<F: Fn(&Record, u32) -> Result<u64, Refusal>>(
 {
     let mut bytes = [0; BYTES];
     let record = record(line, &mut bytes)?;
-    match read(&record, line.number()?) {
-        Ok(value) => write!(line, "= 0 {value}")?,
-        Err(refusal) => {
-            let number = refusal.number();
-            write!(line, "= {number} 0")?;
-        }
-    }
-    Ok(())
+    let (number, value) = match read(&record, line.number_32()) {
+        Ok(value) => (0, value),
+        Err(refusal) => (refusal.number(), 0),
+    };
+    line.expect(b"=")?;
+    line.expect_numbers(&[u64::from(number), value])
 }
 
 pub fn unsigned(line: &mut Line) -> Result<(), Otherwise> {
@@ -179,22 +176,17 @@ pub fn decimal(line: &mut Line) -> Result<(), Otherwise> {
     number(line, numbers::read::read_decimal)
 }
 
-// The sign is 1 below zero.
+// The sign is 1 below zero. How far from zero is the number in front of its field.
 pub fn signed(line: &mut Line) -> Result<(), Otherwise> {
     let mut bytes = [0; BYTES];
     let record = record(line, &mut bytes)?;
-    match numbers::read::read_signed(&record, line.number()?) {
-        Ok(value) => {
-            let sign = u8::from(value < 0);
-            let distance = value.unsigned_abs();
-            write!(line, "= 0 {sign} {distance}")?;
-        }
-        Err(refusal) => {
-            let number = refusal.number();
-            write!(line, "= {number} 0 0")?;
-        }
-    }
-    Ok(())
+    let (number, value) = match numbers::read::read_signed(&record, line.number_32()) {
+        Ok(value) => (0, value),
+        Err(refusal) => (refusal.number(), 0),
+    };
+    line.expect(b"=")?;
+    line.expect_numbers(&[u64::from(number), u64::from(value < 0)])?;
+    agreed(line.number() == value.unsigned_abs())
 }
 
 // ---- two records
@@ -202,12 +194,12 @@ pub fn signed(line: &mut Line) -> Result<(), Otherwise> {
 fn lent<'a>(line: &mut Line, room: &'a mut Room) -> Result<Lent<'a>, Otherwise> {
     let Room { bytes, indices } = room;
     Ok(Lent {
-        description: description(line)?,
+        description: description(line),
         slices: Slices {
             bytes: line.list(bytes)?,
-            byte_start: line.number()?,
+            byte_start: line.place(),
             indices: line.list(indices)?,
-            index_start: line.number()?,
+            index_start: line.place(),
         },
     })
 }
@@ -217,30 +209,26 @@ pub fn compare(line: &mut Line) -> Result<(), Otherwise> {
     let mut b_room = Room::new();
     let a = lent(line, &mut a_room)?;
     let b = lent(line, &mut b_room)?;
-    match equality::compare_records(&a, &b) {
-        Ok(equal) => {
-            let equal = u8::from(equal);
-            write!(line, "= 0 {equal}")?;
-        }
-        Err(refusal) => {
-            let number = refusal.number();
-            write!(line, "= {number} 0")?;
-        }
-    }
-    Ok(())
+    let (number, equal) = match equality::compare_records(&a, &b) {
+        Ok(equal) => (0, equal),
+        Err(refusal) => (refusal.number(), false),
+    };
+    line.expect(b"=")?;
+    line.expect_numbers(&[u64::from(number), u64::from(equal)])
 }
 
 // ---- look-ups
 
-fn write_offset(line: &mut Line, offset: DataOffset) -> fmt::Result {
-    let start = offset.start;
-    let elements = offset.elements;
-    let equal = u8::from(offset.time_match);
-    write!(line, "= 0 1 {start} {elements} {equal} ")?;
-    match offset.next_index {
-        Some(index) => write!(line, "1 {index}"),
-        None => write!(line, "0 0"),
-    }
+fn expect_offset(line: &mut Line, offset: DataOffset) -> Result<(), Otherwise> {
+    line.expect_numbers(&[
+        0,
+        1,
+        offset.start as u64,
+        u64::from(offset.elements),
+        u64::from(offset.time_match),
+        u64::from(offset.next_index.is_some()),
+        u64::from(offset.next_index.unwrap_or(0)),
+    ])
 }
 
 fn placed<F: Fn(&[u32], u32) -> Result<Option<DataOffset>, Refusal>>(
@@ -251,15 +239,13 @@ fn placed<F: Fn(&[u32], u32) -> Result<Option<DataOffset>, Refusal>>(
 {
     let mut indices = [0; INDICES];
     let indices = line.list(&mut indices)?;
-    match find(indices, line.number()?) {
-        Ok(Some(offset)) => write_offset(line, offset)?,
-        Ok(None) => write!(line, "= 0 0 0 0 0 0 0")?,
-        Err(refusal) => {
-            let number = refusal.number();
-            write!(line, "= {number} 0 0 0 0 0 0")?;
-        }
+    let answer = find(indices, line.number_32());
+    line.expect(b"=")?;
+    match answer {
+        Ok(Some(offset)) => expect_offset(line, offset),
+        Ok(None) => line.expect_numbers(&[0; 7]),
+        Err(refusal) => line.expect_numbers(&[u64::from(refusal.number()), 0, 0, 0, 0, 0, 0]),
     }
-    Ok(())
 }
 
 pub fn look_up(line: &mut Line) -> Result<(), Otherwise> {

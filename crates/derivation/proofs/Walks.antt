@@ -1,22 +1,25 @@
 -- What std's walks over names and pieces find, in the words of the definitions.
 -- Assumes nothing.
-use mathlib.Core.Path.{◌≡◌, refl, sym}
+use mathlib.Core.Path.{◌≡◌, refl, sym, ap, ap₂, ◌∙◌}
 use mathlib.Core.Bool.{Bool, true, false, cond, not}
-use mathlib.Core.List.{List, [], ◌∷◌, map}
-use Prim.Native.Nat.{ℕ, suc, ◌+◌, ◌-◌, ◌<◌}
+use mathlib.Core.List.{List, [], ◌∷◌, ◌++◌, map}
+use Prim.Native.Nat.{ℕ, suc, ◌+◌, ◌<◌}
+use native.Mathlib.Nat.{zero-add}
+use native.Mathlib.Numerals.{add-one}
 use native.Mathlib.Omega.{arith}
 use borrow.Author.Tests.{ltb-false}
 use lib.Dec.{eqb, ltb}
-use lib.ListN.{length, take, set}
-use lib.Seq.{length-take-le}
+use lib.ListN.{length, take, drop, get_or, set}
+use lib.Seq.{length-take-le, take-suc, drop-cons, get_or_at}
 use denote.Laws.{Is}
 use denote.Struct.Declared.{row}
 use mir.Val.{Val}
 use Rattle.std.specs.Prelude.{Some, None, position}
-use Rattle.std.specs.List.{sum_by, position_or_len, copy_within}
+use Rattle.std.specs.List.{sum_by, position_or_len}
 use Rattle.std.proofs.lemmas.List.Recursion.{is_sum_by}
 use Rattle.value.specs.Slice.{sum, overlay}
 use Rattle.value.specs.Level.{place_in}
+use Rattle.value.proofs.Slices.{overlay_nil, overlay_store}
 use Rattle.derivation.specs.declared.DerivedBitVecSignal.{DerivedBitVecSignal}
 use Rattle.derivation.specs.Piece.{Sized, extract_of, piece_width}
 use Rattle.derivation.proofs.Pieces.{place_le}
@@ -64,11 +67,28 @@ module _ (name : ℕ) where
       go true t h = cc
       go false t h = omega (arith, ltb-false (position_or_len named names) (length names) t, place_le names name, place_passed names)
 
--- a number put in front of others
-pub shifted : (l : List ℕ) (n v : ℕ) → n < length l → set (copy_within l 0 n 1) 0 v ≡ overlay l 0 (v ∷ take n l)
-unfolding overlay
-shifted [] n v h = absurd (omega arith)
-shifted (x ∷ l) n v h =
-    let all : n - 0 ≡ n = omega arith in
-    let end : 0 + suc (length (take n (x ∷ l))) ≡ 1 + n = omega (arith, length-take-le n (x ∷ l) (omega arith)) in
-    rw (all, end) refl
+-- ---- a number put in front of others: those passed are one place up, and the last of them is carried
+
+module _ (l : List ℕ) (v : ℕ) where
+  pub record Carried (bits : List ℕ) (moved i : ℕ) : Type 0 where
+    pub up : bits ≡ overlay l 0 (take i (v ∷ l))
+    pub held : moved ≡ get_or (v ∷ l) i 0
+
+  pub carried_none : Carried l v 0
+  carried_none = record { up = sym (overlay_nil l 0); held = refl }
+
+  pub carried_more : (bits : List ℕ) (moved i : ℕ) → i < length l → Carried bits moved i → Carried (set bits i moved) (get_or bits i 0) (i + 1)
+  unfolding overlay
+  carried_more bits moved i h c =
+      let t : length (take i (v ∷ l)) ≡ i = length-take-le i (v ∷ l) (omega arith) in
+      record {
+        up =
+            ap₂ (λ (b : List ℕ) (m : ℕ). set b i m) c.up c.held
+            ∙ overlay_store l 0 (take i (v ∷ l)) i (get_or (v ∷ l) i 0) (rw t (omega arith)) h
+            ∙ ap (overlay l 0) (sym (take-suc (v ∷ l) i 0 (omega arith)) ∙ ap (λ (n : ℕ). take n (v ∷ l)) (sym (add-one i)));
+        held =
+            ap (λ (b : List ℕ). get_or b i 0) c.up
+            ∙ ap (λ (r : List ℕ). get_or (take i (v ∷ l) ++ r) i 0) (rw (t, zero-add, drop-cons l i 0 h))
+            ∙ get_or_at (take i (v ∷ l)) (get_or l i 0) (drop (suc i) l) 0 i t
+            ∙ rw (add-one i);
+      }

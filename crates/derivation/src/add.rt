@@ -15,14 +15,18 @@ const MAX_INPUTS: u32 = 8;
 
 const MAX_PIECES: u32 = 64;
 
-// Puts a number in front of the first `count`, which move up by one.
-#[tactic(auto, using(crate::proofs::Walks::shifted))]
+// Puts a number in front of the first `count`, which move up by one, each by itself: std's `copy_within` is compiled to a call of C's `memmove`,
+// which the archive would ask for.
 fn insert_first(bits: &mut [u64; 64], count: usize, value: u64)
     requires { (count < 64) × (length bits.old ≡ 64) }
     ensures { bits.new ≡ overlay bits.old 0 (value ∷ take count bits.old) }
 {
-    bits.copy_within(..count, 1);
-    bits[0] = value;
+    let mut moved = value;
+    for i in 0..count + 1 {
+        let next = bits[i];
+        bits[i] = moved;
+        moved = next;
+    }
 }
 
 // Number 12.

@@ -1,7 +1,7 @@
 -- Comparing entries, from what the steps of a comparison say.
 -- Assumes nothing.
 use mathlib.Core.Path.{◌≡◌, refl, sym, ap, ap₂, ◌∙◌, subst}
-use mathlib.Core.Bool.{Bool, true, false, cond}
+use mathlib.Core.Bool.{Bool, true, false, cond, ◌&&◌}
 use mathlib.Core.List.{List, [], ◌∷◌, ◌++◌, reverse}
 use Prim.Native.Nat.{ℕ, min, ◌+◌, ◌≤◌, ◌<◌}
 use native.Mathlib.Numerals.{add-one}
@@ -13,8 +13,10 @@ use lib.ListN.{length, get_or, take}
 use lib.Seq.{take-suc, take-take, take_all, get_or-take}
 use Rattle.value.specs.declared.States.{States}
 use Rattle.std.specs.Int.{w64, from_le_bytes}
+use Rattle.std.specs.Float.Ieee.{eq, of_bits}
+use Rattle.std.specs.Float.{binary64}
 use Rattle.value.specs.Digits.{number}
-use Rattle.value.specs.Slice.{same}
+use Rattle.value.specs.Slice.{any, same}
 use Rattle.value.specs.Level.{text_of}
 use Rattle.value.proofs.Levels.{text_inj, all_below_lem}
 use Rattle.value.proofs.Slices.{same_sound, same_refl, same_by}
@@ -91,6 +93,29 @@ apart {w} {x} S R v u n =
 -- of equal bytes under equal sets
 pub alike : {w x : ℕ} {S R : States} (v u : List ℕ) → w ≡ x → S ≡ R → same v u ≡ true → true ≡ same (codes_at w S v) (codes_at x R u)
 alike {w} {x} {S} {R} v u e f g = sym (from_t (same (codes_at w S v) (codes_at x R u)) (rw (e, f, same_sound v u (to_t (same v u) g)) (same_refl (codes_at x R u))))
+
+-- ---- two entries of which nothing is tried
+
+module _ {e f : Encoding} (v u : List ℕ) (i j : ℕ) where
+  pub events_told : e ≡ Event → f ≡ Event → given (eqb i j) ≡ pair_of e v i f u j
+  unfolding pair_of tried same_value same_real any has_bad_mark levels_in
+  events_told p q = rw (p, q) (go (eqb i j))
+    where
+      go : (b : Bool) → given b ≡ given (b && true)
+      go true = refl
+      go false = refl
+
+  reals : e ≡ Real → f ≡ Real → given (eqb i j && same_real v u) ≡ pair_of e v i f u j
+  unfolding pair_of tried same_value same_real any has_bad_mark levels_in
+  reals p q = rw (p, q) refl
+
+  pub reals_told : {b : Bool} {x y : ℕ} → e ≡ Real → f ≡ Real → i ≡ j → x ≡ number 256 (reverse v) → y ≡ number 256 (reverse u)
+      → b ≡ eq (of_bits binary64 x) (of_bits binary64 y) → given b ≡ pair_of e v i f u j
+  unfolding same_real
+  reals_told p q h x y s = rw (← reals p q, eq-eqb i j h) (ap given (s ∙ ap₂ (λ (a b : ℕ). eq (of_bits binary64 a) (of_bits binary64 b)) x y))
+
+  pub reals_apart : e ≡ Real → f ≡ Real → (i ≡ j → ⊥) → given false ≡ pair_of e v i f u j
+  reals_apart p q h = rw (← reals p q, ne_eqb i j h) refl
 
 -- ---- two entries
 

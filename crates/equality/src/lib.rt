@@ -88,15 +88,19 @@ fn real_bits(value: &[u8]) -> u64
     u64::from_le_bytes(read_block(value, 0))
 }
 
-// Float `==` of two bit patterns: a NaN differs from everything. It is tried first, since `from_bits` takes none.
-#[tactic(auto, using(crate::proofs::Floats::first_nan, crate::proofs::Floats::second_nan, std::proofs::lemmas::Float::not_nan_f64_bits))]
+// Float `==` by bits: a NaN differs from everything, the zeros agree. Floats themselves are compared in the processor's mode, in which a caller
+// may have the smallest ones taken for zeros.
+#[tactic(auto, using(crate::proofs::Floats::first_nan, crate::proofs::Floats::second_nan, crate::proofs::Floats::equal_bits, crate::proofs::Floats::both_zeros, crate::proofs::Floats::unequal_bits))]
 fn same_bits(a: u64, b: u64) -> bool
     ensures { result ≡ eq (of_bits binary64 a) (of_bits binary64 b) }
 {
     if INFINITY < a % SIGN || INFINITY < b % SIGN {
         return false;
     }
-    f64::from_bits(a) == f64::from_bits(b)
+    if a == b {
+        return true;
+    }
+    a % SIGN == 0 && b % SIGN == 0
 }
 
 // Whether two slices of one length hold equal bytes. The loop runs to the end, so that it is compiled to wide instructions: the library's `==`
@@ -169,12 +173,27 @@ fn same_value(a: &Value, b: &Value) -> bool
 
 // A pair of entries: both are tried, and only then compared.
 #[tactic(auto, unfolding(crate::specs::Pairs::pair_of, crate::specs::Pairs::coded, fst::specs::Refusal::tried))]
-fn compare_pair(a: &Indexed, b: &Indexed) -> Result<bool, Refusal>
+fn compare_tried(a: &Indexed, b: &Indexed) -> Result<bool, Refusal>
     ensures { told result ≡ pair_of a.now.encoding a.now.bytes.now a.now.index b.now.encoding b.now.bytes.now b.now.index }
 {
     let x = a.value()?;
     let y = b.value()?;
     Ok(a.index == b.index && same_value(&x, &y))
+}
+
+// The same. Of events and of reals there is nothing to try, and no value is made of them.
+#[tactic(auto, using(crate::proofs::Comparing::events_told, crate::proofs::Comparing::reals_told, crate::proofs::Comparing::reals_apart))]
+fn compare_pair(a: &Indexed, b: &Indexed) -> Result<bool, Refusal>
+    ensures { told result ≡ pair_of a.now.encoding a.now.bytes.now a.now.index b.now.encoding b.now.bytes.now b.now.index }
+{
+    match (a.encoding, b.encoding) {
+        (Encoding::Event, Encoding::Event) => Ok(a.index == b.index),
+        (Encoding::Real, Encoding::Real) => {
+            let same = same_bits(real_bits(a.bytes), real_bits(b.bytes));
+            Ok(a.index == b.index && same)
+        }
+        _ => compare_tried(a, b),
+    }
 }
 
 // The entries of two records that are not 2, in pairs.

@@ -33,13 +33,13 @@ fn level_bits(states: States, has_meta: bool) -> u8
 
 // What the sets and the width say of each entry's move where its size grows: its size, its level bytes, the zeros between the mark and them,
 // and the bits of a mark in its first byte and of levels in its first level byte.
-#[derive(Drop)]
-struct Widening {
-    from_size: usize,
-    len: usize,
-    zeros: usize,
-    mark_bits: u8,
-    level_bits: u8,
+#[derive(Clone, Copy)]
+pub struct Widening {
+    pub from_size: usize,
+    pub len: usize,
+    pub zeros: usize,
+    pub mark_bits: u8,
+    pub level_bits: u8,
 }
 
 impl Model for Widening {
@@ -50,6 +50,8 @@ impl Model for Widening {
     ghost view = { λ w. record { from_size = w.from_size; len = w.len; zeros = w.zeros; mark_bits = w.mark_bits; level_bits = w.level_bits } };
 
     ghost invariant = { λ w. Grows w.from_size w.len w.zeros };
+
+    ghost inverse = { λ v. record { from_size = v.from_size; len = v.len; zeros = v.zeros; mark_bits = v.mark_bits; level_bits = v.level_bits } };
 }
 
 impl Widening {

@@ -1,25 +1,17 @@
-// A stored line: what goes in is read from its front, field by field, and what comes out is compared with the rest as it is written.
+// A stored line: what goes in is read from its front, field by field, and what comes out is compared with the fields behind that. A field is
+// read as far as it goes: a number by the digits in front, a list by the whole elements in front.
 #![tactic(auto)]
 
 ghost use Rattle.std.specs.Prelude.{◌<◌};
 
-use std::fmt;
-use std::fmt::{Display, Formatter, Write};
-
-// The number below 2^64 that has most digits has so many.
+// Of a number no more digits are read.
 const MOST_DIGITS: usize = 20;
 
-// A line that can't be read, or one whose call comes out otherwise.
+// A line whose call comes out otherwise.
 #[derive(Drop)]
 pub struct Otherwise;
 
-impl From<fmt::Error> for Otherwise {
-    fn from(_error: fmt::Error) -> Otherwise {
-        Otherwise
-    }
-}
-
-// What of a line is neither read nor written yet.
+// What of a line is neither read nor compared yet.
 #[derive(Drop)]
 pub struct Line<'a> {
     rest: &'a [u8],
@@ -32,22 +24,25 @@ impl<'a> Line<'a> {
 
     // The next field, with the space behind it. Where none is left, it is empty.
     pub fn field(&mut self) -> &'a [u8] {
-        let mut fields = self.rest.splitn(2, |character| *character == b' ');
-        let field = fields.next().unwrap_or(&[]);
-        self.rest = fields.next().unwrap_or(&[]);
+        let space = self.rest.iter().position(|character| *character == b' ');
+        let end = space.unwrap_or(self.rest.len());
+        let field = self.rest.get(..end).unwrap_or(&[]);
+        self.rest = self.rest.get(end + 1..).unwrap_or(&[]);
         field
     }
 
-    // A number of one to twenty digits, which fits its type. No sign is a digit.
-    pub fn number<N: TryFrom<u64>>(&mut self) -> Result<N, Otherwise>
-    where
-        N::Error: Drop,
-    {
-        let digits = self.field();
-        if digits.is_empty() || MOST_DIGITS < digits.len() {
-            return Err(Otherwise);
-        }
-        N::try_from(number(10, digits)?).map_err(|_| Otherwise)
+    // A number modulo 2^64, and 0 where no digit stands in front.
+    pub fn number(&mut self) -> u64 {
+        number(10, digits(10, MOST_DIGITS, self.field()))
+    }
+
+    // The same modulo 2^32.
+    pub fn number_32(&mut self) -> u32 {
+        (self.number() % 4294967296) as u32
+    }
+
+    pub fn place(&mut self) -> usize {
+        self.number() as usize
     }
 
     // The part of `out` that a list fills.
@@ -55,50 +50,65 @@ impl<'a> Line<'a> {
     where
         E::Error: Drop,
     {
-        let digits = match self.field() {
-            [b'.'] => &[],
-            digits => digits,
-        };
-        let elements = digits.chunks_exact(E::digits());
-        if !elements.remainder().is_empty() {
-            return Err(Otherwise);
-        }
-        let (list, _) = out.split_at_mut_checked(elements.len()).ok_or(Otherwise)?;
+        let field = self.field();
+        let elements = digits(16, field.len(), field).chunks_exact(E::digits());
+        let count = elements.len().min(out.len());
+        let (list, _) = out.split_at_mut_checked(count).ok_or(Otherwise)?;
         for (element, digits) in list.iter_mut().zip(elements) {
-            *element = E::try_from(number(16, digits)?).map_err(|_| Otherwise)?;
+            *element = E::try_from(number(16, digits)).map_err(|_| Otherwise)?;
         }
         Ok(list)
     }
 
-    // A list that fills all of `out`.
-    pub fn fill<E: Element>(&mut self, out: &mut [E]) -> Result<(), Otherwise>
-    where
-        E::Error: Drop,
-    {
-        let length = out.len();
-        if self.list(out)?.len() == length {
-            Ok(())
-        } else {
-            Err(Otherwise)
+    // Pieces stand at every sixteenth place, whatever ends the field: each is what digits stand in front there.
+    pub fn pieces(&mut self, out: &mut [u64]) {
+        for (piece, text) in out.iter_mut().zip(self.rest.chunks(16)) {
+            *piece = number(16, digits(16, 16, text));
         }
+        self.field();
+    }
+
+    // Whether so many fields are left.
+    pub fn has_fields(&self, count: usize) -> bool {
+        count <= self.rest.split(|character| *character == b' ').count()
+    }
+
+    // Refused where the next field is another word.
+    pub fn expect(&mut self, word: &[u8]) -> Result<(), Otherwise> {
+        agreed(self.field() == word)
+    }
+
+    // Refused where the next fields are other numbers, by their values.
+    pub fn expect_numbers(&mut self, values: &[u64]) -> Result<(), Otherwise> {
+        for value in values {
+            agreed(is_number(10, MOST_DIGITS, self.field(), *value))?;
+        }
+        Ok(())
+    }
+
+    // Refused where the next field is another list, `.` for none.
+    pub fn expect_list<E: Element>(&mut self, list: &[E]) -> Result<(), Otherwise> {
+        let field = self.field();
+        if list.is_empty() {
+            return agreed(matches!(field, [b'.']));
+        }
+        let size = E::digits();
+        let elements = field.chunks_exact(size);
+        agreed(elements.len() == list.len() && elements.remainder().is_empty())?;
+        for (element, text) in list.iter().zip(elements) {
+            agreed(is_number(16, size, text, (*element).into()))?;
+        }
+        Ok(())
     }
 
     // Refused while something is left.
     pub fn end(self) -> Result<(), Otherwise> {
-        if self.rest.is_empty() {
-            Ok(())
-        } else {
-            Err(Otherwise)
-        }
+        agreed(self.rest.is_empty())
     }
 }
 
-// Writing takes the text off the line's front, or fails where another stands there.
-impl Write for Line<'_> {
-    fn write_str(&mut self, text: &str) -> fmt::Result {
-        self.rest = self.rest.strip_prefix(text.as_bytes()).ok_or(fmt::Error)?;
-        Ok(())
-    }
+pub fn agreed(agrees: bool) -> Result<(), Otherwise> {
+    if agrees { Ok(()) } else { Err(Otherwise) }
 }
 
 // A number of a list.
@@ -126,24 +136,6 @@ impl Element for u64 {
     }
 }
 
-// A list as a line has it, `.` for none.
-#[derive(Drop)]
-pub struct Elements<'a, E>(pub &'a [E]);
-
-impl<E: Element> Display for Elements<'_, E> {
-    fn fmt<W: Write>(&self, f: &mut Formatter<W>) -> fmt::Result {
-        let size = E::digits();
-        if self.0.is_empty() {
-            f.write_str(".")?;
-        }
-        for element in self.0 {
-            let number: u64 = (*element).into();
-            write!(f, "{number:0size$x}")?;
-        }
-        Ok(())
-    }
-}
-
 // The value of a digit of any base up to 16. No capital is a digit.
 fn digit(character: u8) -> Option<u64> {
     match character {
@@ -153,15 +145,27 @@ fn digit(character: u8) -> Option<u64> {
     }
 }
 
-fn with_digit(number: u64, base: u64, character: u8) -> Option<u64> {
-    let digit = digit(character).filter(|digit| *digit < base)?;
-    number.checked_mul(base)?.checked_add(digit)
+// The digits that a text begins with, so many at most.
+fn digits(base: u64, most: usize, text: &[u8]) -> &[u8] {
+    let text = text.get(..most).unwrap_or(text);
+    let count = text
+        .iter()
+        .position(|character| digit(*character).filter(|digit| *digit < base).is_none())
+        .unwrap_or(text.len());
+    text.get(..count).unwrap_or(text)
 }
 
-// A number below 2^64 by its digits.
-fn number(base: u64, digits: &[u8]) -> Result<u64, Otherwise> {
-    digits
-        .iter()
-        .try_fold(0, |number, character| with_digit(number, base, *character))
-        .ok_or(Otherwise)
+// The number of digits, modulo 2^64.
+fn number(base: u64, digits: &[u8]) -> u64 {
+    digits.iter().fold(0, |number, character| {
+        number
+            .wrapping_mul(base)
+            .wrapping_add(digit(*character).unwrap_or(0))
+    })
+}
+
+// Whether a text is a number, all of it digits, so many at most.
+fn is_number(base: u64, most: usize, text: &[u8], value: u64) -> bool {
+    let digits = digits(base, most, text);
+    !digits.is_empty() && digits.len() == text.len() && number(base, digits) == value
 }

@@ -37,17 +37,24 @@ impl Model for Cursor {
 }
 
 impl Cursor {
-    // Nothing has begun.
-    pub fn new(input: Input) -> Cursor
-        ensures { result ≡ cursor input 0 }
+    // So many entries have begun.
+    pub fn at(input: Input, begun: u32) -> Cursor
+        ensures { result ≡ cursor input begun }
     {
         Cursor {
             input,
             width: input.description.encoding.width(),
             max_states: input.description.encoding.largest(),
             size: input.description.encoding.size(),
-            begun: 0,
+            begun,
         }
+    }
+
+    // Nothing has begun.
+    pub fn new(input: Input) -> Cursor
+        ensures { result ≡ cursor input 0 }
+    {
+        Cursor::at(input, 0)
     }
 
     // The index of the next entry.

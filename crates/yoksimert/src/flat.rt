@@ -1,6 +1,6 @@
 // Numbers into descriptions and answers into numbers.
 ghost use Rattle.std.specs.Prelude.{◌≡◌};
-ghost use Rattle.fst.specs.Refusal.{told};
+ghost use Rattle.fst.specs.Refusal.{refusal_number, told};
 ghost use Rattle.yoksimert.specs.Flat.{decoded, encoded, no_description, no_entry, flat_made, flat_equal, flat_number, flat_signed, nowhere, placed, flat_offset};
 
 use crate::{FlatDescription, FlatEntry, FlatEqual, FlatMade, FlatNumber, FlatOffset, FlatSigned};
@@ -85,6 +85,15 @@ impl From<Result<Description, Refusal>> for FlatMade {
     }
 }
 
+// The number of a refused Read. By a function apart, so that a Read that is not refused has no work with it.
+#[cold]
+#[inline(never)]
+fn told_apart(refusal: Refusal) -> u32
+    ensures { result ≡ refusal_number refusal }
+{
+    u32::from(refusal.number())
+}
+
 impl From<Refusal> for FlatEntry {
     ghost use Rattle.fst.specs.Refusal.{refusal_number};
 
@@ -92,7 +101,7 @@ impl From<Refusal> for FlatEntry {
 
     fn from(refusal: Refusal) -> FlatEntry {
         FlatEntry {
-            number: u32::from(refusal.number()),
+            number: told_apart(refusal),
             kind: 0,
             set: 0,
             start: 0,
