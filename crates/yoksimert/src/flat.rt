@@ -85,7 +85,7 @@ impl From<Result<Description, Refusal>> for FlatMade {
     }
 }
 
-// The number of a refused Read. By a function apart, so that a Read that is not refused has no work with it.
+// The number of a refusal of what is read. By a function apart, so that a call that is not refused has no work with it.
 #[cold]
 #[inline(never)]
 fn told_apart(refusal: Refusal) -> u32
@@ -131,7 +131,7 @@ impl From<Result<u64, Refusal>> for FlatNumber {
         match answer {
             Ok(value) => FlatNumber { number: 0, value },
             Err(refusal) => FlatNumber {
-                number: u32::from(refusal.number()),
+                number: told_apart(refusal),
                 value: 0,
             },
         }
@@ -145,7 +145,7 @@ impl From<Result<i64, Refusal>> for FlatSigned {
         match answer {
             Ok(value) => FlatSigned { number: 0, value },
             Err(refusal) => FlatSigned {
-                number: u32::from(refusal.number()),
+                number: told_apart(refusal),
                 value: 0,
             },
         }
