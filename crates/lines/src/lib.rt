@@ -1,8 +1,11 @@
-// A stored line: what goes in is read from its front, field by field, and what comes out is compared with the fields behind that. A field is
-// read as far as it goes: a number by the digits in front, a list by the whole elements in front.
+// A stored line: what goes in is read from its front, field by field, and what comes out is compared with the fields behind that, or taken off
+// as it is written. A field is read as far as it goes: a number by the digits in front, a list by the whole elements in front.
 #![tactic(auto)]
 
-ghost use Rattle.std.specs.Prelude.{◌<◌};
+ghost use Rattle.std.specs.Prelude.{ℕ, ◌≡◌, ◌≢◌, ◌<◌, ◌==◌, if◌then◌else◌, List, [], ◌∷◌, ◌++◌, length, Some, None, IsOk, OnErr};
+
+use std::fmt;
+use std::fmt::{Display, Formatter, Write};
 
 // Of a number no more digits are read.
 const MOST_DIGITS: usize = 20;
@@ -11,7 +14,13 @@ const MOST_DIGITS: usize = 20;
 #[derive(Drop)]
 pub struct Otherwise;
 
-// What of a line is neither read nor compared yet.
+impl From<fmt::Error> for Otherwise {
+    fn from(_error: fmt::Error) -> Otherwise {
+        Otherwise
+    }
+}
+
+// What of a line is still to be read, compared or written.
 #[derive(Drop)]
 pub struct Line<'a> {
     rest: &'a [u8],
@@ -107,6 +116,23 @@ impl<'a> Line<'a> {
     }
 }
 
+// Writing takes the text off the line's front. Where another stands there, it is refused, and nothing is taken.
+impl Write for Line<'_> {
+    ghost write_str_gives = { λ line text left. line.rest.now ≡ text ++ left.rest.now };
+
+    fn write_str(&mut self, text: &str) -> fmt::Result
+        ensures ok { IsOk result → self.old.rest.now ≡ text.now ++ self.new.rest.now }
+        ensures refused { OnErr result ((rest : List ℕ) → self.old.rest.now ≢ text.now ++ rest) }
+        ensures kept { OnErr result (self.new ≡ self.old) }
+    {
+        let Some(rest) = self.rest.strip_prefix(text.as_bytes()) else {
+            return Err(fmt::Error);
+        };
+        self.rest = rest;
+        Ok(())
+    }
+}
+
 pub fn agreed(agrees: bool) -> Result<(), Otherwise> {
     if agrees { Ok(()) } else { Err(Otherwise) }
 }
@@ -133,6 +159,26 @@ impl Element for u32 {
 impl Element for u64 {
     fn digits() -> usize {
         16
+    }
+}
+
+// A list as a line has it, `.` for none.
+#[derive(Drop)]
+pub struct Elements<'a, E>(pub &'a [E]);
+
+impl<E: Element> Display for Elements<'_, E> {
+    ghost output = { λ list. if length list.0.now == 0 then Some (46 ∷ []) else None };
+
+    fn fmt<W: Write>(&self, f: &mut Formatter<W>) -> fmt::Result {
+        if self.0.is_empty() {
+            return f.write_str(".");
+        }
+        let size = E::digits();
+        for element in self.0 {
+            let number: u64 = (*element).into();
+            write!(f, "{number:0size$x}")?;
+        }
+        Ok(())
     }
 }
 
@@ -168,4 +214,43 @@ fn number(base: u64, digits: &[u8]) -> u64 {
 fn is_number(base: u64, most: usize, text: &[u8], value: u64) -> bool {
     let digits = digits(base, most, text);
     !digits.is_empty() && digits.len() == text.len() && number(base, digits) == value
+}
+
+#[cfg(test)]
+mod tests {
+    use super::*;
+
+    fn agrees<E: Element>(text: &[u8], number: u64, list: &[E]) -> Result<(), Otherwise> {
+        let mut line = Line::new(text);
+        write!(line, "= {number} ")?;
+        line.write_str("b ")?;
+        write!(line, "{}", Elements(list))?;
+        line.end()
+    }
+
+    #[test]
+    fn text_is_taken_off_the_front(rt: HostRuntime) {
+        assert!(rt; agrees(b"= 7 b 0aff", 7, &[10u8, 255]).is_ok());
+        assert!(rt; agrees(b"= 0 b 0000000affffffff", 0, &[10u32, 4294967295]).is_ok());
+        assert!(rt; agrees(b"= 0 b 000000000000000a", 0, &[10u64]).is_ok());
+        assert!(rt; agrees(b"= 0 b .", 0, &[0u8; 0]).is_ok());
+    }
+
+    #[test]
+    fn another_text_is_refused(rt: HostRuntime) {
+        assert!(rt;
+            agrees(b"= 7 b 0aff ", 7, &[10u8, 255]).is_err(),
+            "more is left"
+        );
+        assert!(rt; agrees(b"= 7 b 0af", 7, &[10u8, 255]).is_err(), "too short");
+        assert!(rt;
+            agrees(b"= 07 b 0aff", 7, &[10u8, 255]).is_err(),
+            "another number"
+        );
+        assert!(rt; agrees(b"= 0 b 0AFF", 0, &[10u8, 255]).is_err(), "capitals");
+        let mut line = Line::new(b"= 1");
+        assert!(rt; line.write_str("= 2").is_err());
+        assert!(rt; line.write_str("= 1").is_ok(), "nothing was taken");
+        assert!(rt; line.end().is_ok());
+    }
 }
