@@ -167,6 +167,7 @@ impl Element for u64 {
 pub struct Elements<'a, E>(pub &'a [E]);
 
 impl<E: Element> Display for Elements<'_, E> {
+    // 46 is the full stop. What tells how an element is written is its type, so of more there is no clause.
     ghost output = { λ list. if length list.0.now == 0 then Some (46 ∷ []) else None };
 
     fn fmt<W: Write>(&self, f: &mut Formatter<W>) -> fmt::Result {
@@ -220,7 +221,7 @@ fn is_number(base: u64, most: usize, text: &[u8], value: u64) -> bool {
 mod tests {
     use super::*;
 
-    fn agrees<E: Element>(text: &[u8], number: u64, list: &[E]) -> Result<(), Otherwise> {
+    fn written<E: Element>(text: &[u8], number: u64, list: &[E]) -> Result<(), Otherwise> {
         let mut line = Line::new(text);
         write!(line, "= {number} ")?;
         line.write_str("b ")?;
@@ -230,24 +231,20 @@ mod tests {
 
     #[test]
     fn text_is_taken_off_the_front(rt: HostRuntime) {
-        assert!(rt; agrees(b"= 7 b 0aff", 7, &[10u8, 255]).is_ok());
-        assert!(rt; agrees(b"= 0 b 0000000affffffff", 0, &[10u32, 4294967295]).is_ok());
-        assert!(rt; agrees(b"= 0 b 000000000000000a", 0, &[10u64]).is_ok());
-        assert!(rt; agrees(b"= 0 b .", 0, &[0u8; 0]).is_ok());
+        assert!(rt; written(b"= 7 b 0aff", 7, &[10u8, 255]).is_ok());
+        assert!(rt; written(b"= 0 b 0000000affffffff", 0, &[10u32, 4294967295]).is_ok());
+        assert!(rt; written(b"= 0 b 000000000000000a", 0, &[10u64]).is_ok());
+        assert!(rt; written(b"= 0 b .", 0, &[0u8; 0]).is_ok());
     }
 
     #[test]
     fn another_text_is_refused(rt: HostRuntime) {
-        assert!(rt;
-            agrees(b"= 7 b 0aff ", 7, &[10u8, 255]).is_err(),
-            "more is left"
-        );
-        assert!(rt; agrees(b"= 7 b 0af", 7, &[10u8, 255]).is_err(), "too short");
-        assert!(rt;
-            agrees(b"= 07 b 0aff", 7, &[10u8, 255]).is_err(),
-            "another number"
-        );
-        assert!(rt; agrees(b"= 0 b 0AFF", 0, &[10u8, 255]).is_err(), "capitals");
+        for text in ["= 7 b 0aff ", "= 7 b 0af", "= 07 b 0aff", "= 7 b 0AFF"] {
+            assert!(rt;
+                written(text.as_bytes(), 7, &[10u8, 255]).is_err(),
+                "{text}"
+            );
+        }
         let mut line = Line::new(b"= 1");
         assert!(rt; line.write_str("= 2").is_err());
         assert!(rt; line.write_str("= 1").is_ok(), "nothing was taken");

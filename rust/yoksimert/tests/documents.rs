@@ -249,7 +249,7 @@ const MODIFIERS: [&str; 3] = ["pub", "abbrev", "unfoldable"];
 
 /// The names that a line declares.
 fn declared_in(line: &str) -> Vec<String> {
-    let words = line.split(|c: char| c.is_whitespace() || "({[<:".contains(c));
+    let words = line.split(|c: char| c.is_whitespace() || "({[<:;".contains(c));
     let words: Vec<_> = words.filter(|word| !word.is_empty()).collect();
     let pairs = words.windows(2);
     let declared = pairs.filter(|pair| DECLARING.contains(&pair[0]));
